@@ -1,0 +1,5 @@
+pub mod Syntax
+pub mod View
+pub mod Meaning
+pub mod WellFormed
+pub mod Laws

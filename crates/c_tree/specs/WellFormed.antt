@@ -1,0 +1,128 @@
+-- The facts that every program keeps.
+use Rattle.std.specs.Prelude.{◌≡◌, ℕ, ◌+◌, ◌<◌, ◌≤◌, List, [], ◌∷◌, ◌++◌, Bool, true, false, ◌&&◌, not as not_bool, ◌==◌, if◌then◌else◌, Option, Some, None, slice_get, length, nat_lt, nat_le, count_by, IsTrue}
+use Rattle.c_tree.specs.declared.tree.AssertPlace.{AssertPlace}
+use Rattle.c_tree.specs.Syntax.{Expression, literal, read, input, call, negate, not as not_of, binary, Expressions, no_expressions, expression, Statement, block, set, ignore, assume, assert, if_else, loop, do_while, break, continue, return, Statements, no_statements, statement, PureProcedure, PureProgram}
+
+abbrev pub count : Expressions → ℕ
+count no_expressions = 0
+count (expression e es) = 1 + count es
+
+-- the procedure exists and has so many parameters
+abbrev pub takes : Option PureProcedure → ℕ → Bool
+takes None n = false
+takes (Some p) n = p.params == n
+
+-- In a procedure with so many slots: each name exists, a call has an argument for each parameter, and `main` isn't called.
+module _ (P : PureProgram) (slots : ℕ) where
+  abbrev mutual
+    pub is_sound : Expression → Bool
+    is_sound (literal n) = true
+    is_sound (read x) = nat_lt x slots
+    is_sound input = true
+    is_sound (call p es) = takes (slice_get P.procedures p) (count es) && not_bool (p == P.main) && are_sound es
+    is_sound (negate e) = is_sound e
+    is_sound (not_of e) = is_sound e
+    is_sound (binary op a b) = is_sound a && is_sound b
+
+    pub are_sound : Expressions → Bool
+    are_sound no_expressions = true
+    are_sound (expression e es) = is_sound e && are_sound es
+
+  abbrev pub returns_sound : Option Expression → Bool
+  returns_sound None = true
+  returns_sound (Some e) = is_sound e
+
+  -- the same of statements; Break and Continue stand in loops
+  abbrev mutual
+    pub runs_sound : (in_loop : Bool) → Statement → Bool
+    runs_sound l (block ss) = all_sound l ss
+    runs_sound l (set x e) = nat_lt x slots && is_sound e
+    runs_sound l (ignore e) = is_sound e
+    runs_sound l (assume e) = is_sound e
+    runs_sound l (assert id e) = nat_lt id (length P.asserts) && is_sound e
+    runs_sound l (if_else e a b) = is_sound e && runs_sound l a && runs_sound l b
+    runs_sound l (loop e s b) = is_sound e && runs_sound true s && runs_sound true b
+    runs_sound l (do_while s e) = runs_sound true s && is_sound e
+    runs_sound l break = l
+    runs_sound l continue = l
+    runs_sound l (return o) = returns_sound o
+
+    pub all_sound : (in_loop : Bool) → Statements → Bool
+    all_sound l no_statements = true
+    all_sound l (statement s ss) = runs_sound l s && all_sound l ss
+
+-- how many statement and expression nodes there are
+abbrev mutual
+  pub nodes : Expression → ℕ
+  nodes (literal n) = 1
+  nodes (read x) = 1
+  nodes input = 1
+  nodes (call p es) = 1 + nodes_all es
+  nodes (negate e) = 1 + nodes e
+  nodes (not_of e) = 1 + nodes e
+  nodes (binary op a b) = 1 + nodes a + nodes b
+
+  pub nodes_all : Expressions → ℕ
+  nodes_all no_expressions = 0
+  nodes_all (expression e es) = nodes e + nodes_all es
+
+abbrev pub nodes_optional : Option Expression → ℕ
+nodes_optional None = 0
+nodes_optional (Some e) = nodes e
+
+abbrev mutual
+  pub statement_nodes : Statement → ℕ
+  statement_nodes (block ss) = 1 + statements_nodes ss
+  statement_nodes (set x e) = 1 + nodes e
+  statement_nodes (ignore e) = 1 + nodes e
+  statement_nodes (assume e) = 1 + nodes e
+  statement_nodes (assert id e) = 1 + nodes e
+  statement_nodes (if_else e a b) = 1 + nodes e + statement_nodes a + statement_nodes b
+  statement_nodes (loop e s b) = 1 + nodes e + statement_nodes s + statement_nodes b
+  statement_nodes (do_while s e) = 1 + statement_nodes s + nodes e
+  statement_nodes break = 1
+  statement_nodes continue = 1
+  statement_nodes (return o) = 1 + nodes_optional o
+
+  pub statements_nodes : Statements → ℕ
+  statements_nodes no_statements = 0
+  statements_nodes (statement s ss) = statement_nodes s + statements_nodes ss
+
+-- the assertions that stand in statements, in source order
+abbrev mutual
+  pub asserted_by : Statement → List ℕ
+  asserted_by (block ss) = asserted_in ss
+  asserted_by (set x e) = []
+  asserted_by (ignore e) = []
+  asserted_by (assume e) = []
+  asserted_by (assert id e) = id ∷ []
+  asserted_by (if_else e a b) = asserted_by a ++ asserted_by b
+  asserted_by (loop e s b) = asserted_by s ++ asserted_by b
+  asserted_by (do_while s e) = asserted_by s
+  asserted_by break = []
+  asserted_by continue = []
+  asserted_by (return o) = []
+
+  pub asserted_in : Statements → List ℕ
+  asserted_in no_statements = []
+  asserted_in (statement s ss) = asserted_by s ++ asserted_in ss
+
+-- what each procedure keeps
+abbrev pub is_sound_procedure : PureProgram → PureProcedure → Bool
+is_sound_procedure P p =
+    nat_le p.params 8 && nat_le p.params p.slots && nat_le p.slots 24 && all_sound P p.slots false p.body && nat_le (statements_nodes p.body) 8000
+
+abbrev pub has_no_parameters : Option PureProcedure → Bool
+has_no_parameters p = takes p 0
+
+pub record IsWellFormed (P : PureProgram) : Type 0 where
+  pub few_procedures : length P.procedures ≤ 64
+  -- `main` is one of the procedures and has no parameters
+  pub main_takes_none : IsTrue (takes (slice_get P.procedures P.main) 0)
+  pub names_apart : (i j : ℕ) (p q : PureProcedure) → i < j → slice_get P.procedures i ≡ Some p → slice_get P.procedures j ≡ Some q → p.name ≡ q.name → ⊥
+  pub procedures_sound : (i : ℕ) (p : PureProcedure) → slice_get P.procedures i ≡ Some p → IsTrue (is_sound_procedure P p)
+  pub few_asserts : length P.asserts ≤ 64
+  -- each assertion stands in exactly one `Assert`, which is in the body of its procedure
+  pub asserts_placed : (k : ℕ) (a : AssertPlace) → slice_get P.asserts k ≡ Some a → a.proc < length P.procedures
+  pub asserted_once : (k i : ℕ) (a : AssertPlace) (p : PureProcedure) → slice_get P.asserts k ≡ Some a → slice_get P.procedures i ≡ Some p →
+      count_by (λ id. id == k) (asserted_in p.body) ≡ (if i == a.proc then 1 else 0)
