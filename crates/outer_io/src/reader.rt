@@ -1,7 +1,10 @@
 //! A source over a reader.
 
-ghost use Rattle.std.specs.Prelude.{◌≡◌};
+ghost use Rattle.std.specs.Prelude.{◌≡◌, ◌<◌, length, OnOk, OnErr};
+ghost use Rattle.std.specs.Io.{ReadsAtMost};
+ghost use Rattle.std.specs.Io.KnownBytes.{ReadConsumes};
 ghost use Rattle.outer_io.specs.Adapters.{reader_of, reader_faults};
+ghost use Rattle.outer_io.specs.Causes.{HasCause, next_count};
 
 use crate::fault::Failed;
 use crate::source::Source;
@@ -28,7 +31,14 @@ impl<R: Read> Source for FromReader<R> {
 
     ghost faults = { λ s. s.faults };
 
-    fn read(&mut self, buf: &mut [u8]) -> Result<usize, Failed> {
+    fn read(&mut self, buf: &mut [u8]) -> Result<usize, Failed>
+        requires { 0 < length buf.old }
+        ensures bound { ReadsAtMost result buf.new }
+        ensures bytes { ReadConsumes (R.remaining (reader_of self.old)) (R.remaining (reader_of self.new)) result buf.new }
+        ensures cause { HasCause (reader_faults self.old) (reader_faults self.new) result }
+        ensures ok { OnOk result (reader_faults self.new ≡ reader_faults self.old) }
+        ensures err { OnErr result (reader_faults self.new ≡ next_count (reader_faults self.old)) }
+    {
         match self.inner.read(buf) {
             Ok(count) => Ok(count),
             Err(_) => {

@@ -1,6 +1,6 @@
 //! All bytes of a source, and all bytes to a sink.
 
-ghost use Rattle.std.specs.Prelude.{◌≡◌, ℕ, ◌+◌, ◌<◌, ◌≤◌, List, ◌++◌, length, IfOk, IfErr};
+ghost use Rattle.std.specs.Prelude.{◌≡◌, ℕ, ◌+◌, ◌<◌, ◌≤◌, List, ◌++◌, length, IfOk, IfErr, IsOk};
 ghost use Rattle.std.specs.Io.KnownBytes.{Consumes, Appends, IsAtEnd, Keeps};
 ghost use Rattle.outer_io.specs.Causes.{Rose, HasCause, Took, TookAtMost, WritesFront};
 
@@ -70,6 +70,7 @@ fn read_piece<S: Source>(
 pub fn write_all<K: Sink>(sink: &mut K, bytes: &[u8]) -> Result<(), Failed>
     ensures ok { IfOk result (λ _. Appends (K.taken sink.old) (K.taken sink.new) bytes.now) }
     ensures err { IfErr result (λ _. WritesFront (K.taken sink.old) (K.taken sink.new) bytes.now) }
+    ensures empty { length bytes.now ≡ 0 → IsOk result }
     ensures cause { HasCause (K.faults sink.old) (K.faults sink.new) result }
 {
     let mut done = 0;
