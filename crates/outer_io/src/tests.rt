@@ -1,3 +1,5 @@
+ghost use Rattle.std.specs.Prelude.{◌≤◌, IfOk};
+
 use crate::{
     Failed, FromReader, MemSink, MemSource, ReadError, Sink, ToWriter, read_all, write_all,
 };
@@ -94,7 +96,9 @@ struct Choppy {
 }
 
 impl Choppy {
-    fn step(&mut self, len: usize) -> io::Result<usize> {
+    fn step(&mut self, len: usize) -> io::Result<usize>
+        ensures { IfOk result (λ n. n ≤ len) }
+    {
         let call = self.calls;
         self.calls = call.saturating_add(1);
         if call == self.failing {
