@@ -1,5 +1,5 @@
 -- Sources and sinks in memory.
-use Rattle.std.specs.Prelude.{◌≡◌, ℕ, ◌≤◌, List, ◌++◌, length, take, vec_capacity}
+use Rattle.std.specs.Prelude.{ℕ, List}
 
 -- a source: the bytes that are left, the numbers of the calls that fail, how many calls there were,
 -- how much a call gives at most, and how many failed

@@ -29,7 +29,13 @@ impl Model for MemSource {
 
     ghost Value = { MemoryBytes };
 
-    ghost view = { λ s. record { left = drop s.at s.bytes.items; failing = s.failing.items; calls = s.calls; piece = s.piece; faults = s.faults } };
+    ghost view = { λ s. record {
+      left = drop s.at s.bytes.items;
+      failing = s.failing.items;
+      calls = s.calls;
+      piece = s.piece;
+      faults = s.faults;
+    } };
 
     ghost invariant = { λ s. (s.at ≤ length s.bytes.items) × (1 ≤ s.piece) };
 }
@@ -37,7 +43,13 @@ impl Model for MemSource {
 impl MemSource {
     pub fn new(bytes: Vec<u8>, failing: Vec<u32>, piece: usize) -> MemSource
         requires { 1 ≤ piece }
-        ensures { result ≡ record { left = bytes.items; failing = failing.items; calls = 0; piece = piece; faults = 0 } }
+        ensures { result ≡ record {
+          left = bytes.items;
+          failing = failing.items;
+          calls = 0;
+          piece = piece;
+          faults = 0;
+        } }
     {
         MemSource {
             bytes,
@@ -63,9 +75,16 @@ impl Source for MemSource {
         ensures fails { IsErr result ↔ Contains self.old.failing self.old.calls }
 
         // A fault takes nothing.
-        ensures fault { OnErr result (self.new ≡ record self.old { calls = next_count self.old.calls; faults = next_count self.old.faults }) }
-        ensures count { IfOk result (λ n. n ≡ min (min self.old.piece (length buf.old)) (length self.old.left)) }
-        ensures given { IfOk result (λ n. self.new ≡ record self.old { left = drop n self.old.left; calls = next_count self.old.calls }) }
+        ensures fault { OnErr result (self.new ≡ record self.old {
+          calls = next_count self.old.calls;
+          faults = next_count self.old.faults;
+        }) }
+        ensures count { IfOk result
+            (λ n. n ≡ min (min self.old.piece (length buf.old)) (length self.old.left)) }
+        ensures given { IfOk result (λ n. self.new ≡ record self.old {
+          left = drop n self.old.left;
+          calls = next_count self.old.calls;
+        }) }
     {
         let call = self.calls;
         self.calls = call.saturating_add(1);
@@ -99,9 +118,17 @@ impl Model for MemSink {
 
     ghost Value = { MemoryRoom };
 
-    ghost view = { λ s. record { taken = s.bytes.items; room = s.room; failing = s.failing.items; calls = s.calls; piece = s.piece; faults = s.faults } };
+    ghost view = { λ s. record {
+      taken = s.bytes.items;
+      room = s.room;
+      failing = s.failing.items;
+      calls = s.calls;
+      piece = s.piece;
+      faults = s.faults;
+    } };
 
-    ghost invariant = { λ s. (length s.bytes.items ≤ s.room) × (s.room ≤ vec_capacity s.bytes) × (1 ≤ s.piece) };
+    ghost invariant = { λ s.
+        (length s.bytes.items ≤ s.room) × (s.room ≤ vec_capacity s.bytes) × (1 ≤ s.piece) };
 }
 
 impl MemSink {
@@ -114,7 +141,14 @@ impl MemSink {
         piece: usize,
     ) -> Result<MemSink, OutOfMemory>
         requires { 1 ≤ piece }
-        ensures { IfOk result (λ s. s ≡ record { taken = []; room = room; failing = failing.items; calls = 0; piece = piece; faults = 0 }) }
+        ensures { IfOk result (λ s. s ≡ record {
+          taken = [];
+          room = room;
+          failing = failing.items;
+          calls = 0;
+          piece = piece;
+          faults = 0;
+        }) }
     {
         let bytes = Vec::with_capacity(alloc, room)?;
         Ok(MemSink {
@@ -147,12 +181,20 @@ impl Sink for MemSink {
         ensures cause { HasCause self.old.faults self.new.faults result }
 
         // It fails where the call is listed, or no room is left.
-        ensures fails { IsErr result ↔ (Contains self.old.failing self.old.calls ⊎ (self.old.room ≤ length self.old.taken)) }
+        ensures fails { IsErr result ↔
+            (Contains self.old.failing self.old.calls ⊎ (self.old.room ≤ length self.old.taken)) }
 
         // A fault takes nothing.
-        ensures fault { OnErr result (self.new ≡ record self.old { calls = next_count self.old.calls; faults = next_count self.old.faults }) }
-        ensures count { IfOk result (λ n. n ≡ min (min self.old.piece (self.old.room - length self.old.taken)) (length bytes.now)) }
-        ensures given { IfOk result (λ n. self.new ≡ record self.old { taken = self.old.taken ++ take n bytes.now; calls = next_count self.old.calls }) }
+        ensures fault { OnErr result (self.new ≡ record self.old {
+          calls = next_count self.old.calls;
+          faults = next_count self.old.faults;
+        }) }
+        ensures count { IfOk result (λ n. n ≡
+            min (min self.old.piece (self.old.room - length self.old.taken)) (length bytes.now)) }
+        ensures given { IfOk result (λ n. self.new ≡ record self.old {
+          taken = self.old.taken ++ take n bytes.now;
+          calls = next_count self.old.calls;
+        }) }
     {
         let call = self.calls;
         self.calls = call.saturating_add(1);

@@ -34,7 +34,8 @@ impl<R: Read> Source for FromReader<R> {
     fn read(&mut self, buf: &mut [u8]) -> Result<usize, Failed>
         requires { 0 < length buf.old }
         ensures bound { ReadsAtMost result buf.new }
-        ensures bytes { ReadConsumes (R.remaining (reader_of self.old)) (R.remaining (reader_of self.new)) result buf.new }
+        ensures bytes { ReadConsumes (R.remaining (reader_of self.old))
+            (R.remaining (reader_of self.new)) result buf.new }
         ensures cause { HasCause (reader_faults self.old) (reader_faults self.new) result }
         ensures ok { OnOk result (reader_faults self.new ≡ reader_faults self.old) }
         ensures err { OnErr result (reader_faults self.new ≡ next_count (reader_faults self.old)) }

@@ -1,6 +1,6 @@
 //! All bytes of a source, and all bytes to a sink.
 
-ghost use Rattle.std.specs.Prelude.{◌≡◌, ℕ, ◌+◌, ◌<◌, ◌≤◌, List, ◌++◌, length, IfOk, IfErr, IsOk};
+ghost use Rattle.std.specs.Prelude.{◌≡◌, ℕ, ◌+◌, ◌<◌, ◌≤◌, List, ◌++◌, length, IfOk, OnOk, OnErr, IsOk};
 ghost use Rattle.std.specs.Io.KnownBytes.{Consumes, Appends, IsAtEnd, Keeps};
 ghost use Rattle.outer_io.specs.Causes.{Rose, HasCause, Took, TookAtMost, WritesFront};
 
@@ -23,10 +23,15 @@ pub fn read_all<S: Source>(
     source: &mut S,
     limit: usize,
 ) -> Result<Vec<u8>, ReadError>
-    ensures ok { IfOk result (λ v. Consumes (S.left source.old) (S.left source.new) v.items × IsAtEnd (S.left source.new) × (length v.items ≤ limit)) }
-    ensures fault { result ≡ Err ReadError.ReadFault → Rose (S.faults source.old) (S.faults source.new) × TookAtMost (S.left source.old) (S.left source.new) limit }
-    ensures long { result ≡ Err ReadError.TooLong → Took (S.left source.old) (S.left source.new) (limit + 1) }
-    ensures memory { result ≡ Err ReadError.Memory → TookAtMost (S.left source.old) (S.left source.new) (limit + 1) }
+    ensures ok { IfOk result (λ v. Consumes (S.left source.old) (S.left source.new) v.items
+        × IsAtEnd (S.left source.new) × (length v.items ≤ limit)) }
+    ensures fault { result ≡ Err ReadError.ReadFault →
+        Rose (S.faults source.old) (S.faults source.new)
+        × TookAtMost (S.left source.old) (S.left source.new) limit }
+    ensures long { result ≡ Err ReadError.TooLong →
+        Took (S.left source.old) (S.left source.new) (limit + 1) }
+    ensures memory { result ≡ Err ReadError.Memory →
+        TookAtMost (S.left source.old) (S.left source.new) (limit + 1) }
     ensures later { S.faults source.old ≤ S.faults source.new }
 {
     let mut out = Vec::new(alloc);
@@ -50,11 +55,17 @@ fn read_piece<S: Source>(
     out: &mut Vec<u8>,
 ) -> Result<usize, ReadError>
     requires { 0 < length buf.old }
-    ensures ok { IfOk result (λ n. (bytes : List ℕ) × (length bytes ≡ n) × Consumes (S.left source.old) (S.left source.new) bytes × (out.new.items ≡ out.old.items ++ bytes) × (n ≡ 0 → IsAtEnd (S.left source.new))) }
+    ensures ok { IfOk result (λ n. (bytes : List ℕ) × (length bytes ≡ n)
+        × Consumes (S.left source.old) (S.left source.new) bytes
+        × (out.new.items ≡ out.old.items ++ bytes)
+        × (n ≡ 0 → IsAtEnd (S.left source.new))) }
     ensures len { IfOk result (λ n. n ≤ length buf.old) }
-    ensures fault { result ≡ Err ReadError.ReadFault → Rose (S.faults source.old) (S.faults source.new) × Keeps (S.left source.old) (S.left source.new) }
+    ensures fault { result ≡ Err ReadError.ReadFault →
+        Rose (S.faults source.old) (S.faults source.new)
+        × Keeps (S.left source.old) (S.left source.new) }
     ensures long { result ≡ Err ReadError.TooLong → ⊥ }
-    ensures memory { result ≡ Err ReadError.Memory → TookAtMost (S.left source.old) (S.left source.new) (length buf.old) }
+    ensures memory { result ≡ Err ReadError.Memory →
+        TookAtMost (S.left source.old) (S.left source.new) (length buf.old) }
     ensures later { S.faults source.old ≤ S.faults source.new }
 {
     match source.read(buf) {
@@ -68,8 +79,8 @@ fn read_piece<S: Source>(
 
 /// Writes all bytes, or a front of them and fails.
 pub fn write_all<K: Sink>(sink: &mut K, bytes: &[u8]) -> Result<(), Failed>
-    ensures ok { IfOk result (λ _. Appends (K.taken sink.old) (K.taken sink.new) bytes.now) }
-    ensures err { IfErr result (λ _. WritesFront (K.taken sink.old) (K.taken sink.new) bytes.now) }
+    ensures ok { OnOk result (Appends (K.taken sink.old) (K.taken sink.new) bytes.now) }
+    ensures err { OnErr result (WritesFront (K.taken sink.old) (K.taken sink.new) bytes.now) }
     ensures empty { length bytes.now ≡ 0 → IsOk result }
     ensures cause { HasCause (K.faults sink.old) (K.faults sink.new) result }
 {

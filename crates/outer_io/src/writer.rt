@@ -33,7 +33,8 @@ impl<W: Write> Sink for ToWriter<W> {
     fn write(&mut self, bytes: &[u8]) -> Result<usize, Failed>
         requires { 0 < length bytes.now }
         ensures some { IfOk result (λ n. (0 < n) × (n ≤ length bytes.now)) }
-        ensures bytes { WriteAppends (W.contents (writer_of self.old)) (W.contents (writer_of self.new)) result bytes.now }
+        ensures bytes { WriteAppends (W.contents (writer_of self.old))
+            (W.contents (writer_of self.new)) result bytes.now }
         ensures cause { HasCause (writer_faults self.old) (writer_faults self.new) result }
         ensures ok { OnOk result (writer_faults self.new ≡ writer_faults self.old) }
         ensures err { OnErr result (writer_faults self.new ≡ next_count (writer_faults self.old)) }

@@ -1,8 +1,5 @@
-use Rattle.std.proofs.Common.{◌≡◌, ℕ, ◌+◌, ◌≤◌, ◌-◌, length, arith, rules, Err, length-take}
+use Rattle.std.proofs.Common.{ℕ, arith, length-take}
 use Rattle.std.proofs.lemmas.Result.{err_from_is_err_and}
-use Rattle.std.proofs.lemmas.Grind.{common_steps}
-use Rattle.outer_io.specs.declared.transfer.ReadError.{ReadError}
-use Rattle.outer_io.specs.declared.transfer.ReadError.TheVariants.{Memory}
 use Rattle.outer_io.proofs.Known.{took_more, took_past}
 use Rattle.outer_io.proofs.transfer.read_all.Goals as goal
 
