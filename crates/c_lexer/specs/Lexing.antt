@@ -1,5 +1,5 @@
 -- The lexical rules, on whole texts.
-use Rattle.std.specs.Prelude.{◌≡◌, ℕ, ◌+◌, ◌-◌, ◌*◌, ◌^◌, ◌<◌, ◌≤◌, pos, List, [], ◌∷◌, ◌++◌, length, Result, Ok, Err, Bool, true, false, nat_le, ◌==◌, ◌&&◌, ◌||◌, ◌⊎◌, if◌then◌else◌, codes, bytes_eq}
+use Rattle.std.specs.Prelude.{◌≡◌, ℕ, ◌+◌, ◌-◌, ◌*◌, ◌^◌, ◌<◌, ◌≤◌, pos, List, [], ◌∷◌, ◌++◌, Result, Ok, Err, Bool, true, false, nat_le, ◌==◌, ◌&&◌, ◌||◌, ◌⊎◌, if◌then◌else◌, codes, bytes_eq}
 use Rattle.std.specs.List.{list_any}
 use Rattle.c_tree.specs.declared.tree.Pos.{Pos}
 use Rattle.c_lexer.specs.declared.token.Keyword.{Keyword}
@@ -55,7 +55,7 @@ reserved = codes "int" ∷ codes "long" ∷ codes "void" ∷ codes "extern" ∷ 
     ∷ codes "_Alignas" ∷ codes "_Alignof" ∷ codes "_Atomic" ∷ codes "_Bool" ∷ codes "_Complex" ∷ codes "_Generic" ∷ codes "_Imaginary" ∷ codes "_Noreturn" ∷ codes "_Static_assert" ∷ codes "_Thread_local" ∷ []
 
 abbrev pub is_reserved : List ℕ → Bool
-is_reserved text = list_any (λ word. bytes_eq text word) reserved
+is_reserved text = list_any (λ word. bytes_eq word text) reserved
 
 -- the marks of the whole language
 abbrev pub marks : List (List ℕ)
@@ -63,7 +63,7 @@ marks = codes "(" ∷ codes ")" ∷ codes "{" ∷ codes "}" ∷ codes ";" ∷ co
     ∷ codes "==" ∷ codes "!=" ∷ codes "&&" ∷ codes "||" ∷ codes "+=" ∷ codes "-=" ∷ codes "*=" ∷ codes "++" ∷ codes "--" ∷ []
 
 abbrev pub is_mark : List ℕ → Bool
-is_mark text = list_any (λ mark. bytes_eq text mark) marks
+is_mark text = list_any (λ mark. bytes_eq mark text) marks
 
 -- a letter, and letters and digits: a name or a reserved word
 abbrev pub IsWord : List ℕ → Type 0
