@@ -2,7 +2,6 @@
 use Rattle.std.specs.Prelude.{◌≡◌, ℕ, ◌+◌, ◌^◌, ◌<◌, ◌≤◌, List, [], ◌∷◌, ◌++◌, Result, Ok, Err, true, false, refl, cond}
 use Rattle.std.proofs.Common.{sym, ◌∙◌, ap, subst, arith, inl, inr}
 use Rattle.c_tree.specs.declared.tree.Pos.{Pos}
-use Rattle.c_lexer.specs.declared.scan.Class.TheVariants.{NameByte}
 use Rattle.c_lexer.specs.declared.token.Keyword.{Keyword}
 use Rattle.c_lexer.specs.declared.token.Keyword.TheVariants.{Int, Return}
 use Rattle.c_lexer.specs.declared.token.Punct.{Punct}
@@ -10,7 +9,7 @@ use Rattle.c_lexer.specs.declared.token.Punct.TheVariants.{OpenParenthesis, Clos
 use Rattle.c_lexer.specs.declared.token.TokenKind.{TokenKind}
 use Rattle.c_lexer.specs.declared.token.TokenKind.TheVariants.{Name, Literal, Word, Mark}
 use Rattle.c_lexer.specs.declared.token.Token.{Token}
-use Rattle.c_lexer.specs.Lexing.{Fault, after_byte, after, is_blank, is_digit, is_in, Ends, IsWord, IsDecimal, value_from, is_reserved, is_mark, keyword_text, mark_text, IsLexeme, IsToken, IsLongest, Parts, bad_byte, with_token, IsLexed, end, blank, token, wide, glued, bad, IsTokens, first_place}
+use Rattle.c_lexer.specs.Lexing.{Fault, after_byte, after, is_blank, is_digit, is_name_byte, Ends, IsWord, IsDecimal, value_from, is_reserved, is_mark, keyword_text, mark_text, IsLexeme, IsToken, IsLongest, Parts, bad_byte, with_token, IsLexed, end, blank, token, wide, glued, bad, IsTokens, first_place}
 use Rattle.c_lexer.proofs.Marks.{mark_sign, no_empty_mark, mark_text-mark}
 use Rattle.c_lexer.proofs.Pieces.{digit-letter, letter_blank, digit_blank, decimal_each, keyword_word, keyword_reserved, token_lexeme, same_text}
 
@@ -104,7 +103,7 @@ same_kind (Mark m) (Mark o) text t u = ap Mark (mark_same m o (ap decoded (sym t
 
 -- a token that is a literal's text ends where no letter or digit stands, and is not too wide
 record IsNarrow (text rest : List ℕ) : Type 0 where
-  ends : Ends NameByte rest
+  ends : Ends is_name_byte rest
   narrow : value_from 0 text < 2 ^ 63
 
 literal_parts : (k : TokenKind) (text rest : List ℕ) → IsDecimal text → IsToken k text → Parts k rest → IsNarrow text rest
@@ -142,8 +141,8 @@ sorted (bad x y z) = ap (λ x. cond x 1 2) (sym x)
 moved_to : {p q : Pos} {xs : List ℕ} {r : Answers} → p ≡ q → IsLexed p xs r → IsLexed q xs r
 moved_to {xs = xs} {r = r} e l = subst (λ p. IsLexed p xs r) e l
 
-glued_ends : (b : ℕ) (rest more : List ℕ) → more ≡ b ∷ rest → is_in NameByte b ≡ true → Ends NameByte more → ⊥
-glued_ends b rest more e h ends = let f : is_in NameByte b ≡ false = subst (λ x. Ends NameByte x) e ends in let n : false ≡ true = sym f ∙ h in cc
+glued_ends : (b : ℕ) (rest more : List ℕ) → more ≡ b ∷ rest → is_name_byte b ≡ true → Ends is_name_byte more → ⊥
+glued_ends b rest more e h ends = let f : is_name_byte b ≡ false = subst (λ x. Ends is_name_byte x) e ends in let n : false ≡ true = sym f ∙ h in cc
 
 token_wide : (k : TokenKind) (text rest other more : List ℕ) → text ++ rest ≡ other ++ more → IsToken k text → IsLongest text rest → Parts k rest → IsDecimal other → IsLongest other more → 2 ^ 63 ≤ value_from 0 other → ⊥
 token_wide k text rest other more e t long parts d long' big =
@@ -151,12 +150,12 @@ token_wide k text rest other more e t long parts d long' big =
     let n = literal_parts k text rest (subst IsDecimal (sym w.0) d) t parts in
     let small : value_from 0 other < 2 ^ 63 = subst (λ x. value_from 0 x < 2 ^ 63) w.0 n.narrow in omega (arith, small, big)
 
-token_glued : (k : TokenKind) (b : ℕ) (text rest other more : List ℕ) → text ++ rest ≡ other ++ b ∷ more → IsToken k text → IsLongest text rest → Parts k rest → IsDecimal other → IsLongest other (b ∷ more) → is_in NameByte b ≡ true → ⊥
+token_glued : (k : TokenKind) (b : ℕ) (text rest other more : List ℕ) → text ++ rest ≡ other ++ b ∷ more → IsToken k text → IsLongest text rest → Parts k rest → IsDecimal other → IsLongest other (b ∷ more) → is_name_byte b ≡ true → ⊥
 token_glued k b text rest other more e t long parts d long' h =
     let w = same_text text other rest (b ∷ more) e (token_lexeme k text t) long (inr (inl d)) long' in
     let n = literal_parts k text rest (subst IsDecimal (sym w.0) d) t parts in glued_ends b more rest w.1 h n.ends
 
-wide_glued : (b : ℕ) (text rest other more : List ℕ) → text ++ rest ≡ other ++ b ∷ more → IsDecimal text → IsLongest text rest → Ends NameByte rest → IsDecimal other → IsLongest other (b ∷ more) → is_in NameByte b ≡ true → ⊥
+wide_glued : (b : ℕ) (text rest other more : List ℕ) → text ++ rest ≡ other ++ b ∷ more → IsDecimal text → IsLongest text rest → Ends is_name_byte rest → IsDecimal other → IsLongest other (b ∷ more) → is_name_byte b ≡ true → ⊥
 wide_glued b text rest other more e d long ends d' long' h =
     let w = same_text text other rest (b ∷ more) e (inr (inl d)) long (inr (inl d')) long' in glued_ends b more rest w.1 h ends
 

@@ -1,17 +1,15 @@
 -- What stands at a place.
-use Rattle.std.specs.Prelude.{◌≡◌, ℕ, ℤ, zero, suc, ◌+◌, ◌-◌, ◌^◌, ◌<◌, ◌≤◌, pos, List, [], ◌∷◌, ◌++◌, length, take, Err, true, false, refl, ◌⊎◌}
+use Rattle.std.specs.Prelude.{◌≡◌, ℕ, ℤ, zero, suc, ◌+◌, ◌-◌, ◌^◌, ◌<◌, ◌≤◌, pos, List, [], ◌∷◌, ◌++◌, length, take, Bool, Err, true, false, refl, ◌⊎◌}
 use Rattle.std.proofs.Common.{drop, get_or, sym, ◌∙◌, ap, subst, arith, append-nil, length-append, inl, inr}
 use Rattle.std.proofs.Math.Seq.{take-append_seam, drop-append_seam}
 use Rattle.std.proofs.lemmas.Bool.Decides.{nat_tests}
-use Rattle.c_lexer.specs.declared.scan.Class.{Class}
-use Rattle.c_lexer.specs.declared.scan.Class.TheVariants.{NameByte, Digit}
 use Rattle.c_lexer.specs.declared.token.Keyword.{Keyword}
 use Rattle.c_lexer.specs.declared.token.Keyword.TheVariants.{Int, Return}
 use Rattle.c_lexer.specs.declared.token.Punct.{Punct}
 use Rattle.c_lexer.specs.declared.token.TokenKind.{TokenKind}
 use Rattle.c_lexer.specs.declared.token.TokenKind.TheVariants.{Name, Literal, Word, Mark}
 use Rattle.c_lexer.specs.declared.scan.Piece.TheVariants.{Blank, Token, Fault}
-use Rattle.c_lexer.specs.Lexing.{after, is_blank, is_digit, is_letter, is_in, Each, Ends, IsWord, IsDecimal, value_from, is_reserved, is_mark, keyword_text, mark_text, IsLexeme, IsToken, IsLongest, Parts, HasNoToken, too_wide, bad_byte, with_token, IsLexed, blank, token, wide, glued, bad}
+use Rattle.c_lexer.specs.Lexing.{after, is_blank, is_digit, is_letter, is_name_byte, Each, Ends, IsWord, IsDecimal, value_from, is_reserved, is_mark, keyword_text, mark_text, IsLexeme, IsToken, IsLongest, Parts, HasNoToken, too_wide, bad_byte, with_token, IsLexed, blank, token, wide, glued, bad}
 use Rattle.c_lexer.specs.Scanning.{IsRun, IsDecimalRun, IsMark, IsLongestMark, HasNoMark, HasNoKeyword, IsPiece}
 use Rattle.c_lexer.proofs.Runs.{drop_first}
 use Rattle.c_lexer.proofs.Marks.{mark_sign, mark_text-mark, mark_text-head}
@@ -19,7 +17,7 @@ use Rattle.c_lexer.proofs.Marks.{mark_sign, mark_text-mark, mark_text-head}
 pub digit-letter : (b : ℕ) → is_digit b ≡ true → is_letter b ≡ true → ⊥
 digit-letter b h q = grind (arith, nat_tests)
 
-letter-name : (b : ℕ) → is_letter b ≡ true → is_in NameByte b ≡ true
+letter-name : (b : ℕ) → is_letter b ≡ true → is_name_byte b ≡ true
 letter-name b h = grind (arith, nat_tests)
 
 pub letter_blank : (b : ℕ) → is_letter b ≡ true → is_blank b ≡ false
@@ -31,7 +29,7 @@ letter_digit b h = grind (arith, nat_tests)
 pub digit_blank : (b : ℕ) → is_digit b ≡ true → is_blank b ≡ false
 digit_blank b h = grind (arith, nat_tests)
 
-pub decimal_each : (xs : List ℕ) → IsDecimal xs → Each Digit xs
+pub decimal_each : (xs : List ℕ) → IsDecimal xs → Each is_digit xs
 decimal_each [] h = absurd h
 decimal_each (b ∷ []) h = (h, tt)
 decimal_each (b ∷ c ∷ bs) h = (h.0, h.2)
@@ -72,21 +70,21 @@ same_text a b x y e ta la tb lb = elim (overlap a b x y e) [
       (w.1 ∙ ap (λ c. b ++ c) n ∙ append-nil b, sym (w.2 ∙ ap (λ c. c ++ x) n))
 ]
 
-each-behind : (c : Class) (xs ys : List ℕ) → Each c (xs ++ ys) → Each c ys
+each-behind : (c : ℕ → Bool) (xs ys : List ℕ) → Each c (xs ++ ys) → Each c ys
 each-behind c [] ys h = h
 each-behind c (x ∷ xs) ys h = each-behind c xs ys h.1
 
 -- where a run ends nothing more of its class stands
-ends_there : (c : Class) (rest extra others : List ℕ) → Ends c rest → rest ≡ extra ++ others → Each c extra → extra ≡ []
+ends_there : (c : ℕ → Bool) (rest extra others : List ℕ) → Ends c rest → rest ≡ extra ++ others → Each c extra → extra ≡ []
 ends_there c rest [] others h e q = refl
 ends_there c rest (x ∷ extra) others h e q =
-    let f : is_in c x ≡ false = subst (λ r. Ends c r) e h in
-    let t : is_in c x ≡ true = q.0 in
+    let f : c x ≡ false = subst (λ r. Ends c r) e h in
+    let t : c x ≡ true = q.0 in
     let n : false ≡ true = sym f ∙ t in cc
 
-word_longest : (b : ℕ) (bs rest : List ℕ) → is_letter b ≡ true → Ends NameByte rest → IsLongest (b ∷ bs) rest
+word_longest : (b : ℕ) (bs rest : List ℕ) → is_letter b ≡ true → Ends is_name_byte rest → IsLongest (b ∷ bs) rest
 word_longest b bs rest h e extra others q t = elim t [
-  | inl w ↦ ends_there NameByte rest extra others e q (each-behind NameByte bs extra w.1)
+  | inl w ↦ ends_there is_name_byte rest extra others e q (each-behind is_name_byte bs extra w.1)
   | inr v ↦ elim v [
     | inl d ↦ absurd (digit-letter b (decimal_each (b ∷ (bs ++ extra)) d).0 h)
     | inr m ↦ let n : false ≡ true = sym (mark_sign b (bs ++ extra) m).letter ∙ h in cc
@@ -133,9 +131,9 @@ blank_piece bytes rest b e h =
     )
 
 -- a name or a reserved word
-run_word-by : (b : ℕ) (more rest text : List ℕ) → b ∷ more ≡ text ++ rest → is_letter b ≡ true → Each NameByte text → Ends NameByte rest → (0 < length text) × IsWord text × IsLongest text rest
+run_word-by : (b : ℕ) (more rest text : List ℕ) → b ∷ more ≡ text ++ rest → is_letter b ≡ true → Each is_name_byte text → Ends is_name_byte rest → (0 < length text) × IsWord text × IsLongest text rest
 run_word-by b more rest [] e h each ends =
-    let f : is_in NameByte b ≡ false = subst (λ r. Ends NameByte r) (sym e) ends in
+    let f : is_name_byte b ≡ false = subst (λ r. Ends is_name_byte r) (sym e) ends in
     let n : false ≡ true = sym f ∙ letter-name b h in cc
 run_word-by b more rest (x ∷ xs) e h each ends =
     let q : b ≡ x = cc in
@@ -143,7 +141,7 @@ run_word-by b more rest (x ∷ xs) e h each ends =
     (omega arith, (h', each.1), word_longest x xs rest h' ends)
 
 -- the token of a word's text, where it has one
-word_kind : (bytes : List ℕ) (at end : ℕ) (k : TokenKind) → at < length bytes → is_letter (get_or bytes at 0) ≡ true → IsRun NameByte bytes at end →
+word_kind : (bytes : List ℕ) (at end : ℕ) (k : TokenKind) → at < length bytes → is_letter (get_or bytes at 0) ≡ true → IsRun is_name_byte bytes at end →
     ((text : List ℕ) → IsWord text → take (end - at) (drop at bytes) ≡ text → IsToken k text × ((rest : List ℕ) → Parts k rest)) → IsPiece (drop at bytes) (Token k (end - at))
 word_kind bytes at end k lt h r is =
     let d = drop_first bytes at lt in
@@ -153,11 +151,11 @@ word_kind bytes at end k lt h r is =
     let t = is r.text w.1 front in
     found (drop at bytes) r.text (drop end bytes) k (end - at) r.whole n (omega (arith, n, w.0)) t.0 w.2 (t.1 (drop end bytes))
 
-pub name_piece : (bytes : List ℕ) (at end : ℕ) (name : List ℕ) → at < length bytes → is_letter (get_or bytes at 0) ≡ true → IsRun NameByte bytes at end →
+pub name_piece : (bytes : List ℕ) (at end : ℕ) (name : List ℕ) → at < length bytes → is_letter (get_or bytes at 0) ≡ true → IsRun is_name_byte bytes at end →
     name ≡ take (end - at) (drop at bytes) → is_reserved (take (end - at) (drop at bytes)) ≡ false → IsPiece (drop at bytes) (Token (Name name) (end - at))
 name_piece bytes at end name lt h r e free = word_kind bytes at end (Name name) lt h r (λ text w front. ((e ∙ front, w, sym (ap is_reserved front) ∙ free), λ rest. tt))
 
-pub keyword_piece : (bytes : List ℕ) (at end : ℕ) (w : Keyword) → at < length bytes → is_letter (get_or bytes at 0) ≡ true → IsRun NameByte bytes at end →
+pub keyword_piece : (bytes : List ℕ) (at end : ℕ) (w : Keyword) → at < length bytes → is_letter (get_or bytes at 0) ≡ true → IsRun is_name_byte bytes at end →
     take (end - at) (drop at bytes) ≡ keyword_text w → IsPiece (drop at bytes) (Token (Word w) (end - at))
 keyword_piece bytes at end w lt h r e = word_kind bytes at end (Word w) lt h r (λ text _ front. (sym front ∙ e, λ rest. tt))
 
@@ -172,7 +170,7 @@ word_alone (Mark m) (b ∷ bs) w q none t =
     let n : false ≡ true = sym (mark_sign b bs (subst (λ x. is_mark x ≡ true) (sym t) (mark_text-mark m))).letter ∙ w.0 in cc
 
 -- a reserved word that is not in use
-pub reserved_fault : (bytes : List ℕ) (at end : ℕ) → at < length bytes → is_letter (get_or bytes at 0) ≡ true → IsRun NameByte bytes at end →
+pub reserved_fault : (bytes : List ℕ) (at end : ℕ) → at < length bytes → is_letter (get_or bytes at 0) ≡ true → IsRun is_name_byte bytes at end →
     HasNoKeyword (take (end - at) (drop at bytes)) → is_reserved (take (end - at) (drop at bytes)) ≡ true → IsPiece (drop at bytes) Fault
 reserved_fault bytes at end lt h r none q =
     let b = get_or bytes at 0 in
@@ -206,7 +204,7 @@ sign_fault bytes rest b e nb nl nd nm = λ p. (bad_byte p, subst (λ x. IsLexed 
         nm m others (e ∙ q ∙ ap (λ x. x ++ others) t) (λ extra more f h. long extra more f (inr (inr (subst (λ x. is_mark (x ++ extra) ≡ true) (sym t) h))))
 
 -- a literal
-pub run_decimal : (bytes : List ℕ) (at end : ℕ) → at < length bytes → is_digit (get_or bytes at 0) ≡ true → (get_or bytes at 0 ≡ 48 → ⊥) → IsRun Digit bytes at end → IsDecimalRun bytes at end
+pub run_decimal : (bytes : List ℕ) (at end : ℕ) → at < length bytes → is_digit (get_or bytes at 0) ≡ true → (get_or bytes at 0 ≡ 48 → ⊥) → IsRun is_digit bytes at end → IsDecimalRun bytes at end
 run_decimal bytes at end lt h z r =
     let d = drop_first bytes at lt in
     let k = by_text (get_or bytes at 0) (drop (at + 1) bytes) (drop end bytes) r.text (sym d ∙ r.whole) h z r.each r.ends in
@@ -218,12 +216,12 @@ run_decimal bytes at end lt h z r =
       whole = r.whole;
       each = r.each;
       decimal = k.1;
-      longest = λ extra others e t. ends_there Digit (drop end bytes) extra others r.ends e (each-behind Digit r.text extra (decimal_each (r.text ++ extra) t));
+      longest = λ extra others e t. ends_there is_digit (drop end bytes) extra others r.ends e (each-behind is_digit r.text extra (decimal_each (r.text ++ extra) t));
     }
   where
-    by_text : (b : ℕ) (more rest text : List ℕ) → b ∷ more ≡ text ++ rest → is_digit b ≡ true → (b ≡ 48 → ⊥) → Each Digit text → Ends Digit rest → (0 < length text) × IsDecimal text
+    by_text : (b : ℕ) (more rest text : List ℕ) → b ∷ more ≡ text ++ rest → is_digit b ≡ true → (b ≡ 48 → ⊥) → Each is_digit text → Ends is_digit rest → (0 < length text) × IsDecimal text
     by_text b more rest [] e h z each ends =
-        let f : is_digit b ≡ false = subst (λ r. Ends Digit r) (sym e) ends in
+        let f : is_digit b ≡ false = subst (λ r. Ends is_digit r) (sym e) ends in
         let n : false ≡ true = sym f ∙ h in cc
     by_text b more rest (x ∷ []) e h z each ends = (omega arith, each.0)
     by_text b more rest (x ∷ y ∷ ys) e h z each ends = let q : b ≡ x = cc in (omega arith, (each.0, (λ (n : x ≡ 48). z (q ∙ n)), each.1))
@@ -255,7 +253,7 @@ decimal_longest bytes at end r =
     subst (λ t. IsLongest t (drop end bytes)) (sym k.2) (literal_longest k.0 k.1 (drop end bytes) k.3
     (λ extra others e t. r.longest extra others e (subst (λ x. IsDecimal (x ++ extra)) (sym k.2) t)))
 
-pub glued_fault : (bytes : List ℕ) (at end : ℕ) → IsDecimalRun bytes at end → end < length bytes → is_in NameByte (get_or bytes end 0) ≡ true → IsPiece (drop at bytes) Fault
+pub glued_fault : (bytes : List ℕ) (at end : ℕ) → IsDecimalRun bytes at end → end < length bytes → is_name_byte (get_or bytes end 0) ≡ true → IsPiece (drop at bytes) Fault
 glued_fault bytes at end r lt q =
     let d = drop_first bytes end lt in
     let b = get_or bytes end 0 in
@@ -270,14 +268,14 @@ literal_front bytes at end r =
     let l : length r.text ≡ end - at = omega (arith, r.len) in
     ap (λ m. take m (drop at bytes)) (sym l) ∙ ap (take (length r.text)) r.whole ∙ take-append_seam r.text (drop end bytes)
 
-pub literal_piece : (bytes : List ℕ) (at end : ℕ) (n : ℤ) → IsDecimalRun bytes at end → Ends NameByte (drop end bytes) → n ≡ pos (value_from 0 (take (end - at) (drop at bytes))) →
+pub literal_piece : (bytes : List ℕ) (at end : ℕ) (n : ℤ) → IsDecimalRun bytes at end → Ends is_name_byte (drop end bytes) → n ≡ pos (value_from 0 (take (end - at) (drop at bytes))) →
     value_from 0 (take (end - at) (drop at bytes)) < 2 ^ 63 → IsPiece (drop at bytes) (Token (Literal n) (end - at))
 literal_piece bytes at end n r ends v small =
     let l : length r.text ≡ end - at = omega (arith, r.len) in
     let e = literal_front bytes at end r in
     found (drop at bytes) r.text (drop end bytes) (Literal n) (end - at) r.whole l (omega (arith, r.later)) (r.decimal, v ∙ ap (λ x. pos (value_from 0 x)) e, subst (λ x. value_from 0 x < 2 ^ 63) e small) (decimal_longest bytes at end r) ends
 
-pub wide_fault : (bytes : List ℕ) (at end : ℕ) → IsDecimalRun bytes at end → Ends NameByte (drop end bytes) → 2 ^ 63 ≤ value_from 0 (take (end - at) (drop at bytes)) → IsPiece (drop at bytes) Fault
+pub wide_fault : (bytes : List ℕ) (at end : ℕ) → IsDecimalRun bytes at end → Ends is_name_byte (drop end bytes) → 2 ^ 63 ≤ value_from 0 (take (end - at) (drop at bytes)) → IsPiece (drop at bytes) Fault
 wide_fault bytes at end r ends big =
     λ p. (
       too_wide p,
@@ -285,10 +283,10 @@ wide_fault bytes at end r ends big =
           (wide r.text (drop end bytes) r.decimal (decimal_longest bytes at end r) ends (subst (λ x. 2 ^ 63 ≤ value_from 0 x) (literal_front bytes at end r) big)),
     )
 
-pub ends_byte : (c : Class) (bytes : List ℕ) (end : ℕ) → end < length bytes → is_in c (get_or bytes end 0) ≡ false → Ends c (drop end bytes)
+pub ends_byte : (c : ℕ → Bool) (bytes : List ℕ) (end : ℕ) → end < length bytes → c (get_or bytes end 0) ≡ false → Ends c (drop end bytes)
 ends_byte c bytes end lt q = subst (λ x. Ends c x) (sym (drop_first bytes end lt)) q
 
-pub ends_past : (c : Class) (bytes : List ℕ) (end : ℕ) → length bytes ≤ end → Ends c (drop end bytes)
+pub ends_past : (c : ℕ → Bool) (bytes : List ℕ) (end : ℕ) → length bytes ≤ end → Ends c (drop end bytes)
 ends_past c [] zero le = tt
 ends_past c [] (suc end) le = tt
 ends_past c (b ∷ bytes) zero le = absurd (omega arith)

@@ -1,18 +1,16 @@
 -- Stretches of bytes.
-use Rattle.std.specs.Prelude.{◌≡◌, ℕ, ◌+◌, ◌-◌, ◌*◌, ◌/◌, ◌^◌, ◌<◌, ◌≤◌, List, [], ◌∷◌, ◌++◌, length, true}
+use Rattle.std.specs.Prelude.{◌≡◌, ℕ, ◌+◌, ◌-◌, ◌*◌, ◌/◌, ◌^◌, ◌<◌, ◌≤◌, List, [], ◌∷◌, ◌++◌, length, Bool, true}
 use Rattle.std.proofs.Common.{drop, get_or, sym, ◌∙◌, ap, subst, arith, append_assoc, length-append, add-one}
 use Rattle.std.proofs.Math.Seq.{drop-cons}
-use Rattle.c_lexer.specs.declared.scan.Class.{Class}
-use Rattle.c_lexer.specs.declared.scan.Class.TheVariants.{Digit}
 use Rattle.std.proofs.lemmas.Bool.Decides.{nat_tests}
-use Rattle.c_lexer.specs.Lexing.{Each, is_in, is_digit, value_from}
+use Rattle.c_lexer.specs.Lexing.{Each, is_digit, value_from}
 
-pub each-append : (c : Class) (xs : List ℕ) (b : ℕ) → Each c xs → is_in c b ≡ true → Each c (xs ++ b ∷ [])
+pub each-append : (c : ℕ → Bool) (xs : List ℕ) (b : ℕ) → Each c xs → c b ≡ true → Each c (xs ++ b ∷ [])
 each-append c [] b h q = (q, tt)
 each-append c (x ∷ xs) b h q = (h.0, each-append c xs b h.1 q)
 
 -- one byte more
-pub reached_more : (c : Class) (bytes : List ℕ) (from end : ℕ) → end < length bytes → is_in c (get_or bytes end 0) ≡ true →
+pub reached_more : (c : ℕ → Bool) (bytes : List ℕ) (from end : ℕ) → end < length bytes → c (get_or bytes end 0) ≡ true →
     (text : List ℕ) × (length text + from ≡ end) × (drop from bytes ≡ text ++ drop end bytes) × Each c text →
     (text : List ℕ) × (length text + from ≡ end + 1) × (drop from bytes ≡ text ++ drop (end + 1) bytes) × Each c text
 reached_more c bytes from end lt q h =
@@ -30,12 +28,12 @@ value_from-le n (b ∷ bs) = let h = value_from-le (10 * n + (b - 48)) bs in ome
 pub digit_le : (b : ℕ) → is_digit b ≡ true → (48 ≤ b) × (b ≤ 57)
 digit_le b h = grind (arith, nat_tests)
 
-pub too_big : (digits : List ℕ) (n i : ℕ) → i < length digits → Each Digit (drop i digits) → value_from n (drop i digits) ≡ value_from 0 digits →
+pub too_big : (digits : List ℕ) (n i : ℕ) → i < length digits → Each is_digit (drop i digits) → value_from n (drop i digits) ≡ value_from 0 digits →
     (9223372036854775807 - (get_or digits i 0 - 48)) / 10 < n → 2 ^ 63 ≤ value_from 0 digits
 too_big digits n i lt each told big =
     let d = get_or digits i 0 in
     let e : drop i digits ≡ d ∷ drop (i + 1) digits = drop_first digits i lt in
-    let h : Each Digit (d ∷ drop (i + 1) digits) = subst (λ x. Each Digit x) e each in
+    let h : Each is_digit (d ∷ drop (i + 1) digits) = subst (λ x. Each is_digit x) e each in
     let b = digit_le d h.0 in
     let v : value_from (10 * n + (d - 48)) (drop (i + 1) digits) ≡ value_from 0 digits = sym (ap (value_from n) e) ∙ told in
     let l = value_from-le (10 * n + (d - 48)) (drop (i + 1) digits) in

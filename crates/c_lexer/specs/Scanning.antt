@@ -1,26 +1,31 @@
 -- What the lexer's functions answer.
-use Rattle.std.specs.Prelude.{◌≡◌, ℕ, ◌+◌, ◌<◌, ◌≤◌, List, [], ◌++◌, length, Result, Err, true, take}
+use Rattle.std.specs.Prelude.{◌≡◌, ℕ, ◌+◌, ◌<◌, ◌≤◌, List, [], ◌++◌, length, Bool, Result, Err, true, take}
 use Rattle.std.proofs.Common.{drop}
 use Rattle.c_tree.specs.declared.tree.Pos.{Pos}
 use Rattle.c_lexer.specs.declared.token.Keyword.{Keyword}
 use Rattle.c_lexer.specs.declared.token.Punct.{Punct}
 use Rattle.c_lexer.specs.declared.token.Token as the_token
 use Rattle.c_lexer.specs.declared.scan.Class.{Class}
-use Rattle.c_lexer.specs.declared.scan.Class.TheVariants.{Digit}
+use Rattle.c_lexer.specs.declared.scan.Class.TheVariants.{NameByte, Digit}
 use Rattle.c_lexer.specs.declared.scan.Piece.{Piece}
 use Rattle.c_lexer.specs.declared.scan.Piece.TheVariants.{Blank, Token, Fault}
 use Rattle.c_lexer.specs.Lexing as lexing
-use Rattle.c_lexer.specs.Lexing.{after, Each, Ends, IsDecimal, is_mark, keyword_text, mark_text, with_token, IsLexed}
+use Rattle.c_lexer.specs.Lexing.{after, is_name_byte, is_digit, Each, Ends, IsDecimal, is_mark, keyword_text, mark_text, with_token, IsLexed}
 
--- a stretch of bytes of a class, from one place to another
-pub record IsRun (c : Class) (bytes : List ℕ) (from end : ℕ) : Type 0 where
+-- the test of a class of bytes
+abbrev pub test_of : Class → ℕ → Bool
+test_of NameByte = is_name_byte
+test_of Digit = is_digit
+
+-- a stretch of bytes that pass a test, from one place to another
+pub record IsRun (test : ℕ → Bool) (bytes : List ℕ) (from end : ℕ) : Type 0 where
   pub later : from ≤ end
   pub within : end ≤ length bytes
   pub text : List ℕ
   pub len : length text + from ≡ end
   pub whole : drop from bytes ≡ text ++ drop end bytes
-  pub each : Each c text
-  pub ends : Ends c (drop end bytes)
+  pub each : Each test text
+  pub ends : Ends test (drop end bytes)
 
 -- a literal, from one place to another
 pub record IsDecimalRun (bytes : List ℕ) (from end : ℕ) : Type 0 where
@@ -29,7 +34,7 @@ pub record IsDecimalRun (bytes : List ℕ) (from end : ℕ) : Type 0 where
   pub text : List ℕ
   pub len : length text + from ≡ end
   pub whole : drop from bytes ≡ text ++ drop end bytes
-  pub each : Each Digit text
+  pub each : Each is_digit text
   pub decimal : IsDecimal text
   pub longest : (extra others : List ℕ) → drop end bytes ≡ extra ++ others → IsDecimal (text ++ extra) → extra ≡ []
 

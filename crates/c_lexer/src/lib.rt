@@ -2,5 +2,7 @@
 #![tactic(auto)]
 
 pub mod scan;
+#[cfg(test)]
+mod tests;
 pub mod text;
 pub mod token;

@@ -5,7 +5,7 @@ ghost use Rattle.std.proofs.Common.{drop};
 ghost use Rattle.c_lexer.specs.Lexing as lexing;
 ghost use Rattle.c_lexer.specs.Lexing.{IsTokens};
 ghost use Rattle.c_lexer.specs.Answer.{Gives, HasOneAnswer};
-ghost use Rattle.c_lexer.specs.Scanning.{IsRun, IsDecimalRun, IsMark, HasNoMark, HasNoKeyword, IsPiece};
+ghost use Rattle.c_lexer.specs.Scanning.{test_of, IsRun, IsDecimalRun, IsMark, HasNoMark, HasNoKeyword, IsPiece};
 
 use crate::text::Text;
 use crate::token::{FirstError, Keyword, Punct, Token, TokenKind};
@@ -28,7 +28,7 @@ enum Piece {
 }
 
 fn is_in(class: Class, byte: u8) -> bool
-    ensures { result ≡ lexing.is_in class byte }
+    ensures { result ≡ test_of class byte }
 {
     match class {
         Class::NameByte => byte.is_ascii_alphanumeric() || byte == b'_',
@@ -51,7 +51,7 @@ fn is_letter(byte: u8) -> bool
 /// Where the bytes of a class end.
 fn run_end(class: Class, bytes: &[u8], from: usize) -> usize
     requires { from ≤ length bytes.now }
-    ensures { IsRun class bytes.now from result }
+    ensures { IsRun (test_of class) bytes.now from result }
 {
     let mut end = from;
     while end < bytes.len() && is_in(class, bytes[end]) {
@@ -84,7 +84,7 @@ fn mark_at(bytes: &[u8], at: usize) -> Option<(Punct, usize)>
 
 /// The value of digits, or none where it is no `i64`.
 fn value(digits: &[u8]) -> Option<i64>
-    requires { lexing.Each Class.Digit digits.now }
+    requires { lexing.Each lexing.is_digit digits.now }
     ensures some { IfSome result (λ n. (n ≡ pos (lexing.value_from 0 digits.now)) × (lexing.value_from 0 digits.now < 2 ^ 63)) }
     ensures none { IfNone result (2 ^ 63 ≤ lexing.value_from 0 digits.now) }
 {

@@ -1,4 +1,5 @@
 use Rattle.std.proofs.Common.{arith, sym, ◌∙◌}
+use Rattle.c_lexer.specs.Scanning.{test_of}
 use Rattle.c_lexer.proofs.Runs.{reached_more}
 use Rattle.c_lexer.proofs.scan.run_end.Goals as goal
 
@@ -8,5 +9,5 @@ loop-end-preserved c =
     record {
       later = omega (arith, i.later);
       within = omega arith;
-      reached = reached_more c.args.class c.args.bytes.now c.args.from c.loop-end.end c.loop-end-test.true (sym c.is_in.ensures ∙ c.if-is_in.true) i.reached;
+      reached = reached_more (test_of c.args.class) c.args.bytes.now c.args.from c.loop-end.end c.loop-end-test.true (sym c.is_in.ensures ∙ c.if-is_in.true) i.reached;
     }
