@@ -3,3 +3,4 @@ pub mod View
 pub mod Meaning
 pub mod WellFormed
 pub mod Laws
+pub mod Whole
