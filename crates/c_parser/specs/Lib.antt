@@ -1,0 +1,5 @@
+pub mod Form
+pub mod Rules
+pub mod Program
+pub mod Straight
+pub mod Answer
