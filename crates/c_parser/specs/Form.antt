@@ -49,5 +49,9 @@ abbrev pub spelled_heading : List TokenKind
 spelled_heading =
     kind.Word Int ∷ kind.Name (codes "main") ∷ kind.Mark punct.OpenParenthesis ∷ kind.Mark punct.CloseParenthesis ∷ kind.Mark punct.OpenBrace ∷ []
 
+-- what stands after the heading
+abbrev pub spelled_body : FirstForm → List TokenKind
+spelled_body f = spelled_statements f.statements ++ (spelled_result f.result ++ kind.Mark punct.CloseBrace ∷ [])
+
 abbrev pub spelled : FirstForm → List TokenKind
-spelled f = spelled_heading ++ (spelled_statements f.statements ++ (spelled_result f.result ++ kind.Mark punct.CloseBrace ∷ []))
+spelled f = spelled_heading ++ spelled_body f

@@ -1,4 +1,5 @@
 pub mod Form
+pub mod Machine
 pub mod Rules
 pub mod Program
 pub mod Straight
