@@ -1,5 +1,6 @@
 pub mod Form
 pub mod Machine
+pub mod Reading
 pub mod Rules
 pub mod Program
 pub mod Straight

@@ -3,3 +3,4 @@
 
 pub mod form;
 pub mod parse;
+mod read;
