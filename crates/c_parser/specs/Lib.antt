@@ -1,0 +1,7 @@
+pub mod Form
+pub mod Machine
+pub mod Reading
+pub mod Rules
+pub mod Program
+pub mod Straight
+pub mod Answer
