@@ -159,7 +159,7 @@ pub keyword_piece : (bytes : List ℕ) (at end : ℕ) (w : Keyword) → at < len
     take (end - at) (drop at bytes) ≡ keyword_text w → IsPiece (drop at bytes) (Token (Word w) (end - at))
 keyword_piece bytes at end w lt h r e = word_kind bytes at end (Word w) lt h r (λ text _ front. (sym front ∙ e, λ rest. tt))
 
--- the kinds of which a text with this first byte may be a token
+-- a reserved word that is not in use is no token
 word_alone : (k : TokenKind) (text : List ℕ) → IsWord text → is_reserved text ≡ true → HasNoKeyword text → IsToken k text → ⊥
 word_alone (Name name) text w q none t = let n : true ≡ false = sym q ∙ t.2 in cc
 word_alone (Literal n) [] w q none t = w
