@@ -1,0 +1,4 @@
+pub mod Steps
+pub mod Judged
+pub mod Completed
+pub mod Words
