@@ -1,2 +1,4 @@
+pub mod Bodies
 pub mod Complete
+pub mod Formed
 pub mod ReadSteps

@@ -49,8 +49,8 @@ is_straight_statements (statement s ss) = is_straight_statement s && is_straight
 
 abbrev pub is_straight_procedure : List PureProcedure → Bool
 is_straight_procedure [] = false
-is_straight_procedure (p ∷ []) = (p.params == 0) && is_straight_statements p.body
+is_straight_procedure (p ∷ []) = (p.params == 0) && p.gives && is_straight_statements p.body
 is_straight_procedure (p ∷ q ∷ qs) = false
 
 abbrev pub is_straight : PureProgram → Bool
-is_straight P = is_straight_procedure P.procedures
+is_straight P = (P.main == 0) && is_straight_procedure P.procedures
