@@ -254,3 +254,25 @@ fn assert_places(alloc: Global, tokens: &[Token]) -> Result<Vec<AssertPlace>, Al
         })
         .collect(alloc)
 }
+
+/// The program of a form within the limits.
+pub fn built(alloc: Global, form: &FirstForm, tokens: &[Token]) -> Result<Program, FirstError>
+    requires small { IsSmall form.now }
+    requires few_tokens { length tokens.now ≤ 4000 }
+    requires form { kinds tokens.now ≡ spelled form.now }
+    ensures ok { IfOk result (λ p. IsFirstForm tokens.now form.now × (program_of p ≡ program.first_program tokens.now form.now)) }
+    ensures err { IfErr result (λ e. Refuses e (InScope [] form.now.statements form.now.result → ⊥)) }
+{
+    let body = body(alloc, form)?;
+    let asserts = assert_places(alloc, tokens)?;
+    let main = Procedure {
+        name: String::from_str(alloc, "main")?,
+        params: 0,
+        slots: declared_count(form.statements.as_slice()) as u32,
+        gives: true,
+        body,
+    };
+    let mut procedures = Vec::new(alloc);
+    procedures.push(main)?;
+    Ok(Program::new(procedures, 0, asserts))
+}

@@ -23,10 +23,10 @@ returns-clause-ok c =
     let i = c.statements.invariant in
     let none : drop c.statements.statement-index c.as_slice-statement-items.result.now ≡ [] = drop_of_length-le c.as_slice-statement-items.result.now c.statements-test.false in
     elim c.match-form.branch [
-      in-Some+in_ok-sum_expression+in_ok-push-2 w ↦
+      | in-Some+in_ok-sum_expression+in_ok-push-2 w ↦
           let value : BuildsSum c.statements.names.items w.in-Some.value w.in_ok-sum_expression.field-0 =
           subst (λ l. BuildsSum l w.in-Some.value w.in_ok-sum_expression.field-0) w.deref-in-Some.ensures.value w.in_ok-sum_expression.ensures.ok in
           returned_some c.args.form.now c.statements.names.items c.statements.asserted c.statements.made.items c.match-form.made.items _ w.in-Some.value w.in_ok-sum_expression.field-0 w.returned.result
           i.through none w.in-Some.is value w.returned.ensures (ap (λ v. v.items) w.made-is ∙ w.in_ok-push-2.ensures.items)
-    | in_default w ↦ returned_none c.args.form.now c.statements.names.items c.statements.asserted c.statements.made.items c.match-form.made.items _ i.through none w.in_default.is (ap (λ v. v.items) w.made-is)
+      | in_default w ↦ returned_none c.args.form.now c.statements.names.items c.statements.asserted c.statements.made.items c.match-form.made.items _ i.through none w.in_default.is (ap (λ v. v.items) w.made-is)
     ]
