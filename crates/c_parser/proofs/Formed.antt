@@ -272,7 +272,7 @@ only_one : {X : Type 0} → (y : X) (i : ℕ) (x : X) → slice_get (y ∷ []) i
 only_one y zero x e = (refl, cc)
 only_one y (suc i) x e = absurd (cc)
 
-abbrev main_procedure : FirstForm → PureProcedure
+abbrev pub main_procedure : FirstForm → PureProcedure
 main_procedure f = record { name = codes "main"; params = 0; slots = length (declared f.statements); gives = true; body = first_body [] 0 f.statements f.result }
 
 main_sound : (tokens : List Token) (f : FirstForm) → IsFirstForm tokens f → is_sound_procedure (first_program tokens f) (main_procedure f) ≡ true
