@@ -1,0 +1,5 @@
+pub mod Runs
+pub mod Marks
+pub mod Pieces
+pub mod OneAnswer
+pub mod Loop

@@ -1,5 +1,5 @@
 -- The lexical rules, on whole texts.
-use Rattle.std.specs.Prelude.{◌≡◌, ℕ, ◌+◌, ◌-◌, ◌*◌, ◌^◌, ◌<◌, ◌≤◌, pos, List, [], ◌∷◌, ◌++◌, length, Result, Ok, Err, Bool, true, false, nat_le, ◌==◌, ◌&&◌, ◌||◌, ◌⊎◌, if◌then◌else◌, codes, bytes_eq}
+use Rattle.std.specs.Prelude.{◌≡◌, ℕ, ◌+◌, ◌-◌, ◌*◌, ◌^◌, ◌<◌, ◌≤◌, pos, List, [], ◌∷◌, ◌++◌, Result, Ok, Err, Bool, true, false, nat_le, ◌==◌, ◌&&◌, ◌||◌, ◌⊎◌, if◌then◌else◌, codes, bytes_eq}
 use Rattle.std.specs.List.{list_any}
 use Rattle.c_tree.specs.declared.tree.Pos.{Pos}
 use Rattle.c_lexer.specs.declared.token.Keyword.{Keyword}
@@ -9,8 +9,6 @@ use Rattle.c_lexer.specs.declared.token.Punct.TheVariants.{OpenParenthesis, Clos
 use Rattle.c_lexer.specs.declared.token.TokenKind.{TokenKind}
 use Rattle.c_lexer.specs.declared.token.TokenKind.TheVariants.{Name, Literal, Word, Mark}
 use Rattle.c_lexer.specs.declared.token.Token.{Token}
-use Rattle.c_lexer.specs.declared.scan.Class.{Class}
-use Rattle.c_lexer.specs.declared.scan.Class.TheVariants.{NameByte, Digit}
 
 -- the place after a byte, and after bytes: a line ends at a line feed, and columns count bytes
 abbrev pub after_byte : Pos → ℕ → Pos
@@ -33,19 +31,18 @@ is_digit b = nat_le 48 b && nat_le b 57
 abbrev pub is_letter : ℕ → Bool
 is_letter b = (nat_le 65 b && nat_le b 90) || (nat_le 97 b && nat_le b 122) || (b == 95)
 
-abbrev pub is_in : Class → ℕ → Bool
-is_in NameByte b = is_letter b || is_digit b
-is_in Digit b = is_digit b
+abbrev pub is_name_byte : ℕ → Bool
+is_name_byte b = is_letter b || is_digit b
 
--- each byte is of the class
-abbrev pub Each : Class → List ℕ → Type 0
-Each c [] = Unit {0}
-Each c (b ∷ bs) = (is_in c b ≡ true) × Each c bs
+-- each byte passes the test
+abbrev pub Each : (ℕ → Bool) → List ℕ → Type 0
+Each test [] = Unit {0}
+Each test (b ∷ bs) = (test b ≡ true) × Each test bs
 
--- the first byte is not of the class
-abbrev pub Ends : Class → List ℕ → Type 0
-Ends c [] = Unit {0}
-Ends c (b ∷ bs) = is_in c b ≡ false
+-- the first byte, if there is one, doesn't pass the test
+abbrev pub Ends : (ℕ → Bool) → List ℕ → Type 0
+Ends test [] = Unit {0}
+Ends test (b ∷ bs) = test b ≡ false
 
 -- the reserved words of the whole language
 abbrev pub reserved : List (List ℕ)
@@ -55,7 +52,7 @@ reserved = codes "int" ∷ codes "long" ∷ codes "void" ∷ codes "extern" ∷ 
     ∷ codes "_Alignas" ∷ codes "_Alignof" ∷ codes "_Atomic" ∷ codes "_Bool" ∷ codes "_Complex" ∷ codes "_Generic" ∷ codes "_Imaginary" ∷ codes "_Noreturn" ∷ codes "_Static_assert" ∷ codes "_Thread_local" ∷ []
 
 abbrev pub is_reserved : List ℕ → Bool
-is_reserved text = list_any (λ word. bytes_eq text word) reserved
+is_reserved text = list_any (λ word. bytes_eq word text) reserved
 
 -- the marks of the whole language
 abbrev pub marks : List (List ℕ)
@@ -63,18 +60,18 @@ marks = codes "(" ∷ codes ")" ∷ codes "{" ∷ codes "}" ∷ codes ";" ∷ co
     ∷ codes "==" ∷ codes "!=" ∷ codes "&&" ∷ codes "||" ∷ codes "+=" ∷ codes "-=" ∷ codes "*=" ∷ codes "++" ∷ codes "--" ∷ []
 
 abbrev pub is_mark : List ℕ → Bool
-is_mark text = list_any (λ mark. bytes_eq text mark) marks
+is_mark text = list_any (λ mark. bytes_eq mark text) marks
 
 -- a letter, and letters and digits: a name or a reserved word
 abbrev pub IsWord : List ℕ → Type 0
 IsWord [] = ⊥
-IsWord (b ∷ bs) = (is_letter b ≡ true) × Each NameByte bs
+IsWord (b ∷ bs) = (is_letter b ≡ true) × Each is_name_byte bs
 
 -- `0`, or a digit that isn't `0` and digits
 abbrev pub IsDecimal : List ℕ → Type 0
 IsDecimal [] = ⊥
 IsDecimal (b ∷ []) = is_digit b ≡ true
-IsDecimal (b ∷ c ∷ bs) = (is_digit b ≡ true) × (b ≡ 48 → ⊥) × Each Digit (c ∷ bs)
+IsDecimal (b ∷ c ∷ bs) = (is_digit b ≡ true) × (b ≡ 48 → ⊥) × Each is_digit (c ∷ bs)
 
 abbrev pub value_from : ℕ → List ℕ → ℕ
 value_from n [] = n
@@ -113,7 +110,7 @@ IsToken (Mark m) text = text ≡ mark_text m
 -- what may stand right after a token
 abbrev pub Parts : TokenKind → List ℕ → Type 0
 Parts (Name name) rest = Unit {0}
-Parts (Literal n) rest = Ends NameByte rest
+Parts (Literal n) rest = Ends is_name_byte rest
 Parts (Word w) rest = Unit {0}
 Parts (Mark m) rest = Unit {0}
 
@@ -136,9 +133,9 @@ pub data IsLexed : Pos → List ℕ → Result (List Token) Fault → Type 0 whe
   blank : {p : Pos} {b : ℕ} {bytes : List ℕ} {r : Result (List Token) Fault} → is_blank b ≡ true → IsLexed (after_byte p b) bytes r → IsLexed p (b ∷ bytes) r
   token : {p : Pos} {r : Result (List Token) Fault} → (k : TokenKind) (text rest : List ℕ) → IsToken k text → IsLongest text rest → Parts k rest →
       IsLexed (after p text) rest r → IsLexed p (text ++ rest) (with_token (record { kind = k; at = p }) r)
-  wide : {p : Pos} → (text rest : List ℕ) → IsDecimal text → IsLongest text rest → Ends NameByte rest → 2 ^ 63 ≤ value_from 0 text →
+  wide : {p : Pos} → (text rest : List ℕ) → IsDecimal text → IsLongest text rest → Ends is_name_byte rest → 2 ^ 63 ≤ value_from 0 text →
       IsLexed p (text ++ rest) (Err (too_wide p))
-  glued : {p : Pos} → (b : ℕ) (text rest : List ℕ) → IsDecimal text → IsLongest text (b ∷ rest) → is_in NameByte b ≡ true →
+  glued : {p : Pos} → (b : ℕ) (text rest : List ℕ) → IsDecimal text → IsLongest text (b ∷ rest) → is_name_byte b ≡ true →
       IsLexed p (text ++ b ∷ rest) (Err (bad_byte (after p text)))
   bad : {p : Pos} {b : ℕ} {bytes : List ℕ} → is_blank b ≡ false → is_digit b ≡ false → HasNoToken (b ∷ bytes) → IsLexed p (b ∷ bytes) (Err (bad_byte p))
 

@@ -1,4 +1,4 @@
--- What contracts see of a whole program of the code.
+-- What contracts see of a program.
 use Rattle.c_tree.specs.declared.tree.Program.{Program}
 use Rattle.c_tree.specs.Syntax.{PureProgram}
 use Rattle.c_tree.specs.View.{program_from}
