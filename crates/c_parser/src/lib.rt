@@ -6,3 +6,5 @@ pub mod form;
 mod made;
 pub mod parse;
 mod read;
+#[cfg(test)]
+mod tests;
