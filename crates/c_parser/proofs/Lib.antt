@@ -1,2 +1,5 @@
+pub mod Bodies
 pub mod Complete
+pub mod Formed
 pub mod ReadSteps
+pub mod Whole
