@@ -1,9 +1,9 @@
 -- Lists of statements, and the bodies that they come to.
-use Rattle.std.proofs.Common.{◌≡◌, ◌∙◌, ap, sym, subst, refl, ℕ, zero, suc, ◌+◌, ◌<◌, List, [], ◌∷◌, ◌++◌, Option, Some, None, drop, length, get_or, length-append, add-one, arith}
+use Rattle.std.proofs.Common.{◌≡◌, ◌∙◌, ap, sym, subst, refl, ℕ, suc, ◌+◌, ◌<◌, List, [], ◌∷◌, ◌++◌, Some, None, drop, length, get_or, length-append, add-one, arith}
 use Rattle.std.proofs.Math.Seq.{drop-cons}
 use Rattle.c_tree.specs.declared.tree.Stmt.{Stmt}
 use Rattle.c_tree.specs.declared.tree.Expr.{Expr}
-use Rattle.c_tree.specs.Syntax.{Statement, return, Statements, no_statements, statement}
+use Rattle.c_tree.specs.Syntax.{return, Statements, no_statements, statement}
 use Rattle.c_tree.specs.View.{expression_of, statement_of, statements_of}
 use Rattle.c_parser.specs.declared.form.FirstSum.{FirstSum}
 use Rattle.c_parser.specs.declared.form.FirstStatement.{FirstStatement}

@@ -1,5 +1,5 @@
 -- What is spelled is read.
-use Rattle.std.proofs.Common.{◌≡◌, ◌∙◌, ap, sym, refl, ℕ, List, [], ◌∷◌, ◌++◌, Option, Some, None, append_assoc}
+use Rattle.std.proofs.Common.{◌≡◌, ◌∙◌, ap, sym, refl, List, [], ◌∷◌, ◌++◌, Option, Some, None, append_assoc}
 use Rattle.std.proofs.lemmas.List.{append-nil}
 use Rattle.std.proofs.Math.Seq.{append_snoc}
 use Rattle.c_lexer.specs.declared.token.Punct.TheVariants as punct
@@ -15,7 +15,7 @@ use Rattle.c_parser.specs.declared.form.FirstStatement.{FirstStatement}
 use Rattle.c_parser.specs.declared.form.FirstStatement.TheVariants.{Declare, Assign, Assert}
 use Rattle.c_parser.specs.declared.form.FirstForm.{FirstForm}
 use Rattle.c_parser.specs.Form.{spelled_atom, spelled_sign, spelled_more, spelled_sum, spelled_statement, spelled_statements, spelled_result, spelled_body, spelled}
-use Rattle.c_parser.specs.Machine.{Purpose, Declaring, Assigning, Left, Right, Returning, State, Body, Expect, First, Have, Signed, Whole, run, ending, after_sum, with_operand}
+use Rattle.c_parser.specs.Machine.{Purpose, Declaring, Assigning, Left, Right, Returning, Body, First, Have, Signed, run, ending, after_sum, with_operand}
 
 pub operand_leads : (p : Purpose) (s : FirstSum) (sign : Sign) (atom : FirstAtom) (rest : List TokenKind) → run (spelled_atom atom ∷ rest) (Signed p s sign) ≡ run rest (Have p (with_operand s sign atom))
 operand_leads p s sign (Literal n) rest = refl

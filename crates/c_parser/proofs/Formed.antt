@@ -1,5 +1,5 @@
 -- The program of a form keeps what every program keeps, and runs straight to its end.
-use Rattle.std.proofs.Common.{◌≡◌, ◌∙◌, ap, sym, subst, refl, ℕ, zero, suc, ◌+◌, ◌*◌, ◌<◌, ◌≤◌, ◌==◌, ◌&&◌, List, [], ◌∷◌, ◌++◌, Bool, true, false, cond, Option, Some, None, length, map, arith, length-append, append_assoc}
+use Rattle.std.proofs.Common.{◌≡◌, ◌∙◌, ap, sym, subst, refl, ℕ, zero, suc, ◌+◌, ◌<◌, ◌≤◌, ◌==◌, ◌&&◌, List, [], ◌∷◌, ◌++◌, Bool, true, false, cond, Option, Some, None, length, map, arith, length-append, append_assoc}
 use Rattle.std.proofs.lemmas.Bool.{lt-ltb, le-leb, eqb-true, eq-eqb}
 use Rattle.std.proofs.lemmas.List.{length-map}
 use Rattle.std.proofs.lemmas.List.Sums.{sum_by-cons}
@@ -7,7 +7,7 @@ use Rattle.std.proofs.lemmas.Slice.Eq.{bytes_eq-Decides}
 use Rattle.std.specs.Prelude.{codes, bytes_eq, nat_lt, nat_le, slice_get, unwrap_or, filter, count_by, IsSome, IsNone, IsTrue, is_some, if◌then◌else◌}
 use Rattle.std.specs.List.{position_from}
 use Rattle.c_tree.specs.declared.tree.AssertPlace.{AssertPlace}
-use Rattle.c_tree.specs.Syntax.{Expression, Statement, Statements, PureProcedure, PureProgram, binary}
+use Rattle.c_tree.specs.Syntax.{Expression, PureProcedure, PureProgram, binary}
 use Rattle.c_tree.specs.WellFormed.{IsWellFormed, is_sound, runs_sound, all_sound, is_sound_procedure, nodes, statement_nodes, statements_nodes, asserted_in}
 use Rattle.c_lexer.specs.declared.token.Punct.TheVariants as punct
 use Rattle.c_lexer.specs.declared.token.TokenKind.{TokenKind}
@@ -22,7 +22,7 @@ use Rattle.c_parser.specs.declared.form.FirstSum.{FirstSum}
 use Rattle.c_parser.specs.declared.form.FirstStatement.{FirstStatement}
 use Rattle.c_parser.specs.declared.form.FirstStatement.TheVariants.{Declare, Assign, Assert}
 use Rattle.c_parser.specs.declared.form.FirstForm.{FirstForm}
-use Rattle.c_parser.specs.Form.{spelled_atom, spelled_sign, spelled_more, spelled_sum, spelled_statement, spelled_statements, spelled_result, spelled_body, spelled}
+use Rattle.c_parser.specs.Form.{spelled_atom, spelled_sign, spelled_more, spelled_sum, spelled_statement, spelled_statements, spelled_result, spelled}
 use Rattle.c_parser.specs.Rules.{place, kept_names, KnowsAtom, KnowsMore, UsesOnly, IsAllowed, InScope, ReturnsOnly, known_after, declared, assertion_count, kinds, IsFirstForm}
 use Rattle.c_parser.specs.Program.{slot, op_of, atom_expression, grouped, sum_expression, first_statement, asserted_after, first_result, first_body, is_assert, assert_places, first_program}
 use Rattle.c_parser.specs.Straight.{is_straight, is_straight_op, is_straight_expression, is_straight_statement, is_straight_statements}

@@ -1,6 +1,6 @@
 -- What can't be read, and how what was read is spelled.
-use Rattle.std.proofs.Common.{◌≡◌, ◌∙◌, ap, sym, subst, refl, ℕ, zero, suc, ◌+◌, ◌<◌, ◌==◌, List, [], ◌∷◌, ◌++◌, Bool, true, false, Option, Some, None, append_assoc, arith, eqb-true, length}
-use Rattle.std.specs.Prelude.{codes, bytes_eq, if◌then◌else◌, ◌⊎◌}
+use Rattle.std.proofs.Common.{◌≡◌, ◌∙◌, ap, sym, subst, refl, ℕ, zero, suc, ◌<◌, ◌==◌, List, [], ◌∷◌, ◌++◌, Bool, true, false, Option, Some, None, append_assoc, arith, eqb-true, length}
+use Rattle.std.specs.Prelude.{codes, bytes_eq, if◌then◌else◌}
 use Rattle.c_lexer.specs.declared.token.Keyword.TheVariants.{Int, Return}
 use Rattle.c_lexer.specs.declared.token.Punct.{Punct}
 use Rattle.c_lexer.specs.declared.token.Punct.TheVariants as punct
@@ -11,14 +11,14 @@ use Rattle.c_parser.specs.declared.form.FirstAtom.{FirstAtom}
 use Rattle.c_parser.specs.declared.form.SignedAtom.{SignedAtom}
 use Rattle.c_parser.specs.declared.form.FirstSum.{FirstSum}
 use Rattle.c_parser.specs.declared.form.FirstStatement.{FirstStatement}
-use Rattle.c_parser.specs.declared.form.FirstStatement.TheVariants.{Declare, Assign, Assert}
+use Rattle.c_parser.specs.declared.form.FirstStatement.TheVariants.{Assert}
 use Rattle.c_parser.specs.declared.form.FirstForm.{FirstForm}
-use Rattle.c_parser.specs.Form.{spelled_atom, spelled_sign, spelled_more, spelled_sum, spelled_statement, spelled_statements, spelled_result, spelled_heading, spelled_body, spelled}
-use Rattle.c_parser.specs.Machine.{Purpose, Declaring, Assigning, Left, Right, Returning, State, Body, Naming, Named, Expect, First, Have, Signed, Whole, run, ending, after_sum, expected, mark_number}
+use Rattle.c_parser.specs.Form.{spelled_atom, spelled_sign, spelled_more, spelled_sum, spelled_statement, spelled_statements, spelled_result, spelled_heading, spelled_body}
+use Rattle.c_parser.specs.Machine.{Purpose, Assigning, Left, Right, Returning, State, Body, Expect, First, Have, Signed, Whole, run, ending, after_sum, expected, mark_number}
 use Rattle.c_lexer.specs.declared.token.Token.{Token}
 use Rattle.c_lexer.specs.declared.token.FirstError.{FirstError}
 use Rattle.c_lexer.specs.declared.token.FirstError.TheVariants.{Syntax, Unbuilt, Memory}
-use Rattle.c_parser.specs.Reading.{left, Refuses, ReadsStatement, ReadsRest, Lacks, NoName, NoAtom, NoSign, NoStatement, FailsSum, FailsClosed, FailsValue, FailsDeclaration, FailsNamed, FailsAssertion, FailsBody, FailsForm}
+use Rattle.c_parser.specs.Reading.{left, Refuses, ReadsStatement, ReadsRest, Lacks, NoAtom, NoSign, NoStatement, FailsSum, FailsClosed, FailsValue, FailsNamed, FailsAssertion, FailsBody, FailsForm}
 use Rattle.c_parser.proofs.Complete.{signed_leads, sum_leads, closed_leads, statements_lead, complete}
 
 mark_of : ℕ → Punct

@@ -1,5 +1,5 @@
 -- From the form that was read to the answer.
-use Rattle.std.proofs.Common.{◌≡◌, ◌∙◌, ap, sym, subst, refl, ℕ, List, [], ◌∷◌, ◌++◌, Bool, true, Option, Some, None, length, Result, Ok, Err}
+use Rattle.std.proofs.Common.{◌≡◌, ◌∙◌, ap, sym, subst, refl, ℕ, List, [], ◌∷◌, ◌++◌, Bool, true, length, Result, Ok, Err}
 use Rattle.std.specs.Prelude.{codes, string_bytes, IfOk, IfErr, IsTrue}
 use Rattle.c_tree.specs.declared.tree.AssertPlace.{AssertPlace}
 use Rattle.c_tree.specs.declared.tree.Procedure.{Procedure}

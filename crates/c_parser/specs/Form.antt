@@ -1,5 +1,5 @@
 -- The one spelling of a text of the first form.
-use Rattle.std.specs.Prelude.{ℕ, List, [], ◌∷◌, ◌++◌, Option, Some, None, codes}
+use Rattle.std.specs.Prelude.{List, [], ◌∷◌, ◌++◌, Option, Some, None, codes}
 use Rattle.c_lexer.specs.declared.token.Keyword.TheVariants.{Int, Return}
 use Rattle.c_lexer.specs.declared.token.Punct.TheVariants as punct
 use Rattle.c_lexer.specs.declared.token.TokenKind.{TokenKind}

@@ -1,5 +1,5 @@
 -- What a reader of the body's tokens, one after another, waits for.
-use Rattle.std.specs.Prelude.{◌≡◌, ℕ, List, [], ◌∷◌, ◌++◌, Bool, true, false, ◌==◌, if◌then◌else◌, Option, Some, None, codes, bytes_eq}
+use Rattle.std.specs.Prelude.{ℕ, List, [], ◌∷◌, ◌++◌, ◌==◌, if◌then◌else◌, Option, Some, None, codes, bytes_eq}
 use Rattle.c_lexer.specs.declared.token.Keyword.{Keyword}
 use Rattle.c_lexer.specs.declared.token.Keyword.TheVariants.{Int, Return}
 use Rattle.c_lexer.specs.declared.token.Punct.{Punct}
@@ -10,7 +10,6 @@ use Rattle.c_parser.specs.declared.form.Sign.{Sign}
 use Rattle.c_parser.specs.declared.form.Sign.TheVariants.{Plus, Minus}
 use Rattle.c_parser.specs.declared.form.FirstAtom.{FirstAtom}
 use Rattle.c_parser.specs.declared.form.FirstAtom.TheVariants.{Literal, Name}
-use Rattle.c_parser.specs.declared.form.SignedAtom.{SignedAtom}
 use Rattle.c_parser.specs.declared.form.FirstSum.{FirstSum}
 use Rattle.c_parser.specs.declared.form.FirstStatement.{FirstStatement}
 use Rattle.c_parser.specs.declared.form.FirstStatement.TheVariants.{Declare, Assign, Assert}

@@ -1,5 +1,5 @@
 -- What the functions that read tokens answer.
-use Rattle.std.specs.Prelude.{◌≡◌, ℕ, ◌+◌, ◌<◌, ◌≤◌, List, [], ◌∷◌, ◌++◌, length, Option, Some, None, codes}
+use Rattle.std.specs.Prelude.{◌≡◌, ℕ, ◌+◌, ◌<◌, ◌≤◌, List, [], ◌∷◌, ◌++◌, length, Option, Some, None}
 use Rattle.std.proofs.Common.{drop}
 use Rattle.c_lexer.specs.declared.token.Keyword.TheVariants.{Int, Return}
 use Rattle.c_lexer.specs.declared.token.Punct.{Punct}
@@ -14,7 +14,7 @@ use Rattle.c_parser.specs.declared.form.FirstStatement.{FirstStatement}
 use Rattle.c_parser.specs.declared.form.FirstForm.{FirstForm}
 use Rattle.c_parser.specs.Rules.{kinds}
 use Rattle.c_parser.specs.Form.{spelled_sum, spelled_statement, spelled_result, spelled}
-use Rattle.c_parser.specs.Machine.{Purpose, Assigning, Left, Named, State, Body, Naming, Expect, First, ending, run}
+use Rattle.c_parser.specs.Machine.{Purpose, Left, Named, Body, Naming, Expect, First, ending, run}
 
 -- the tokens from a place on
 abbrev pub left : List Token → ℕ → List TokenKind

@@ -1,9 +1,8 @@
 //! From a form to its program, by the rules.
 
-ghost use Rattle.std.specs.Prelude.{◌≡◌, ◌≤◌, ◌<◌, [], length, map, filter, Some, IfOk, IfErr, IfSome, OnOk, IsSome, is_some, nat_le};
+ghost use Rattle.std.specs.Prelude.{◌≡◌, ◌≤◌, ◌<◌, [], length, Some, IfOk, IfErr, IfSome, OnOk, IsSome, IsNone, is_some, nat_le};
 ghost use Rattle.std.specs.Bool.{OnTrue, OnFalse};
 ghost use Rattle.c_tree.specs.Whole.{program_of};
-ghost use Rattle.c_tree.specs.View.{program_from};
 ghost use Rattle.c_parser.specs.Rules as rules;
 ghost use Rattle.c_parser.specs.Rules.{KnowsAtom, UsesOnly, IsAllowed, InScope, HasFewOperators, IsFirstForm, kinds};
 ghost use Rattle.c_parser.specs.Form.{spelled};
@@ -146,22 +145,12 @@ fn sum_expression(alloc: Global, names: &[Text], sum: &FirstSum) -> Result<Expr,
     Ok(left)
 }
 
-/// What a declaration sets.
-fn declaration(
-    alloc: Global,
-    names: &[Text],
-    asserted: u32,
-    name: &Text,
-    value: &FirstSum,
-) -> Result<Stmt, FirstError>
-    requires { length names.now ≤ 24 }
-    ensures ok { IfOk result (BuildsStatement names.now asserted (FirstStatement.Declare name.now value.now)) }
-    ensures err { IfErr result (λ e. Refuses e (IsAllowed names.now (FirstStatement.Declare name.now value.now) → ⊥)) }
+/// Whether a name may be declared.
+fn is_new(names: &[Text], name: &Text) -> bool
+    ensures yes { OnTrue result (IsNone (rules.place names.now name.now) × IsNone (rules.place rules.kept_names name.now)) }
+    ensures no { OnFalse result (IsNone (rules.place names.now name.now) × IsNone (rules.place rules.kept_names name.now) → ⊥) }
 {
-    if is_kept(name) || place(names, name).is_some() {
-        return Err(FirstError::Unbuilt);
-    }
-    Ok(made::set(names.len() as u32, sum_expression(alloc, names, value)?))
+    place(names, name).is_none() && !is_kept(name)
 }
 
 fn built_statement(
@@ -175,7 +164,12 @@ fn built_statement(
     ensures err { IfErr result (λ e. Refuses e (IsAllowed names.now statement.now → ⊥)) }
 {
     match statement {
-        FirstStatement::Declare(name, value) => { declaration(alloc, names, asserted, name, value) }
+        FirstStatement::Declare(name, value) => {
+            if !is_new(names, name) {
+                return Err(FirstError::Unbuilt);
+            }
+            Ok(made::set(names.len() as u32, sum_expression(alloc, names, value)?))
+        }
         FirstStatement::Assign(name, value) => {
             let slot = slot(names, name)?;
             Ok(made::set(slot, sum_expression(alloc, names, value)?))

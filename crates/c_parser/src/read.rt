@@ -22,10 +22,7 @@ fn kind_at(tokens: &[Token], at: usize) -> Option<&TokenKind>
     ensures some { IfSome result (λ k. Stands tokens.now at k.now) }
     ensures none { IfNone result (left tokens.now at ≡ []) }
 {
-    match tokens.get(at) {
-        Some(token) => Some(&token.kind),
-        None => None,
-    }
+    Some(&tokens.get(at)?.kind)
 }
 
 fn same_mark(a: Punct, b: Punct) -> bool

@@ -1,7 +1,6 @@
-use Rattle.std.proofs.Common.{◌≡◌, ◌+◌, [], ◌∷◌, drop, get_or, subst, ap, ◌∙◌}
+use Rattle.std.proofs.Common.{◌≡◌, [], drop, subst, ap, ◌∙◌}
 use Rattle.c_parser.specs.Building.{BuildsSum, BuildsStatement}
 use Rattle.std.proofs.Math.ListN.{drop_of_length-le}
-use Rattle.c_parser.specs.declared.form.FirstStatement.{FirstStatement}
 use Rattle.c_parser.proofs.Bodies.{item_first, through_more, returned_none, returned_some}
 use Rattle.c_parser.proofs.build.body.Goals as goal
 use Rattle.c_parser.proofs.build.body.Goals.{in-Some+in_ok-sum_expression+in_ok-push-2, in_default}

@@ -1,4 +1,4 @@
-use Rattle.std.proofs.Common.{◌≡◌, ◌+◌, Some, None, arith}
+use Rattle.std.proofs.Common.{◌≡◌, ◌+◌, Some, arith}
 use Rattle.c_parser.specs.Reading.{left, NoStatement}
 use Rattle.std.proofs.lemmas.Result.{err_from_is_err_and}
 use Rattle.c_parser.proofs.ReadSteps.{refuses_so, rest_fails, statement_read, brace_fails, behind_fails, some_left, some_statement, no_statement}

@@ -1,4 +1,4 @@
-use Rattle.std.proofs.Common.{◌≡◌, ◌-◌, ◌∷◌, ◌++◌, ◌<◌, ◌≤◌, length}
+use Rattle.std.proofs.Common.{◌≡◌, ◌-◌, ◌++◌, ◌≤◌, length}
 use Rattle.c_parser.specs.Form.{spelled_statements}
 use Rattle.c_parser.specs.Reading.{left}
 use Rattle.c_parser.proofs.read.body.Given as goal

@@ -1,5 +1,5 @@
 use Rattle.std.proofs.lemmas.Result.{err_from_is_err_and}
-use Rattle.std.proofs.Common.{◌≡◌, true, rules}
+use Rattle.std.proofs.Common.{◌≡◌, true}
 use Rattle.std.specs.Prelude.{codes, bytes_eq}
 use Rattle.c_lexer.specs.declared.token.Punct.TheVariants as punct
 use Rattle.c_lexer.specs.declared.token.TokenKind.TheVariants as kind
