@@ -4,3 +4,7 @@ pub mod Meaning
 pub mod WellFormed
 pub mod Laws
 pub mod Whole
+pub mod SourceTree
+pub mod SourceView
+pub mod FileView
+pub mod SourceNodes
