@@ -1,5 +1,5 @@
 -- What contracts see of expressions and statements in the syntax trees of the code.
-use Rattle.std.specs.Prelude.{ℕ, List, [], ◌∷◌, map, Option, Some, None, string_bytes}
+use Rattle.std.specs.Prelude.{List, [], ◌∷◌, map, Option, Some, None, string_bytes}
 use Rattle.c_tree.specs.declared.syntax_tree.Named.{Named}
 use Rattle.c_tree.specs.declared.syntax_tree.Declared.{Declared}
 use Rattle.c_tree.specs.declared.syntax_tree.ForFirst.{ForFirst}

@@ -1,18 +1,15 @@
 -- Where nothing fails, a source of the first form is answered by its report.
-use Rattle.std.proofs.Common.{◌≡◌, ◌⊎◌, ℕ, ◌+◌, ◌<◌, ◌≤◌, List, [], ◌∷◌, ◌++◌, length, Bool, true, false, cond, Option, Some, None, refl, sym, ap, ◌∙◌, subst, arith, append-nil, length-append}
+use Rattle.std.proofs.Common.{◌≡◌, ◌⊎◌, ℕ, ◌≤◌, List, ◌++◌, length, Bool, true, false, cond, Option, Some, None, sym, ap, ◌∙◌, subst, arith, append-nil, length-append}
 use Rattle.std.specs.Io.KnownBytes.{Consumes, IsAtEnd}
 use mathlib.Core.Logic.{inl, inr}
-use Rattle.outer_io.specs.Causes.{Took}
-use Rattle.c_lexer.specs.declared.token.Token.{Token}
 use Rattle.c_lexer.specs.Lexing.{IsTokens}
 use Rattle.c_lexer.proofs.OneAnswer.{one_list}
-use Rattle.c_parser.specs.declared.form.FirstForm.{FirstForm}
 use Rattle.c_parser.specs.Rules.{IsFirstForm}
 use Rattle.smash_main.specs.declared.report.Verdict.{Verdict}
 use Rattle.smash_main.specs.Report.{status_of, is_found}
 use Rattle.std.specs.List.{list_any}
-use Rattle.smash_main.specs.Source.{IsUnreadable, IsUnbuilt, IsChecked, AsksFor}
-use Rattle.smash_main.specs.Run.{Change, HasFault, Ends, IsWhole, EndsWhole, EndsTooLong, EndsFaulty, EndsEmpty, Checks, Completes}
+use Rattle.smash_main.specs.Source.{AsksFor}
+use Rattle.smash_main.specs.Run.{Change, Ends, Checks, Completes}
 
 -- what was read whole is all that there was
 whole : (before after : Option (List ℕ)) (all bytes : List ℕ) → before ≡ Some all → Consumes before after bytes → IsAtEnd after → bytes ≡ all

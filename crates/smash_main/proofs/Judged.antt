@@ -1,7 +1,6 @@
 -- The one run of a program without inputs gives the verdicts of its assertions.
-use Rattle.std.proofs.Common.{◌≡◌, ◌≢◌, ◌⊎◌, ℕ, ◌+◌, ◌<◌, ◌==◌, cond, List, [], ◌∷◌, length, map, Bool, true, false, Option, Some, None, ℤ, pos, refl, sym, ap, ◌∙◌, subst, arith, get_or, ◌≤◌, zero-add}
-use Rattle.std.specs.Prelude.{slice_get, ◌↔◌, if◌then◌else◌}
-use Rattle.std.specs.List.{range_with_len}
+use Rattle.std.proofs.Common.{◌≡◌, ◌≢◌, ◌⊎◌, ℕ, ◌<◌, ◌==◌, cond, List, [], length, true, false, Some, None, ℤ, refl, sym, ap, ◌∙◌, subst, arith, get_or, ◌≤◌, zero-add}
+use Rattle.std.specs.Prelude.{slice_get}
 use Rattle.std.proofs.lemmas.Bool.Decides.{eqb_tells}
 use Rattle.std.proofs.lemmas.Option.{slice_get_cases, get_or_from_slice_get}
 use Rattle.std.proofs.lemmas.List.FromFn.{length-map-range_with_len, get_or-map-range_with_len}

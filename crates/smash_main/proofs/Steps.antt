@@ -13,7 +13,7 @@ use Rattle.c_tree.specs.declared.tree.Stmt.{Stmt}
 use Rattle.c_tree.specs.declared.tree.Stmt.TheVariants.{Return}
 use Rattle.c_tree.specs.declared.tree.Expr.{Expr}
 use Rattle.smash_main.specs.declared.evaluate.Executed.{Executed}
-use Rattle.smash_main.specs.Sets.{sets_below, all_set_below}
+use Rattle.smash_main.specs.Sets.{all_set_below}
 use Rattle.std.specs.Prelude.{slice_get}
 use Rattle.c_tree.specs.WellFormed.{IsWellFormed, all_sound}
 use Rattle.c_tree.specs.declared.tree.Procedure.{Procedure}
@@ -28,7 +28,7 @@ use Rattle.std.proofs.Math.Seq.{drop-cons}
 use Rattle.std.proofs.Math.ListN.{get_or-eq_default}
 use Rattle.std.proofs.lemmas.List.{get_or-replicate, length-replicate}
 use Rattle.c_tree.specs.Syntax.{Expression, binary, set as set_slot, assert, return, block, ignore, assume, if_else, loop, do_while, break, continue, Statement, Statements, no_statements, statement, PureProcedure, PureProgram}
-use Rattle.c_tree.specs.Meaning.{State, World, Progress, goes, ends, stopped, Flow, normal, returned, failed, Choice, Gives, Ends, Then, decided, is_zero, Applied, RightSide, Eval, Exec, Execs, Enters, Run, UnlessZero, returned_value, entered, with_slot}
+use Rattle.c_tree.specs.Meaning.{State, World, Progress, goes, ends, stopped, normal, returned, failed, Choice, Gives, Ends, Then, decided, is_zero, Applied, RightSide, Eval, Exec, Execs, Enters, Run, returned_value, entered, with_slot}
 use Rattle.c_parser.specs.Straight.{is_straight_op, is_straight_expression, is_straight_statements, is_straight}
 
 not_decided : (op : Op) (z : Bool) → IsTrue (is_straight_op op) → None ≡ decided op z

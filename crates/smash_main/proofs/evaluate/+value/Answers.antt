@@ -1,7 +1,7 @@
-use Rattle.std.proofs.Common.{◌≡◌, ℤ, Some, None, IsTrue, false, ap, ◌∙◌, sym, subst, rules, w64, FitsSigned, to_z, of_z}
+use Rattle.std.proofs.Common.{IsTrue, false, ap, ◌∙◌, sym, subst, rules, w64, FitsSigned, to_z, of_z}
 use Rattle.std.proofs.Math.Facts.{to_z-of_z}
-use Rattle.c_tree.specs.Syntax.{Expression, binary}
-use Rattle.c_tree.specs.Meaning.{Applied, Eval, Run, entered, goes, ends, stopped}
+use Rattle.c_tree.specs.Syntax.{binary}
+use Rattle.c_tree.specs.Meaning.{Applied, Eval, Run, entered, ends, stopped}
 use Rattle.c_tree.specs.View.{expression_of}
 use Rattle.c_parser.specs.Straight.{is_straight_expression}
 use Rattle.smash_main.specs.Evaluation.{evaluated}

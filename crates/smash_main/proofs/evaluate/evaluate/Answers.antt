@@ -1,4 +1,4 @@
-use Rattle.std.proofs.Common.{IsTrue, ap, sym, subst}
+use Rattle.std.proofs.Common.{IsTrue, sym, subst}
 use Rattle.std.proofs.lemmas.Result.{IfOk-weaker}
 use Rattle.c_tree.specs.View.{statements_of, procedure_of}
 use Rattle.c_tree.specs.Whole.{program_of}

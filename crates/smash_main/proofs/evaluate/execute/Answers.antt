@@ -1,6 +1,6 @@
-use Rattle.std.proofs.Common.{◌≡◌, ◌<◌, ◌∙◌, ℤ, Some, IsTrue, true, false, pos, length, set, ap, sym, subst, rules, w64, FitsSigned, to_z, of_z, refl}
+use Rattle.std.proofs.Common.{◌≡◌, ◌<◌, ◌∙◌, IsTrue, true, false, length, set, ap, sym, subst, rules, w64, FitsSigned, to_z, of_z}
 use Rattle.std.proofs.Math.Facts.{to_z-of_z}
-use Rattle.c_tree.specs.Syntax.{set as set_slot, assert, return}
+use Rattle.c_tree.specs.Syntax.{return}
 use Rattle.c_tree.specs.Meaning.{Exec, Run, entered, goes, ends, stopped, failed, normal, is_zero, with_slot}
 use Rattle.c_tree.specs.View.{expression_of, statement_of, optional_expression}
 use Rattle.smash_main.specs.Sets.{sets_below}

@@ -1,4 +1,4 @@
-use Rattle.std.proofs.Common.{◌≡◌, IsTrue, length, drop}
+use Rattle.std.proofs.Common.{IsTrue, length, drop}
 use Rattle.c_tree.specs.Syntax.{PureProgram}
 use Rattle.c_tree.specs.Meaning.{World, entered}
 use Rattle.c_tree.specs.View.{statements_of}

@@ -1,4 +1,4 @@
-use Rattle.std.proofs.Common.{ℤ, Some, false, ap, sym, subst, rules, w64, FitsSigned, to_z, of_z}
+use Rattle.std.proofs.Common.{false, sym, subst, rules, w64, FitsSigned}
 use Rattle.std.proofs.Math.Facts.{to_z-of_z}
 use Rattle.c_tree.specs.Syntax.{return}
 use Rattle.c_tree.specs.Meaning.{Exec, Run, entered, goes, ends, stopped, returned}
