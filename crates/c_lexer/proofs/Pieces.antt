@@ -1,301 +1,218 @@
 -- What stands at a place.
-use Rattle.std.specs.Prelude.{◌≡◌, ℕ, ℤ, zero, suc, ◌+◌, ◌-◌, ◌^◌, ◌<◌, ◌≤◌, pos, List, [], ◌∷◌, ◌++◌, length, take, Bool, Err, true, false, refl, ◌⊎◌}
-use Rattle.std.proofs.Common.{drop, get_or, sym, ◌∙◌, ap, subst, arith, append-nil, length-append, inl, inr}
+use Rattle.std.specs.Prelude.{◌≡◌, ℕ, ℤ, zero, suc, ◌+◌, ◌^◌, ◌<◌, ◌≤◌, pos, List, [], ◌∷◌, ◌++◌, length, take, Bool, Result, Err, true, false, ◌==◌, ◌&&◌, ◌||◌, refl, ◌⊎◌, codes}
+use Rattle.std.proofs.Common.{drop, get_or, sym, ◌∙◌, ap, subst, arith, append_assoc, length-append, inl, inr}
 use Rattle.std.proofs.Math.Seq.{take-append_seam, drop-append_seam}
+use Rattle.std.proofs.lemmas.Bool.{false≢true}
 use Rattle.std.proofs.lemmas.Bool.Decides.{nat_tests}
+use Rattle.std.proofs.lemmas.List.{length-take-le}
 use Rattle.c_lexer.specs.declared.token.Keyword.{Keyword}
-use Rattle.c_lexer.specs.declared.token.Keyword.TheVariants.{Int, Return}
 use Rattle.c_lexer.specs.declared.token.Punct.{Punct}
 use Rattle.c_lexer.specs.declared.token.TokenKind.{TokenKind}
 use Rattle.c_lexer.specs.declared.token.TokenKind.TheVariants.{Name, Literal, Word, Mark}
-use Rattle.c_lexer.specs.declared.scan.Piece.TheVariants.{Blank, Token, Fault}
-use Rattle.c_lexer.specs.Lexing.{after, is_blank, is_digit, is_letter, is_name_byte, Each, Ends, IsWord, IsDecimal, value_from, is_reserved, is_mark, keyword_text, mark_text, IsLexeme, IsToken, IsLongest, Parts, HasNoToken, too_wide, bad_byte, with_token, IsLexed, blank, token, wide, glued, bad}
-use Rattle.c_lexer.specs.Scanning.{IsRun, IsDecimalRun, IsMark, IsLongestMark, HasNoMark, HasNoKeyword, IsPiece}
-use Rattle.c_lexer.proofs.Runs.{drop_first}
-use Rattle.c_lexer.proofs.Marks.{mark_sign, mark_text-mark, mark_text-head}
+use Rattle.c_lexer.specs.declared.token.Token as the_token
+use Rattle.c_lexer.specs.declared.token.Place.{Place}
+use Rattle.c_lexer.specs.declared.token.LexError.{LexError}
+use Rattle.c_lexer.specs.declared.token.LexError.TheVariants.{BadByte, OpenComment, TooWide}
+use Rattle.c_lexer.specs.declared.scan.Piece.TheVariants.{Gap, Token}
+use Rattle.c_lexer.specs.Lexing.{after, is_blank, is_digit, is_letter, is_name_byte, is_of_line, Each, Ends, IsWord, keyword_text, mark_text, IsLongest, IsToken, Parts, HasNoEnd, begins_comment, BeginsInclude, token_at, with_token, IsLexed, blank, line_comment, comment, open_comment, include_line, token, wide, glued, bad}
+use Rattle.c_lexer.specs.Scanning.{IsRun, IsMarkAt, HasNoMark, HasNoKeyword, IsFirstEnd, IsPiece}
+use Rattle.c_lexer.proofs.Lists.{drop_first, first_of_some, stands}
+use Rattle.c_lexer.proofs.Words.{mark_sign, mark_size}
+use Rattle.c_lexer.proofs.Lexemes.{mark_some, mark_longest, no_lexeme, run_word}
+use Rattle.c_lexer.proofs.Gaps.{front_of}
+use Rattle.c_lexer.proofs.Numerals.{IsLiteralAt}
 
-pub digit-letter : (b : ℕ) → is_digit b ≡ true → is_letter b ≡ true → ⊥
-digit-letter b h q = grind (arith, nat_tests)
+abbrev Answers : Type 0
+Answers = Result (List the_token.Token) LexError
 
-letter-name : (b : ℕ) → is_letter b ≡ true → is_name_byte b ≡ true
-letter-name b h = grind (arith, nat_tests)
+-- a text at the beginning of bytes, cut at its length
+module _ (bytes text rest : List ℕ) (len : ℕ) (e : bytes ≡ text ++ rest) (n : length text ≡ len) where
+  pub cut_front : take len bytes ≡ text
+  cut_front = ap (λ m. take m bytes) (sym n) ∙ ap (take (length text)) e ∙ take-append_seam text rest
 
-pub letter_blank : (b : ℕ) → is_letter b ≡ true → is_blank b ≡ false
-letter_blank b h = grind (arith, nat_tests)
+  cut_behind : drop len bytes ≡ rest
+  cut_behind = ap (λ m. drop m bytes) (sym n) ∙ ap (drop (length text)) e ∙ drop-append_seam text rest
 
-pub letter_digit : (b : ℕ) → is_letter b ≡ true → is_digit b ≡ false
-letter_digit b h = grind (arith, nat_tests)
+  cut_within : len ≤ length bytes
+  cut_within = let size : length bytes ≡ length text + length rest = ap length e ∙ length-append text rest in omega (arith, size, n)
 
-pub digit_blank : (b : ℕ) → is_digit b ≡ true → is_blank b ≡ false
-digit_blank b h = grind (arith, nat_tests)
+  cut_lexed : (p : Place) (r : Answers) → IsLexed (after p (take len bytes)) (drop len bytes) r → IsLexed (after p text) rest r
+  cut_lexed p r h = subst (λ x. IsLexed (after p text) x r) cut_behind (subst (λ x. IsLexed (after p x) (drop len bytes) r) cut_front h)
 
-pub decimal_each : (xs : List ℕ) → IsDecimal xs → Each is_digit xs
-decimal_each [] h = absurd h
-decimal_each (b ∷ []) h = (h, tt)
-decimal_each (b ∷ c ∷ bs) h = (h.0, h.2)
+  gap_piece : (p : Place) → 0 < len → ((r : Answers) → IsLexed (after p text) rest r → IsLexed p (text ++ rest) r) → IsPiece p bytes (Gap len)
+  gap_piece p some go = (some, cut_within, λ r h. subst (λ x. IsLexed p x r) (sym e) (go r (cut_lexed p r h)))
 
-pub keyword_word : (w : Keyword) → IsWord (keyword_text w)
-keyword_word Int = (refl, (refl, (refl, tt)))
-keyword_word Return = (refl, (refl, (refl, (refl, (refl, (refl, tt))))))
+  token_piece : (p : Place) (k : TokenKind) → 0 < len → IsToken k text → IsLongest text rest → Parts k rest → IsPiece p bytes (Token k len)
+  token_piece p k some t l parts = (
+    some,
+    cut_within,
+    λ r h.
+        subst (λ x. IsLexed p bytes (with_token (token_at p k x) r)) (sym cut_front)
+        (subst (λ x. IsLexed p x (with_token (token_at p k text) r)) (sym e) (token k text rest t l parts (cut_lexed p r h))),
+  )
 
-pub keyword_reserved : (w : Keyword) → is_reserved (keyword_text w) ≡ true
-keyword_reserved Int = refl
-keyword_reserved Return = refl
+pub blank_piece : (p : Place) (bytes : List ℕ) → 0 < length bytes → is_blank (get_or bytes 0 0) ≡ true → IsPiece p bytes (Gap 1)
+blank_piece p bytes some h =
+    let b = get_or bytes 0 0 in
+    gap_piece bytes (b ∷ []) (drop 1 bytes) 1 (first_of_some bytes (omega (arith, some))) refl p (omega arith) (λ r l. blank h l)
 
-pub token_lexeme : (k : TokenKind) (text : List ℕ) → IsToken k text → IsLexeme text
-token_lexeme (Name name) text t = inl t.1
-token_lexeme (Literal n) text t = inr (inl t.0)
-token_lexeme (Word w) text t = inl (subst IsWord (sym t) (keyword_word w))
-token_lexeme (Mark m) text t = inr (inr (subst (λ x. is_mark x ≡ true) (sym t) (mark_text-mark m)))
+-- names and reserved words
+module _ (p : Place) (bytes : List ℕ) (len : ℕ) (h : is_letter (get_or bytes 0 0) ≡ true) (r : IsRun is_name_byte bytes len) where
+  letter_some : (b : ℕ) → is_letter b ≡ true → b ≡ 0 → ⊥
+  letter_some b h z = grind (arith, nat_tests)
 
--- two fronts of one text: one begins the other
-overlap : (a b x y : List ℕ) → a ++ x ≡ b ++ y → ((c : List ℕ) × (b ≡ a ++ c) × (x ≡ c ++ y)) ⊎ ((c : List ℕ) × (a ≡ b ++ c) × (y ≡ c ++ x))
-overlap [] b x y e = inl (b, refl, e)
-overlap (u ∷ a) [] x y e = inr (u ∷ a, refl, sym e)
-overlap (u ∷ a) (v ∷ b) x y e =
-    let h : u ≡ v = cc in
-    elim (overlap a b x y cc) [
-      | inl w ↦ inl (w.0, ap (λ t. v ∷ t) w.1 ∙ ap (λ t. t ∷ (a ++ w.0)) (sym h), w.2)
-      | inr w ↦ inr (w.0, ap (λ t. u ∷ t) w.1 ∙ ap (λ t. t ∷ (b ++ w.0)) h, w.2)
+  word_is : (0 < length r.text) × IsWord r.text × IsLongest r.text (drop len bytes)
+  word_is =
+      let lt = stands bytes 0 (letter_some (get_or bytes 0 0) h) in
+      run_word (get_or bytes 0 0) (drop 1 bytes) (drop len bytes) r.text (sym (first_of_some bytes (omega (arith, lt))) ∙ r.whole) h r.each r.ends
+
+  word_some : 0 < len
+  word_some = let w = word_is in omega (arith, w.0, r.size)
+
+  pub name_piece : HasNoKeyword (take len bytes) → IsPiece p bytes (Token Name len)
+  name_piece none =
+      let w = word_is in
+      token_piece bytes r.text (drop len bytes) len r.whole r.size p Name word_some (w.1, subst HasNoKeyword (front_of is_name_byte bytes len r) none) w.2 tt
+
+  pub keyword_piece : (w : Keyword) → take len bytes ≡ keyword_text w → IsPiece p bytes (Token (Word w) len)
+  keyword_piece w e =
+      let k = word_is in
+      token_piece bytes r.text (drop len bytes) len r.whole r.size p (Word w) word_some (sym (front_of is_name_byte bytes len r) ∙ e) k.2 tt
+
+-- literals
+ends_at : (c : ℕ → Bool) (bytes : List ℕ) (n : ℕ) → c (get_or bytes n 0) ≡ false → Ends c (drop n bytes)
+ends_at c [] zero h = tt
+ends_at c [] (suc n) h = tt
+ends_at c (b ∷ bytes) zero h = h
+ends_at c (b ∷ bytes) (suc n) h = ends_at c bytes n h
+
+name_some : (b : ℕ) → is_name_byte b ≡ true → b ≡ 0 → ⊥
+name_some b h z = grind (arith, nat_tests)
+
+module _ (p : Place) (bytes : List ℕ) (len n : ℕ) (l : IsLiteralAt bytes len n) where
+  pub glued_fault : is_name_byte (get_or bytes len 0) ≡ true → IsLexed p bytes (Err (BadByte (after p (take len bytes)).at))
+  glued_fault q =
+      let b = get_or bytes len 0 in
+      let d = drop_first bytes len (stands bytes len (name_some b q)) in
+      let front = cut_front bytes l.text (drop len bytes) len l.whole l.size in
+      subst (λ x. IsLexed p bytes (Err (BadByte (after p x).at))) (sym front)
+      (subst (λ x. IsLexed p x (Err (BadByte (after p l.text).at))) (sym (l.whole ∙ ap (λ x. l.text ++ x) d))
+      (glued n b l.text (drop (len + 1) bytes) l.literal (subst (λ x. IsLongest l.text x) d l.longest) q))
+
+  pub literal_piece : (z : ℤ) → is_name_byte (get_or bytes len 0) ≡ false → z ≡ pos n → n < 2 ^ 63 → IsPiece p bytes (Token (Literal z) len)
+  literal_piece z q e small =
+      token_piece bytes l.text (drop len bytes) len l.whole l.size p (Literal z) l.some (n, l.literal, e, small) l.longest (ends_at is_name_byte bytes len q)
+
+  pub wide_fault : is_name_byte (get_or bytes len 0) ≡ false → 2 ^ 63 ≤ n → IsLexed p bytes (Err (TooWide p.at))
+  wide_fault q big =
+      subst (λ x. IsLexed p x (Err (TooWide p.at))) (sym l.whole) (wide n l.text (drop len bytes) l.literal l.longest (ends_at is_name_byte bytes len q) big)
+
+-- include lines
+eq_of : (a b : ℕ) → (a == b) ≡ true → a ≡ b
+eq_of a b h = grind (arith, nat_tests)
+
+run_one : (b : ℕ) (more rest text : List ℕ) → b ∷ more ≡ text ++ rest → is_of_line b ≡ true → Ends is_of_line rest → 0 < length text
+run_one b more rest [] e h ends = let f : is_of_line b ≡ false = subst (Ends is_of_line) (sym e) ends in absurd (false≢true (sym f ∙ h))
+run_one b more rest (x ∷ text) e h ends = omega arith
+
+pub include_piece : (p : Place) (bytes : List ℕ) (len : ℕ) → p.line_is_blank ≡ true → BeginsInclude bytes → IsRun is_of_line bytes len → IsPiece p bytes (Gap len)
+include_piece p bytes len h i r =
+    let some = run_one 35 (i.gap ++ (codes "include" ++ i.rest)) (drop len bytes) r.text (sym i.whole ∙ r.whole) refl r.ends in
+    gap_piece bytes r.text (drop len bytes) len r.whole r.size p (omega (arith, some, r.size)) (λ s l. include_line r.text (drop len bytes) h (subst BeginsInclude r.whole i) r.each r.ends l)
+
+sharp_no_mark : (bytes : List ℕ) → HasNoMark (35 ∷ bytes)
+sharp_no_mark bytes m rest e = by_text (mark_text m) refl e
+  where
+    by_text : (text : List ℕ) → text ≡ mark_text m → 35 ∷ bytes ≡ text ++ rest → ⊥
+    by_text [] q e = mark_some m q
+    by_text (x ∷ text) q e =
+        let h : 35 ≡ x = cc in
+        false≢true (sym (mark_sign m x text q).sharp ∙ sym (ap (λ y. y == 35) h))
+
+sharp_no_comment : (bytes : List ℕ) → begins_comment (35 ∷ bytes) ≡ false
+sharp_no_comment [] = refl
+sharp_no_comment (c ∷ bytes) = refl
+
+pub sharp_fault : (p : Place) (bytes : List ℕ) → 0 < length bytes → get_or bytes 0 0 ≡ 35 → (p.line_is_blank ≡ true → BeginsInclude bytes → ⊥) → IsLexed p bytes (Err (BadByte p.at))
+sharp_fault p bytes some h none =
+    let rest = drop 1 bytes in
+    let e : bytes ≡ 35 ∷ rest = first_of_some bytes (omega (arith, some)) ∙ ap (λ x. x ∷ rest) h in
+    subst (λ x. IsLexed p x (Err (BadByte p.at))) (sym e)
+    (bad refl (sharp_no_comment rest) (subst (λ x. p.line_is_blank ≡ true → BeginsInclude x → ⊥) e none) (no_lexeme 35 rest refl refl (sharp_no_mark rest)))
+
+-- comments
+record HasSlash (bytes : List ℕ) : Type 0 where
+  next : ℕ
+  rest : List ℕ
+  whole : bytes ≡ 47 ∷ next ∷ rest
+  is : (next ≡ 47) ⊎ (next ≡ 42)
+
+both : (a b : Bool) → (a && b) ≡ true → (a ≡ true) × (b ≡ true)
+both true b e = (refl, e)
+both false b e = absurd (false≢true e)
+
+either : (c : ℕ) → ((c == 47) || (c == 42)) ≡ true → (c ≡ 47) ⊎ (c ≡ 42)
+either c h = grind (arith, nat_tests)
+
+slash : (bytes : List ℕ) → begins_comment bytes ≡ true → HasSlash bytes
+slash [] h = absurd (false≢true h)
+slash (b ∷ []) h = absurd (false≢true h)
+slash (b ∷ c ∷ bs) h =
+    let k = both (b == 47) ((c == 47) || (c == 42)) h in
+    record { next = c; rest = bs; whole = ap (λ x. x ∷ c ∷ bs) (eq_of b 47 k.0); is = either c k.1 }
+
+line_text : (bs text rest : List ℕ) → 47 ∷ 47 ∷ bs ≡ text ++ rest → Ends is_of_line rest → (t : List ℕ) × (text ≡ 47 ∷ 47 ∷ t)
+line_text bs [] rest e ends = let f : true ≡ false = subst (Ends is_of_line) (sym e) ends in absurd (false≢true (sym f))
+line_text bs (x ∷ []) rest e ends =
+    let q : 47 ∷ bs ≡ rest = cc in
+    let f : true ≡ false = subst (Ends is_of_line) (sym q) ends in absurd (false≢true (sym f))
+line_text bs (x ∷ y ∷ t) rest e ends =
+    let q : x ≡ 47 = cc in let r : y ≡ 47 = cc in
+    (t, ap (λ z. z ∷ y ∷ t) q ∙ ap (λ z. 47 ∷ z ∷ t) r)
+
+pub line_piece : (p : Place) (bytes : List ℕ) (len : ℕ) → begins_comment bytes ≡ true → get_or bytes 1 0 ≡ 47 → IsRun is_of_line bytes len → IsPiece p bytes (Gap len)
+line_piece p bytes len h q r =
+    let s = slash bytes h in
+    let n : s.next ≡ 47 = sym (ap (λ x. get_or x 1 0) s.whole) ∙ q in
+    let w : bytes ≡ 47 ∷ 47 ∷ s.rest = s.whole ∙ ap (λ x. 47 ∷ x ∷ s.rest) n in
+    let t = line_text s.rest r.text (drop len bytes) (sym w ∙ r.whole) r.ends in
+    let each : Each is_of_line (47 ∷ 47 ∷ t.0) = subst (Each is_of_line) t.1 r.each in
+    let size : length (47 ∷ 47 ∷ t.0) ≡ len = sym (ap length t.1) ∙ r.size in
+    gap_piece bytes (47 ∷ 47 ∷ t.0) (drop len bytes) len (r.whole ∙ ap (λ x. x ++ drop len bytes) t.1) size p (omega (arith, size)) (λ a l. line_comment t.0 (drop len bytes) each.1.1 r.ends l)
+
+star : (bytes : List ℕ) → begins_comment bytes ≡ true → (get_or bytes 1 0 ≡ 47 → ⊥) → bytes ≡ 47 ∷ 42 ∷ drop 2 bytes
+star bytes h none =
+    let s = slash bytes h in
+    let d : s.rest ≡ drop 2 bytes = sym (ap (drop 2) s.whole) in
+    elim s.is [
+      | inl e ↦ absurd (none (ap (λ x. get_or x 1 0) s.whole ∙ e))
+      | inr e ↦ s.whole ∙ ap (λ x. 47 ∷ x ∷ s.rest) e ∙ ap (λ x. 47 ∷ 42 ∷ x) d
     ]
 
--- two longest lexemes at one place are one text
-pub same_text : (a b x y : List ℕ) → a ++ x ≡ b ++ y → IsLexeme a → IsLongest a x → IsLexeme b → IsLongest b y → (a ≡ b) × (x ≡ y)
-same_text a b x y e ta la tb lb = elim (overlap a b x y e) [
-  | inl w ↦
-      let n : w.0 ≡ [] = la w.0 y w.2 (subst (λ t. IsLexeme t) w.1 tb) in
-      (sym (w.1 ∙ ap (λ c. a ++ c) n ∙ append-nil a), w.2 ∙ ap (λ c. c ++ y) n)
-  | inr w ↦
-      let n : w.0 ≡ [] = lb w.0 x w.2 (subst (λ t. IsLexeme t) w.1 ta) in
-      (w.1 ∙ ap (λ c. b ++ c) n ∙ append-nil b, sym (w.2 ∙ ap (λ c. c ++ x) n))
-]
+pub closed_piece : (p : Place) (bytes : List ℕ) (i : ℕ) → begins_comment bytes ≡ true → (get_or bytes 1 0 ≡ 47 → ⊥) → IsFirstEnd (drop 2 bytes) i → IsPiece p bytes (Gap (i + 4))
+closed_piece p bytes i h none f =
+    let inside = take i (drop 2 bytes) in
+    let rest = drop (i + 2) (drop 2 bytes) in
+    let a : (inside ++ codes "*/") ++ rest ≡ inside ++ (codes "*/" ++ rest) = append_assoc inside (codes "*/") rest in
+    let n : length inside ≡ i = length-take-le i (drop 2 bytes) (omega (arith, f.within)) in
+    let m : length (inside ++ codes "*/") ≡ length inside + 2 = length-append inside (codes "*/") in
+    let w : bytes ≡ (codes "/*" ++ (inside ++ codes "*/")) ++ rest = star bytes h none ∙ ap (λ x. 47 ∷ 42 ∷ x) (f.whole ∙ sym a) in
+    gap_piece bytes (codes "/*" ++ (inside ++ codes "*/")) rest (i + 4) w (omega (arith, m, n)) p (omega arith)
+    (λ r l. subst (λ x. IsLexed p x r) (ap (λ x. 47 ∷ 42 ∷ x) (sym a)) (comment inside rest f.first l))
 
-each-behind : (c : ℕ → Bool) (xs ys : List ℕ) → Each c (xs ++ ys) → Each c ys
-each-behind c [] ys h = h
-each-behind c (x ∷ xs) ys h = each-behind c xs ys h.1
+pub open_fault : (p : Place) (bytes : List ℕ) → begins_comment bytes ≡ true → (get_or bytes 1 0 ≡ 47 → ⊥) → HasNoEnd (drop 2 bytes) → IsLexed p bytes (Err (OpenComment p.at))
+open_fault p bytes h none f = subst (λ x. IsLexed p x (Err (OpenComment p.at))) (sym (star bytes h none)) (open_comment (drop 2 bytes) f)
 
--- where a run ends nothing more of its class stands
-ends_there : (c : ℕ → Bool) (rest extra others : List ℕ) → Ends c rest → rest ≡ extra ++ others → Each c extra → extra ≡ []
-ends_there c rest [] others h e q = refl
-ends_there c rest (x ∷ extra) others h e q =
-    let f : c x ≡ false = subst (λ r. Ends c r) e h in
-    let t : c x ≡ true = q.0 in
-    let n : false ≡ true = sym f ∙ t in cc
+-- marks
+pub mark_piece : (p : Place) (bytes : List ℕ) (m : Punct) → IsMarkAt bytes m → IsPiece p bytes (Token (Mark m) (length (mark_text m)))
+mark_piece p bytes m h =
+    let s = mark_size m in
+    token_piece bytes (mark_text m) h.rest (length (mark_text m)) h.whole refl p (Mark m) (omega (arith, s.least)) refl (mark_longest m (mark_text m) h.rest refl h.longest) tt
 
-word_longest : (b : ℕ) (bs rest : List ℕ) → is_letter b ≡ true → Ends is_name_byte rest → IsLongest (b ∷ bs) rest
-word_longest b bs rest h e extra others q t = elim t [
-  | inl w ↦ ends_there is_name_byte rest extra others e q (each-behind is_name_byte bs extra w.1)
-  | inr v ↦ elim v [
-    | inl d ↦ absurd (digit-letter b (decimal_each (b ∷ (bs ++ extra)) d).0 h)
-    | inr m ↦ let n : false ≡ true = sym (mark_sign b (bs ++ extra) m).letter ∙ h in cc
-  ]
-]
-
-literal_longest : (b : ℕ) (bs rest : List ℕ) → is_digit b ≡ true → ((extra others : List ℕ) → rest ≡ extra ++ others → IsDecimal (b ∷ (bs ++ extra)) → extra ≡ []) → IsLongest (b ∷ bs) rest
-literal_longest b bs rest h l extra others q t = elim t [
-  | inl w ↦ absurd (digit-letter b h w.0)
-  | inr v ↦ elim v [
-    | inl d ↦ l extra others q d
-    | inr m ↦ let n : false ≡ true = sym (mark_sign b (bs ++ extra) m).digit ∙ h in cc
-  ]
-]
-
-mark_longest-by : (b : ℕ) (bs rest : List ℕ) → is_mark (b ∷ bs) ≡ true → IsLongestMark (b ∷ bs) rest → IsLongest (b ∷ bs) rest
-mark_longest-by b bs rest s l extra others q t = elim t [
-  | inl w ↦ let n : false ≡ true = sym (mark_sign b bs s).letter ∙ w.0 in cc
-  | inr v ↦ elim v [
-    | inl d ↦ let n : false ≡ true = sym (mark_sign b bs s).digit ∙ (decimal_each (b ∷ (bs ++ extra)) d).0 in cc
-    | inr m ↦ l extra others q m
-  ]
-]
-
--- a token, cut at a number of bytes
-found : (bytes text rest : List ℕ) (k : TokenKind) (len : ℕ) → bytes ≡ text ++ rest → length text ≡ len → 0 < len → IsToken k text → IsLongest text rest → Parts k rest → IsPiece bytes (Token k len)
-found bytes text rest k len e n some t l parts =
-    let size : length bytes ≡ length text + length rest = ap length e ∙ length-append text rest in (
-      some,
-      omega (arith, size, n),
-      λ p r h.
-          let front : take len bytes ≡ text = ap (λ m. take m bytes) (sym n) ∙ ap (take (length text)) e ∙ take-append_seam text rest in
-          let behind : drop len bytes ≡ rest = ap (λ m. drop m bytes) (sym n) ∙ ap (drop (length text)) e ∙ drop-append_seam text rest in
-          let h' : IsLexed (after p text) rest r = subst (λ x. IsLexed (after p text) x r) behind (subst (λ x. IsLexed (after p x) (drop len bytes) r) front h) in
-          subst (λ x. IsLexed p x (with_token (record { kind = k; at = p }) r)) (sym e) (token k text rest t l parts h'),
-    )
-
-pub blank_piece : (bytes rest : List ℕ) (b : ℕ) → bytes ≡ b ∷ rest → is_blank b ≡ true → IsPiece bytes Blank
-blank_piece bytes rest b e h =
-    let size : length bytes ≡ length (b ∷ rest) = ap length e in (
-      omega (arith, size),
-      λ p r l.
-          subst (λ x. IsLexed p x r) (sym e) (blank h (subst (λ x. IsLexed (after p (take 1 x)) (drop 1 x) r) e l)),
-    )
-
--- a name or a reserved word
-run_word-by : (b : ℕ) (more rest text : List ℕ) → b ∷ more ≡ text ++ rest → is_letter b ≡ true → Each is_name_byte text → Ends is_name_byte rest → (0 < length text) × IsWord text × IsLongest text rest
-run_word-by b more rest [] e h each ends =
-    let f : is_name_byte b ≡ false = subst (λ r. Ends is_name_byte r) (sym e) ends in
-    let n : false ≡ true = sym f ∙ letter-name b h in cc
-run_word-by b more rest (x ∷ xs) e h each ends =
-    let q : b ≡ x = cc in
-    let h' : is_letter x ≡ true = sym (ap is_letter q) ∙ h in
-    (omega arith, (h', each.1), word_longest x xs rest h' ends)
-
--- the token of a word's text, where it has one
-word_kind : (bytes : List ℕ) (at end : ℕ) (k : TokenKind) → at < length bytes → is_letter (get_or bytes at 0) ≡ true → IsRun is_name_byte bytes at end →
-    ((text : List ℕ) → IsWord text → take (end - at) (drop at bytes) ≡ text → IsToken k text × ((rest : List ℕ) → Parts k rest)) → IsPiece (drop at bytes) (Token k (end - at))
-word_kind bytes at end k lt h r is =
-    let d = drop_first bytes at lt in
-    let w = run_word-by (get_or bytes at 0) (drop (at + 1) bytes) (drop end bytes) r.text (sym d ∙ r.whole) h r.each r.ends in
-    let n : length r.text ≡ end - at = omega (arith, r.len) in
-    let front : take (end - at) (drop at bytes) ≡ r.text = ap (λ m. take m (drop at bytes)) (sym n) ∙ ap (take (length r.text)) r.whole ∙ take-append_seam r.text (drop end bytes) in
-    let t = is r.text w.1 front in
-    found (drop at bytes) r.text (drop end bytes) k (end - at) r.whole n (omega (arith, n, w.0)) t.0 w.2 (t.1 (drop end bytes))
-
-pub name_piece : (bytes : List ℕ) (at end : ℕ) (name : List ℕ) → at < length bytes → is_letter (get_or bytes at 0) ≡ true → IsRun is_name_byte bytes at end →
-    name ≡ take (end - at) (drop at bytes) → is_reserved (take (end - at) (drop at bytes)) ≡ false → IsPiece (drop at bytes) (Token (Name name) (end - at))
-name_piece bytes at end name lt h r e free = word_kind bytes at end (Name name) lt h r (λ text w front. ((e ∙ front, w, sym (ap is_reserved front) ∙ free), λ rest. tt))
-
-pub keyword_piece : (bytes : List ℕ) (at end : ℕ) (w : Keyword) → at < length bytes → is_letter (get_or bytes at 0) ≡ true → IsRun is_name_byte bytes at end →
-    take (end - at) (drop at bytes) ≡ keyword_text w → IsPiece (drop at bytes) (Token (Word w) (end - at))
-keyword_piece bytes at end w lt h r e = word_kind bytes at end (Word w) lt h r (λ text _ front. (sym front ∙ e, λ rest. tt))
-
--- a reserved word that is not in use is no token
-word_alone : (k : TokenKind) (text : List ℕ) → IsWord text → is_reserved text ≡ true → HasNoKeyword text → IsToken k text → ⊥
-word_alone (Name name) text w q none t = let n : true ≡ false = sym q ∙ t.2 in cc
-word_alone (Literal n) [] w q none t = w
-word_alone (Literal n) (b ∷ bs) w q none t = digit-letter b (decimal_each (b ∷ bs) t.0).0 w.0
-word_alone (Word v) text w q none t = none v t
-word_alone (Mark m) [] w q none t = w
-word_alone (Mark m) (b ∷ bs) w q none t =
-    let n : false ≡ true = sym (mark_sign b bs (subst (λ x. is_mark x ≡ true) (sym t) (mark_text-mark m))).letter ∙ w.0 in cc
-
--- a reserved word that is not in use
-pub reserved_fault : (bytes : List ℕ) (at end : ℕ) → at < length bytes → is_letter (get_or bytes at 0) ≡ true → IsRun is_name_byte bytes at end →
-    HasNoKeyword (take (end - at) (drop at bytes)) → is_reserved (take (end - at) (drop at bytes)) ≡ true → IsPiece (drop at bytes) Fault
-reserved_fault bytes at end lt h r none q =
-    let b = get_or bytes at 0 in
-    let rest = drop (at + 1) bytes in
-    let d : drop at bytes ≡ b ∷ rest = drop_first bytes at lt in
-    let w = run_word-by b rest (drop end bytes) r.text (sym d ∙ r.whole) h r.each r.ends in
-    let n : length r.text ≡ end - at = omega (arith, r.len) in
-    let front : take (end - at) (drop at bytes) ≡ r.text = ap (λ m. take m (drop at bytes)) (sym n) ∙ ap (take (length r.text)) r.whole ∙ take-append_seam r.text (drop end bytes) in
-    let no : HasNoToken (b ∷ rest) = λ k text others e long t.
-    let s = same_text r.text text (drop end bytes) others (sym r.whole ∙ d ∙ e) (inl w.1) w.2 (token_lexeme k text t) long in
-    word_alone k r.text w.1 (sym (ap is_reserved front) ∙ q) (subst HasNoKeyword front none) (subst (λ x. IsToken k x) (sym s.0) t) in
-    λ p. (bad_byte p, subst (λ x. IsLexed p x (Err (bad_byte p))) (sym d) (bad (letter_blank b h) (letter_digit b h) no))
-
--- a byte at which no token begins
-pub sign_fault : (bytes rest : List ℕ) (b : ℕ) → bytes ≡ b ∷ rest → is_blank b ≡ false → is_letter b ≡ false → is_digit b ≡ false → HasNoMark bytes → IsPiece bytes Fault
-sign_fault bytes rest b e nb nl nd nm = λ p. (bad_byte p, subst (λ x. IsLexed p x (Err (bad_byte p))) (sym e) (bad nb nd go))
-  where
-    no_word : (text others : List ℕ) → b ∷ rest ≡ text ++ others → IsWord text → ⊥
-    no_word [] others q w = w
-    no_word (x ∷ text) others q w = let h : b ≡ x = cc in let n : false ≡ true = sym nl ∙ ap is_letter h ∙ w.0 in cc
-
-    no_decimal : (text others : List ℕ) → b ∷ rest ≡ text ++ others → IsDecimal text → ⊥
-    no_decimal [] others q d = d
-    no_decimal (x ∷ text) others q d = let h : b ≡ x = cc in let n : false ≡ true = sym nd ∙ ap is_digit h ∙ (decimal_each (x ∷ text) d).0 in cc
-
-    go : HasNoToken (b ∷ rest)
-    go (Name name) text others q long t = no_word text others q t.1
-    go (Literal n) text others q long t = no_decimal text others q t.0
-    go (Word w) text others q long t = no_word text others q (subst IsWord (sym t) (keyword_word w))
-    go (Mark m) text others q long t =
-        nm m others (e ∙ q ∙ ap (λ x. x ++ others) t) (λ extra more f h. long extra more f (inr (inr (subst (λ x. is_mark (x ++ extra) ≡ true) (sym t) h))))
-
--- a literal
-pub run_decimal : (bytes : List ℕ) (at end : ℕ) → at < length bytes → is_digit (get_or bytes at 0) ≡ true → (get_or bytes at 0 ≡ 48 → ⊥) → IsRun is_digit bytes at end → IsDecimalRun bytes at end
-run_decimal bytes at end lt h z r =
-    let d = drop_first bytes at lt in
-    let k = by_text (get_or bytes at 0) (drop (at + 1) bytes) (drop end bytes) r.text (sym d ∙ r.whole) h z r.each r.ends in
-    record {
-      later = omega (arith, k.0, r.len);
-      within = r.within;
-      text = r.text;
-      len = r.len;
-      whole = r.whole;
-      each = r.each;
-      decimal = k.1;
-      longest = λ extra others e t. ends_there is_digit (drop end bytes) extra others r.ends e (each-behind is_digit r.text extra (decimal_each (r.text ++ extra) t));
-    }
-  where
-    by_text : (b : ℕ) (more rest text : List ℕ) → b ∷ more ≡ text ++ rest → is_digit b ≡ true → (b ≡ 48 → ⊥) → Each is_digit text → Ends is_digit rest → (0 < length text) × IsDecimal text
-    by_text b more rest [] e h z each ends =
-        let f : is_digit b ≡ false = subst (λ r. Ends is_digit r) (sym e) ends in
-        let n : false ≡ true = sym f ∙ h in cc
-    by_text b more rest (x ∷ []) e h z each ends = (omega arith, each.0)
-    by_text b more rest (x ∷ y ∷ ys) e h z each ends = let q : b ≡ x = cc in (omega arith, (each.0, (λ (n : x ≡ 48). z (q ∙ n)), each.1))
-
-zero_longest : (b : ℕ) (extra : List ℕ) → b ≡ 48 → IsDecimal (b ∷ extra) → extra ≡ []
-zero_longest b [] z t = refl
-zero_longest b (x ∷ xs) z t = absurd (t.1 z)
-
-pub zero_decimal : (bytes : List ℕ) (at : ℕ) → at < length bytes → is_digit (get_or bytes at 0) ≡ true → get_or bytes at 0 ≡ 48 → IsDecimalRun bytes at (at + 1)
-zero_decimal bytes at lt h z =
-    record {
-      later = omega arith;
-      within = omega arith;
-      text = get_or bytes at 0 ∷ [];
-      len = omega arith;
-      whole = drop_first bytes at lt;
-      each = (h, tt);
-      decimal = h;
-      longest = λ extra others e t. zero_longest (get_or bytes at 0) extra z t;
-    }
-
-head_digit : (text : List ℕ) → IsDecimal text → (b : ℕ) × (bs : List ℕ) × (text ≡ b ∷ bs) × (is_digit b ≡ true)
-head_digit [] h = absurd h
-head_digit (b ∷ bs) h = (b, bs, refl, (decimal_each (b ∷ bs) h).0)
-
-decimal_longest : (bytes : List ℕ) (at end : ℕ) → (r : IsDecimalRun bytes at end) → IsLongest r.text (drop end bytes)
-decimal_longest bytes at end r =
-    let k = head_digit r.text r.decimal in
-    subst (λ t. IsLongest t (drop end bytes)) (sym k.2) (literal_longest k.0 k.1 (drop end bytes) k.3
-    (λ extra others e t. r.longest extra others e (subst (λ x. IsDecimal (x ++ extra)) (sym k.2) t)))
-
-pub glued_fault : (bytes : List ℕ) (at end : ℕ) → IsDecimalRun bytes at end → end < length bytes → is_name_byte (get_or bytes end 0) ≡ true → IsPiece (drop at bytes) Fault
-glued_fault bytes at end r lt q =
-    let d = drop_first bytes end lt in
-    let b = get_or bytes end 0 in
-    λ p. (
-      bad_byte (after p r.text),
-      subst (λ x. IsLexed p x (Err (bad_byte (after p r.text)))) (sym (r.whole ∙ ap (λ x. r.text ++ x) d))
-          (glued b r.text (drop (end + 1) bytes) r.decimal (subst (λ x. IsLongest r.text x) d (decimal_longest bytes at end r)) q),
-    )
-
-literal_front : (bytes : List ℕ) (at end : ℕ) → (r : IsDecimalRun bytes at end) → take (end - at) (drop at bytes) ≡ r.text
-literal_front bytes at end r =
-    let l : length r.text ≡ end - at = omega (arith, r.len) in
-    ap (λ m. take m (drop at bytes)) (sym l) ∙ ap (take (length r.text)) r.whole ∙ take-append_seam r.text (drop end bytes)
-
-pub literal_piece : (bytes : List ℕ) (at end : ℕ) (n : ℤ) → IsDecimalRun bytes at end → Ends is_name_byte (drop end bytes) → n ≡ pos (value_from 0 (take (end - at) (drop at bytes))) →
-    value_from 0 (take (end - at) (drop at bytes)) < 2 ^ 63 → IsPiece (drop at bytes) (Token (Literal n) (end - at))
-literal_piece bytes at end n r ends v small =
-    let l : length r.text ≡ end - at = omega (arith, r.len) in
-    let e = literal_front bytes at end r in
-    found (drop at bytes) r.text (drop end bytes) (Literal n) (end - at) r.whole l (omega (arith, r.later)) (r.decimal, v ∙ ap (λ x. pos (value_from 0 x)) e, subst (λ x. value_from 0 x < 2 ^ 63) e small) (decimal_longest bytes at end r) ends
-
-pub wide_fault : (bytes : List ℕ) (at end : ℕ) → IsDecimalRun bytes at end → Ends is_name_byte (drop end bytes) → 2 ^ 63 ≤ value_from 0 (take (end - at) (drop at bytes)) → IsPiece (drop at bytes) Fault
-wide_fault bytes at end r ends big =
-    λ p. (
-      too_wide p,
-      subst (λ x. IsLexed p x (Err (too_wide p))) (sym r.whole)
-          (wide r.text (drop end bytes) r.decimal (decimal_longest bytes at end r) ends (subst (λ x. 2 ^ 63 ≤ value_from 0 x) (literal_front bytes at end r) big)),
-    )
-
-pub ends_byte : (c : ℕ → Bool) (bytes : List ℕ) (end : ℕ) → end < length bytes → c (get_or bytes end 0) ≡ false → Ends c (drop end bytes)
-ends_byte c bytes end lt q = subst (λ x. Ends c x) (sym (drop_first bytes end lt)) q
-
-pub ends_past : (c : ℕ → Bool) (bytes : List ℕ) (end : ℕ) → length bytes ≤ end → Ends c (drop end bytes)
-ends_past c [] zero le = tt
-ends_past c [] (suc end) le = tt
-ends_past c (b ∷ bytes) zero le = absurd (omega arith)
-ends_past c (b ∷ bytes) (suc end) le = ends_past c bytes end (omega arith)
-
--- a mark
-pub mark_piece : (bytes : List ℕ) (m : Punct) (len : ℕ) → IsMark bytes m len → IsPiece bytes (Token (Mark m) len)
-mark_piece bytes m len h =
-    let k = mark_text-head m in
-    let n : length (mark_text m) ≡ suc (length k.1) = ap length k.2 in
-    found bytes (mark_text m) h.rest (Mark m) len h.whole (sym h.size) (omega (arith, h.size, n)) refl
-    (subst (λ t. IsLongest t h.rest) (sym k.2) (mark_longest-by k.0 k.1 h.rest (subst (λ t. is_mark t ≡ true) k.2 (mark_text-mark m)) (subst (λ t. IsLongestMark t h.rest) k.2 h.longest))) tt
+pub byte_fault : (p : Place) (bytes : List ℕ) → 0 < length bytes → is_blank (get_or bytes 0 0) ≡ false → is_letter (get_or bytes 0 0) ≡ false → is_digit (get_or bytes 0 0) ≡ false → (get_or bytes 0 0 ≡ 35 → ⊥) →
+    begins_comment bytes ≡ false → HasNoMark bytes → IsLexed p bytes (Err (BadByte p.at))
+byte_fault p bytes some h l d s c m =
+    let b = get_or bytes 0 0 in
+    let e : bytes ≡ b ∷ drop 1 bytes = first_of_some bytes (omega (arith, some)) in
+    subst (λ x. IsLexed p x (Err (BadByte p.at))) (sym e)
+    (bad h (sym (ap begins_comment e) ∙ c) (λ _ i. s (ap (λ x. get_or x 0 0) i.whole)) (no_lexeme b (drop 1 bytes) l d (subst HasNoMark e m)))

@@ -1,3 +1,4 @@
 pub mod Lexing
 pub mod Scanning
 pub mod Answer
+pub mod Pure

@@ -1,64 +1,94 @@
 -- What the lexer's functions answer.
-use Rattle.std.specs.Prelude.{◌≡◌, ℕ, ◌+◌, ◌<◌, ◌≤◌, List, [], ◌++◌, length, Bool, Result, Err, true, take}
+use Rattle.std.specs.Prelude.{◌≡◌, ℕ, ◌+◌, ◌<◌, ◌≤◌, List, [], ◌++◌, length, take, slice_index, Bool, false, ◌==◌, ◌&&◌, ◌||◌, if◌then◌else◌, Result, codes}
 use Rattle.std.proofs.Common.{drop}
-use Rattle.c_tree.specs.declared.tree.Pos.{Pos}
 use Rattle.c_lexer.specs.declared.token.Keyword.{Keyword}
 use Rattle.c_lexer.specs.declared.token.Punct.{Punct}
 use Rattle.c_lexer.specs.declared.token.Token as the_token
-use Rattle.c_lexer.specs.declared.scan.Class.{Class}
-use Rattle.c_lexer.specs.declared.scan.Class.TheVariants.{NameByte, Digit}
+use Rattle.c_lexer.specs.declared.token.Place.{Place}
+use Rattle.c_lexer.specs.declared.token.LexError.{LexError}
+use Rattle.c_lexer.specs.declared.run.Base.{Base}
+use Rattle.c_lexer.specs.declared.run.Base.TheVariants.{Decimal, Octal, Hexadecimal}
+use Rattle.c_lexer.specs.declared.run.Class.{Class}
+use Rattle.c_lexer.specs.declared.run.Class.TheVariants.{NameByte, OfLine, Indent, Digit}
+use Rattle.c_lexer.specs.declared.literal.Digits.{Digits}
 use Rattle.c_lexer.specs.declared.scan.Piece.{Piece}
-use Rattle.c_lexer.specs.declared.scan.Piece.TheVariants.{Blank, Token, Fault}
-use Rattle.c_lexer.specs.Lexing as lexing
-use Rattle.c_lexer.specs.Lexing.{after, is_name_byte, is_digit, Each, Ends, IsDecimal, is_mark, keyword_text, mark_text, with_token, IsLexed}
+use Rattle.c_lexer.specs.declared.scan.Piece.TheVariants.{Gap, Token}
+use Rattle.c_lexer.specs.Lexing.{after, is_name_byte, is_of_line, is_indent, is_digit_in, Each, Ends, IsNumeral, keyword_text, mark_text, HasNoEnd, token_at, with_token, IsLexed}
 
 -- the test of a class of bytes
 abbrev pub test_of : Class → ℕ → Bool
 test_of NameByte = is_name_byte
-test_of Digit = is_digit
+test_of OfLine = is_of_line
+test_of Indent = is_indent
+test_of (Digit base) = is_digit_in base
 
--- a stretch of bytes that pass a test, from one place to another
-pub record IsRun (test : ℕ → Bool) (bytes : List ℕ) (from end : ℕ) : Type 0 where
-  pub later : from ≤ end
-  pub within : end ≤ length bytes
+-- the bytes that pass a test at the beginning of a text
+pub record IsRun (test : ℕ → Bool) (bytes : List ℕ) (len : ℕ) : Type 0 where
+  pub within : len ≤ length bytes
   pub text : List ℕ
-  pub len : length text + from ≡ end
-  pub whole : drop from bytes ≡ text ++ drop end bytes
+  pub size : length text ≡ len
+  pub whole : bytes ≡ text ++ drop len bytes
   pub each : Each test text
-  pub ends : Ends test (drop end bytes)
-
--- a literal, from one place to another
-pub record IsDecimalRun (bytes : List ℕ) (from end : ℕ) : Type 0 where
-  pub later : from < end
-  pub within : end ≤ length bytes
-  pub text : List ℕ
-  pub len : length text + from ≡ end
-  pub whole : drop from bytes ≡ text ++ drop end bytes
-  pub each : Each is_digit text
-  pub decimal : IsDecimal text
-  pub longest : (extra others : List ℕ) → drop end bytes ≡ extra ++ others → IsDecimal (text ++ extra) → extra ≡ []
-
--- no longer text at this place is one of a mark
-abbrev pub IsLongestMark : List ℕ → List ℕ → Type 0
-IsLongestMark text rest = (extra others : List ℕ) → rest ≡ extra ++ others → is_mark (text ++ extra) ≡ true → extra ≡ []
-
--- the longest mark of the language at the beginning of a text is this one
-pub record IsMark (bytes : List ℕ) (m : Punct) (len : ℕ) : Type 0 where
-  pub rest : List ℕ
-  pub whole : bytes ≡ mark_text m ++ rest
-  pub size : len ≡ length (mark_text m)
-  pub longest : IsLongestMark (mark_text m) rest
-
--- no mark in use is the longest mark of the language at the beginning of a text
-abbrev pub HasNoMark : List ℕ → Type 0
-HasNoMark bytes = (m : Punct) (rest : List ℕ) → bytes ≡ mark_text m ++ rest → IsLongestMark (mark_text m) rest → ⊥
+  pub ends : Ends test (drop len bytes)
 
 abbrev pub HasNoKeyword : List ℕ → Type 0
 HasNoKeyword text = (w : Keyword) → text ≡ keyword_text w → ⊥
 
--- the bytes that a piece takes are some, and the rules go on behind them; or there is a fault
-abbrev pub IsPiece : List ℕ → Piece → Type 0
-IsPiece bytes Blank = (0 < length bytes) × ((p : Pos) (r : Result (List the_token.Token) lexing.Fault) → IsLexed (after p (take 1 bytes)) (drop 1 bytes) r → IsLexed p bytes r)
-IsPiece bytes (Token k len) = (0 < len) × (len ≤ length bytes) ×
-    ((p : Pos) (r : Result (List the_token.Token) lexing.Fault) → IsLexed (after p (take len bytes)) (drop len bytes) r → IsLexed p bytes (with_token (record { kind = k; at = p }) r))
-IsPiece bytes Fault = (p : Pos) → (f : lexing.Fault) × IsLexed p bytes (Err f)
+-- the longest mark at the beginning of a text
+pub record IsMarkAt (bytes : List ℕ) (m : Punct) : Type 0 where
+  pub rest : List ℕ
+  pub whole : bytes ≡ mark_text m ++ rest
+  pub longest : (extra others : List ℕ) (o : Punct) → rest ≡ extra ++ others → mark_text m ++ extra ≡ mark_text o → extra ≡ []
+
+abbrev pub HasNoMark : List ℕ → Type 0
+HasNoMark bytes = (m : Punct) (rest : List ℕ) → bytes ≡ mark_text m ++ rest → ⊥
+
+-- `x` or `X`, and a hexadecimal digit, behind the first byte
+abbrev pub begins_hexadecimal : List ℕ → Bool
+begins_hexadecimal bytes = ((slice_index bytes 1 == 120) || (slice_index bytes 1 == 88)) && is_digit_in Hexadecimal (slice_index bytes 2)
+
+-- the base of the literal that a text begins with, and how many bytes stand before its digits
+abbrev pub base_of : List ℕ → Base
+base_of bytes = if slice_index bytes 0 == 48 then (if begins_hexadecimal bytes then Hexadecimal else Octal) else Decimal
+
+abbrev pub front_len_of : Base → ℕ
+front_len_of Decimal = 0
+front_len_of Octal = 1
+front_len_of Hexadecimal = 2
+
+abbrev pub suffix_len_of : List ℕ → ℕ
+suffix_len_of bytes =
+    if (slice_index bytes 0 == 108) || (slice_index bytes 0 == 76)
+    then (if slice_index bytes 1 == slice_index bytes 0 then 2 else 1)
+    else 0
+
+-- the digits of the literal that a text begins with
+pub record IsDigitsAt (bytes : List ℕ) (n : Digits) : Type 0 where
+  pub front : List ℕ
+  pub digits : List ℕ
+  pub before : length front ≡ n.from
+  pub size : length digits + n.from ≡ n.to
+  pub within : n.to ≤ length bytes
+  pub whole : bytes ≡ front ++ (digits ++ drop n.to bytes)
+  pub numeral : IsNumeral n.base front digits
+  pub ends : Ends (is_digit_in n.base) (drop n.to bytes)
+  pub octal : n.base ≡ Octal → begins_hexadecimal bytes ≡ false
+
+-- the first `*/` of a text
+pub record IsFirstEnd (text : List ℕ) (i : ℕ) : Type 0 where
+  pub within : i + 2 ≤ length text
+  pub whole : text ≡ take i text ++ (codes "*/" ++ drop (i + 2) text)
+  pub first : HasNoEnd (take i text)
+
+-- the place's numbers may grow by a number of bytes
+pub record HasRoom (p : Place) (n : ℕ) : Type 0 where
+  pub line : p.at.line ≤ 1 + p.offset
+  pub column : p.at.column ≤ 1 + p.offset
+  pub room : p.offset + n ≤ 65536
+
+-- the bytes that a piece takes are some, and the rules go on behind them
+abbrev pub IsPiece : Place → List ℕ → Piece → Type 0
+IsPiece p bytes (Gap len) = (0 < len) × (len ≤ length bytes) ×
+    ((r : Result (List the_token.Token) LexError) → IsLexed (after p (take len bytes)) (drop len bytes) r → IsLexed p bytes r)
+IsPiece p bytes (Token k len) = (0 < len) × (len ≤ length bytes) ×
+    ((r : Result (List the_token.Token) LexError) → IsLexed (after p (take len bytes)) (drop len bytes) r → IsLexed p bytes (with_token (token_at p k (take len bytes)) r))

@@ -1,12 +1,14 @@
-//! The tokens of the first form of the language, and the lexer.
+//! The tokens of the language, and the lexer.
 //!
-//! A token is a name, a decimal literal, `int`, `return`, or one of the marks `(` `)` `{` `}` `;` `=` `+` `-` `==`.
-//! The longest mark of the whole language is taken, and every reserved word of the whole language is no name: so
-//! `x += 1` and `while` are no tokens yet. There are no comments and no include lines.
+//! A token is a name, a literal, a reserved word or a mark. White space, comments and include lines stand between
+//! tokens. `specs/Lexing.antt` has the rules, as a relation between a text and its one answer.
 #![tactic(auto)]
 
+mod gap;
+mod literal;
+mod run;
 pub mod scan;
 #[cfg(test)]
 mod tests;
-pub mod text;
 pub mod token;
+mod word;

@@ -1,25 +1,20 @@
-//! Texts with their tokens.
+//! Texts with their answers.
 
 ghost use Rattle.std.specs.Prelude.{◌≤◌, length};
 
-use crate::scan::{lex, one_answer};
-use crate::token::{FirstError, Token, TokenKind};
+use crate::scan::{end_of, lex, one_answer};
+use crate::token::{Keyword, LexError, Punct, Token, TokenKind};
+use c_tree::tree::Pos;
 use std::alloc::Global;
 use std::fmt::Write;
 use std::test::Fail;
 
-/// Each token with its place.
+/// Each token with its place and its bytes.
 fn spelled(alloc: Global, tokens: &[Token]) -> Result<String, Fail> {
     let mut out = String::new(alloc);
     for token in tokens {
         write!(out, "{}:{} ", token.at.line, token.at.column)?;
-        match &token.kind {
-            TokenKind::Name(text) => write!(out, "{:?}", text.copy(alloc)?.as_bytes())?,
-            TokenKind::Literal(value) => write!(out, "{value}")?,
-            TokenKind::Word(word) => write!(out, "{word:?}")?,
-            TokenKind::Mark(mark) => write!(out, "{mark:?}")?,
-        }
-        write!(out, "; ")?;
+        write!(out, "{}-{} {:?}; ", token.from, token.to, token.kind)?;
     }
     Ok(out)
 }
@@ -27,25 +22,41 @@ fn spelled(alloc: Global, tokens: &[Token]) -> Result<String, Fail> {
 #[test]
 fn tokens_of_texts(rt: HostRuntime) -> Result<(), Fail> {
     one_answer();
-    let table: [(&[u8], &str); 12] = [
+    let table: [(&[u8], &str); 16] = [
         (b"", ""),
         (b" \t\x0b\x0c\r\n", ""),
-        (b"x = 12;", "1:1 [120]; 1:3 Assign; 1:5 12; 1:7 Semicolon; "),
-        (b"\na\n\n  b\tc", "2:1 [97]; 4:3 [98]; 4:5 [99]; "),
-        (b"int\r\nreturn", "1:1 Int; 2:1 Return; "),
         (
-            b"(){}",
-            "1:1 OpenParenthesis; 1:2 CloseParenthesis; 1:3 OpenBrace; 1:4 CloseBrace; ",
+            b"x+++0x1F;",
+            "1:1 0-1 Name; 1:2 1-3 Mark(Increment); 1:4 3-4 Mark(Plus); 1:5 4-8 Literal(31); 1:9 8-9 Mark(Semicolon); ",
         ),
         (
-            b"a + + -b",
-            "1:1 [97]; 1:3 Plus; 1:5 Plus; 1:7 Minus; 1:8 [98]; ",
+            b"\na\n\n  b\tc",
+            "2:1 1-2 Name; 4:3 6-7 Name; 4:5 8-9 Name; ",
         ),
-        (b"= ===", "1:1 Assign; 1:3 Equal; 1:5 Assign; "),
-        (b"0+9", "1:1 0; 1:2 Plus; 1:3 9; "),
-        (b"9223372036854775807", "1:1 9223372036854775807; "),
-        (b"_z9 Int", "1:1 [95, 122, 57]; 1:5 [73, 110, 116]; "),
-        (b"if0 i", "1:1 [105, 102, 48]; 1:5 [105]; "),
+        (
+            b"int\r\nIf _z9 if0",
+            "1:1 0-3 Word(Int); 2:1 5-7 Name; 2:4 8-11 Name; 2:8 12-15 Name; ",
+        ),
+        (
+            b"a---b",
+            "1:1 0-1 Name; 1:2 1-3 Mark(Decrement); 1:4 3-4 Mark(Minus); 1:5 4-5 Name; ",
+        ),
+        (
+            b"= ===",
+            "1:1 0-1 Mark(Assign); 1:3 2-4 Mark(Equal); 1:5 4-5 Mark(Assign); ",
+        ),
+        (b"a/* c */b", "1:1 0-1 Name; 1:9 8-9 Name; "),
+        (b"a// \x00\xff */\nb//", "1:1 0-1 Name; 2:1 10-11 Name; "),
+        (b"/**//***/ /* * / */x", "1:20 19-20 Name; "),
+        (b"/* \n */ y", "2:5 8-9 Name; "),
+        (b"#include <a>", ""),
+        (b" \t#\tinclude", ""),
+        (b"#include", ""),
+        (b"#include <a> /* not a comment\nx", "2:1 30-31 Name; "),
+        (
+            b"int\n  # include\"a\" //\n#include<b>\n;",
+            "1:1 0-3 Word(Int); 4:1 34-35 Mark(Semicolon); ",
+        ),
     ];
     for (text, wanted) in table {
         assert!(rt; text.len() <= 65536);
@@ -56,88 +67,229 @@ fn tokens_of_texts(rt: HostRuntime) -> Result<(), Fail> {
     Ok(())
 }
 
-fn is_refused(alloc: Global, text: &[u8]) -> bool
+/// The kind of a text that is one token.
+fn kind_of(alloc: Global, text: &[u8]) -> Option<TokenKind>
     requires { length text.now ≤ 65536 }
 {
-    matches!(lex(alloc, text), Err(FirstError::Syntax))
+    let tokens = lex(alloc, text).ok()?;
+    match tokens.as_slice() {
+        [token] => Some(token.kind),
+        _ => None,
+    }
 }
 
 #[test]
-fn faults(rt: HostRuntime) -> Result<(), Fail> {
-    let marks: [&[u8]; 15] = [
-        b",", b"*", b"!", b"<", b"<=", b">", b">=", b"!=", b"&&", b"||", b"+=", b"-=", b"*=",
-        b"++", b"--",
+fn words(rt: HostRuntime) -> Result<(), Fail> {
+    let table: [(&[u8], Keyword); 44] = [
+        (b"int", Keyword::Int),
+        (b"long", Keyword::Long),
+        (b"void", Keyword::Void),
+        (b"extern", Keyword::Extern),
+        (b"if", Keyword::If),
+        (b"else", Keyword::Else),
+        (b"while", Keyword::While),
+        (b"do", Keyword::Do),
+        (b"for", Keyword::For),
+        (b"break", Keyword::Break),
+        (b"continue", Keyword::Continue),
+        (b"return", Keyword::Return),
+        (b"auto", Keyword::Auto),
+        (b"case", Keyword::Case),
+        (b"char", Keyword::Char),
+        (b"const", Keyword::Const),
+        (b"default", Keyword::Default),
+        (b"double", Keyword::Double),
+        (b"enum", Keyword::Enum),
+        (b"float", Keyword::Float),
+        (b"goto", Keyword::Goto),
+        (b"inline", Keyword::Inline),
+        (b"register", Keyword::Register),
+        (b"restrict", Keyword::Restrict),
+        (b"short", Keyword::Short),
+        (b"signed", Keyword::Signed),
+        (b"sizeof", Keyword::Sizeof),
+        (b"static", Keyword::Static),
+        (b"struct", Keyword::Struct),
+        (b"switch", Keyword::Switch),
+        (b"typedef", Keyword::Typedef),
+        (b"union", Keyword::Union),
+        (b"unsigned", Keyword::Unsigned),
+        (b"volatile", Keyword::Volatile),
+        (b"_Alignas", Keyword::Alignas),
+        (b"_Alignof", Keyword::Alignof),
+        (b"_Atomic", Keyword::Atomic),
+        (b"_Bool", Keyword::Bool),
+        (b"_Complex", Keyword::Complex),
+        (b"_Generic", Keyword::Generic),
+        (b"_Imaginary", Keyword::Imaginary),
+        (b"_Noreturn", Keyword::Noreturn),
+        (b"_Static_assert", Keyword::StaticAssert),
+        (b"_Thread_local", Keyword::ThreadLocal),
     ];
-    let others: [&[u8]; 19] = [
-        b"x += 1",
-        b"a++b",
-        b"a--b",
-        b"x+==",
-        b"/",
-        b"/* */",
-        b"// x",
-        b"#include <a>",
-        b"%",
-        b"&",
-        b"|",
-        b"00",
-        b"08",
-        b"0x1",
-        b"1L",
-        b"1x",
-        b"1_",
-        b"9223372036854775808",
-        b"x\xc3\xa9",
+    for (text, word) in table {
+        assert!(rt; text.len() <= 65536);
+        assert_eq!(rt; kind_of(rt.alloc(), text), Some(TokenKind::Word(word)));
+    }
+    Ok(())
+}
+
+#[test]
+fn marks(rt: HostRuntime) -> Result<(), Fail> {
+    let table: [(&[u8], Punct); 24] = [
+        (b"(", Punct::OpenParenthesis),
+        (b")", Punct::CloseParenthesis),
+        (b"{", Punct::OpenBrace),
+        (b"}", Punct::CloseBrace),
+        (b";", Punct::Semicolon),
+        (b",", Punct::Comma),
+        (b"=", Punct::Assign),
+        (b"+", Punct::Plus),
+        (b"-", Punct::Minus),
+        (b"*", Punct::Star),
+        (b"!", Punct::Not),
+        (b"<", Punct::Less),
+        (b"<=", Punct::LessEqual),
+        (b">", Punct::Greater),
+        (b">=", Punct::GreaterEqual),
+        (b"==", Punct::Equal),
+        (b"!=", Punct::Unequal),
+        (b"&&", Punct::And),
+        (b"||", Punct::Or),
+        (b"+=", Punct::PlusAssign),
+        (b"-=", Punct::MinusAssign),
+        (b"*=", Punct::StarAssign),
+        (b"++", Punct::Increment),
+        (b"--", Punct::Decrement),
     ];
-    let words: [&[u8]; 42] = [
-        b"long",
-        b"void",
-        b"extern",
-        b"if",
-        b"else",
-        b"while",
-        b"do",
-        b"for",
-        b"break",
-        b"continue",
-        b"auto",
-        b"case",
-        b"char",
-        b"const",
-        b"default",
-        b"double",
-        b"enum",
-        b"float",
-        b"goto",
-        b"inline",
-        b"register",
-        b"restrict",
-        b"short",
-        b"signed",
-        b"sizeof",
-        b"static",
-        b"struct",
-        b"switch",
-        b"typedef",
-        b"union",
-        b"unsigned",
-        b"volatile",
-        b"_Alignas",
-        b"_Alignof",
-        b"_Atomic",
-        b"_Bool",
-        b"_Complex",
-        b"_Generic",
-        b"_Imaginary",
-        b"_Noreturn",
-        b"_Static_assert",
-        b"_Thread_local",
+    for (text, mark) in table {
+        assert!(rt; text.len() <= 65536);
+        assert_eq!(rt; kind_of(rt.alloc(), text), Some(TokenKind::Mark(mark)));
+    }
+    Ok(())
+}
+
+#[test]
+fn literals(rt: HostRuntime) -> Result<(), Fail> {
+    let table: [(&[u8], i64); 18] = [
+        (b"0", 0),
+        (b"00", 0),
+        (b"9", 9),
+        (b"1203", 1203),
+        (b"017", 15),
+        (b"0x1F", 31),
+        (b"0Xab", 171),
+        (b"1l", 1),
+        (b"1L", 1),
+        (b"1ll", 1),
+        (b"1LL", 1),
+        (b"0l", 0),
+        (b"07LL", 7),
+        (b"0xfll", 15),
+        (b"9223372036854775807", 9223372036854775807),
+        (b"0x7fffffffffffffff", 9223372036854775807),
+        (b"0777777777777777777777", 9223372036854775807),
+        (b"00000000000000000000000001L", 1),
     ];
-    for table in [marks.as_slice(), others.as_slice(), words.as_slice()] {
-        for text in table {
-            assert!(rt; text.len() <= 65536);
-            assert!(rt; is_refused(rt.alloc(), text));
-        }
+    for (text, value) in table {
+        assert!(rt; text.len() <= 65536);
+        assert_eq!(rt; kind_of(rt.alloc(), text), Some(TokenKind::Literal(value)));
+    }
+    Ok(())
+}
+
+/// The fault of a text.
+fn fault_of(alloc: Global, text: &[u8]) -> Option<LexError>
+    requires { length text.now ≤ 65536 }
+{
+    lex(alloc, text).err()
+}
+
+#[test]
+fn bad_bytes(rt: HostRuntime) -> Result<(), Fail> {
+    let table: [(&[u8], u32, u32); 26] = [
+        (b"x=08;", 1, 4),
+        (b"019", 1, 3),
+        (b"0x;", 1, 2),
+        (b"0xg", 1, 2),
+        (b"0x1G", 1, 4),
+        (b"1lL", 1, 3),
+        (b"1Ll", 1, 3),
+        (b"1lll", 1, 4),
+        (b"1u", 1, 2),
+        (b"1_", 1, 2),
+        (b"9223372036854775808x", 1, 20),
+        (b"/* /* */ */", 1, 11),
+        (b"a / b", 1, 3),
+        (b"\n a % b", 2, 4),
+        (b"a & b", 1, 3),
+        (b"a | b", 1, 3),
+        (b"#includex", 1, 1),
+        (b"#include_", 1, 1),
+        (b"#include1", 1, 1),
+        (b"#define", 1, 1),
+        (b"x #include", 1, 3),
+        (b"/* c */ #include", 1, 9),
+        (b"/* \n */#include", 2, 4),
+        (b"\r#include", 1, 2),
+        (b"#\ninclude", 1, 1),
+        (b"x\xc3\xa9", 1, 2),
+    ];
+    for (text, line, column) in table {
+        assert!(rt; text.len() <= 65536);
+        let at = Pos { line, column };
+        assert_eq!(rt; fault_of(rt.alloc(), text), Some(LexError::BadByte(at)));
+    }
+    Ok(())
+}
+
+#[test]
+fn other_faults(rt: HostRuntime) -> Result<(), Fail> {
+    let first = Pos { line: 1, column: 1 };
+    let third = Pos { line: 1, column: 3 };
+    let table: [(&[u8], LexError); 8] = [
+        (b"9223372036854775808", LexError::TooWide(first)),
+        (b"0x8000000000000000", LexError::TooWide(first)),
+        (b"01000000000000000000000", LexError::TooWide(first)),
+        (b"x=99999999999999999999999999L%", LexError::TooWide(third)),
+        (b"/*/", LexError::OpenComment(first)),
+        (b"/*", LexError::OpenComment(first)),
+        (b"x /* \n * / //", LexError::OpenComment(third)),
+        (b"+ /* %", LexError::OpenComment(third)),
+    ];
+    for (text, fault) in table {
+        assert!(rt; text.len() <= 65536);
+        assert_eq!(rt; fault_of(rt.alloc(), text), Some(fault));
+    }
+    Ok(())
+}
+
+/// Each byte alone is white space, a token, or refused.
+#[test]
+fn single_bytes(rt: HostRuntime) -> Result<(), Fail> {
+    let taken = b" \t\n\x0b\x0c\r_(){};,=+-*!<>";
+    let first = Pos { line: 1, column: 1 };
+    for byte in 0..=255u8 {
+        let wanted = if taken.contains(&byte) || byte.is_ascii_alphanumeric() {
+            None
+        } else {
+            Some(LexError::BadByte(first))
+        };
+        assert_eq!(rt; fault_of(rt.alloc(), &[byte]), wanted);
+    }
+    Ok(())
+}
+
+#[test]
+fn ends(rt: HostRuntime) -> Result<(), Fail> {
+    let table: [(&[u8], u32, u32); 4] = [
+        (b"", 1, 1),
+        (b"ab", 1, 3),
+        (b"ab\n", 2, 1),
+        (b"\n\n /* %", 3, 6),
+    ];
+    for (text, line, column) in table {
+        assert!(rt; text.len() <= 65536);
+        assert_eq!(rt; end_of(text), Pos { line, column });
     }
     Ok(())
 }

@@ -1,20 +1,62 @@
 //! Tokens and faults.
 
 ghost use Rattle.std.specs.Prelude.{◌≡◌};
-ghost use Rattle.c_lexer.specs.declared.token.FirstError.TheVariants.{Memory};
+ghost use Rattle.c_lexer.specs.declared.token.LexError.TheVariants.{Memory};
 
-use crate::text::Text;
 use c_tree::tree::Pos;
 use std::alloc::{AllocError, AllocFailed};
+use thiserror::Error;
 
-/// A reserved word in use.
+/// A reserved word. The last 32 have no use in the language.
 #[derive(Clone, Copy, PartialEq, Eq, Debug)]
 pub enum Keyword {
     Int,
+    Long,
+    Void,
+    Extern,
+    If,
+    Else,
+    While,
+    Do,
+    For,
+    Break,
+    Continue,
     Return,
+    Auto,
+    Case,
+    Char,
+    Const,
+    Default,
+    Double,
+    Enum,
+    Float,
+    Goto,
+    Inline,
+    Register,
+    Restrict,
+    Short,
+    Signed,
+    Sizeof,
+    Static,
+    Struct,
+    Switch,
+    Typedef,
+    Union,
+    Unsigned,
+    Volatile,
+    Alignas,
+    Alignof,
+    Atomic,
+    Bool,
+    Complex,
+    Generic,
+    Imaginary,
+    Noreturn,
+    StaticAssert,
+    ThreadLocal,
 }
 
-/// A mark in use.
+/// A mark.
 #[derive(Clone, Copy, PartialEq, Eq, Debug)]
 pub enum Punct {
     OpenParenthesis,
@@ -22,50 +64,80 @@ pub enum Punct {
     OpenBrace,
     CloseBrace,
     Semicolon,
+    Comma,
     Assign,
     Plus,
     Minus,
+    Star,
+    Not,
+    Less,
+    LessEqual,
+    Greater,
+    GreaterEqual,
     Equal,
+    Unequal,
+    And,
+    Or,
+    PlusAssign,
+    MinusAssign,
+    StarAssign,
+    Increment,
+    Decrement,
 }
 
-/// What a token is.
-#[derive(Drop, Debug)]
+/// What a token is. The text of a name is that of its token.
+#[derive(Clone, Copy, PartialEq, Eq, Debug)]
 pub enum TokenKind {
-    Name(Text),
+    Name,
     Literal(i64),
     Word(Keyword),
     Mark(Punct),
 }
 
-/// A token, and where it begins.
-#[derive(Drop, Debug)]
+/// A token, where it begins, and its bytes: those of the text from `from` to before `to`.
+#[derive(Clone, Copy, PartialEq, Eq, Debug)]
 pub struct Token {
     pub kind: TokenKind,
     pub at: Pos,
+    pub from: u32,
+    pub to: u32,
 }
 
-/// Why a text was not accepted.
+/// A place in a text.
 #[derive(Clone, Copy, PartialEq, Eq, Debug)]
-pub enum FirstError {
-    /// It isn't written in the first form of the language.
-    Syntax,
-    /// It is of the language, in a form that is not built yet.
-    Unbuilt,
+pub struct Place {
+    pub at: Pos,
+    /// The number of bytes before it.
+    pub offset: u32,
+    /// The line before it holds only blanks and tabs.
+    pub line_is_blank: bool,
+}
+
+/// Why a text has no tokens.
+#[derive(Clone, Copy, PartialEq, Eq, Debug, Error)]
+pub enum LexError {
+    #[error("{}:{}: no token begins or goes on with this byte", .0.line, .0.column)]
+    BadByte(Pos),
+    #[error("{}:{}: this comment has no end", .0.line, .0.column)]
+    OpenComment(Pos),
+    #[error("{}:{}: this literal is past the greatest value", .0.line, .0.column)]
+    TooWide(Pos),
+    #[error("no memory is left")]
     Memory,
 }
 
-impl From<AllocError> for FirstError {
+impl From<AllocError> for LexError {
     ghost from_gives = { λ _ e. e ≡ Memory };
 
-    fn from(_error: AllocError) -> FirstError {
-        FirstError::Memory
+    fn from(_error: AllocError) -> LexError {
+        LexError::Memory
     }
 }
 
-impl<T: Drop> From<AllocFailed<T>> for FirstError {
+impl<T: Drop> From<AllocFailed<T>> for LexError {
     ghost from_gives = { λ _ e. e ≡ Memory };
 
-    fn from(_error: AllocFailed<T>) -> FirstError {
-        FirstError::Memory
+    fn from(_error: AllocFailed<T>) -> LexError {
+        LexError::Memory
     }
 }

@@ -52,7 +52,7 @@ abbrev mutual
   pub statement_tree_nodes : StatementTree → ℕ
   statement_tree_nodes (block ss) = 1 + statement_trees_nodes ss
   statement_tree_nodes empty = 1
-  statement_tree_nodes (declare ds) = declared_nodes ds
+  statement_tree_nodes (declare ds) = 1 + declared_nodes ds
   statement_tree_nodes (simple s) = simple_nodes s
   statement_tree_nodes (if_then e a) = 2 + tree_nodes e + statement_tree_nodes a
   statement_tree_nodes (if_else e a b) = 1 + tree_nodes e + statement_tree_nodes a + statement_tree_nodes b

@@ -1,4 +1,0 @@
-pub mod Steps
-pub mod Judged
-pub mod Completed
-pub mod Words
