@@ -1,0 +1,15 @@
+pub mod Ring
+pub mod Values
+pub mod Order
+pub mod Fronts
+pub mod Limits
+pub mod Merging
+pub mod Exits
+pub mod Finishing
+pub mod ExactSums
+pub mod Gathering
+pub mod Combining
+pub mod Searching
+pub mod Evaluating
+pub mod Renamed
+pub mod Laws

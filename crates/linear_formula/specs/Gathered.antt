@@ -1,0 +1,6 @@
+-- Parts that were gathered by so many additions.
+use Rattle.std.specs.Prelude.{ℕ, List, ℤ}
+
+pub record Gathered : Type 0 where
+  pub parts : List (ℕ × ℤ)
+  pub adds : ℕ

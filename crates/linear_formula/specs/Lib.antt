@@ -1,0 +1,6 @@
+pub mod LinearSum
+pub mod Results
+pub mod Formula
+pub mod Order
+pub mod Exact
+pub mod Gathered

@@ -1,0 +1,185 @@
+// Atoms and cubes.
+
+ghost use Rattle.std.specs.Prelude.{◌≡◌, ◌++◌, ◌↔◌, ◌≤ℤ◌, ◌-ℤ◌, ℕ, ℤ, pos, unwrap_or, IfOk, OnOk, OnErr, IsErrOf, IsTrue};
+ghost use Rattle.std.specs.BTreeMap.{get};
+ghost use Rattle.std.specs.Ordering.{nat_cmp};
+ghost use Rattle.linear_formula.specs.LinearSum.{value_of, valuation, is_term, is_within};
+ghost use Rattle.linear_formula.specs.Results.{substituted, negated, valuation_with, renamed_valuation};
+ghost use Rattle.linear_formula.specs.Formula.{Holds, HoldsAll, renamed_atoms, renamed_atoms_by, are_within, is_renaming};
+
+use crate::assignment::Assignment;
+use crate::error::{LinError, OutOfMemory};
+use crate::renaming::{NewColumns, new_columns};
+use crate::term::Term;
+use std::alloc::Global;
+use std::marker::Model;
+
+/// Reads: the term is at most 0.
+#[derive(Debug, Drop)]
+pub struct Atom {
+    pub term: Term,
+}
+
+/// Atoms in order.
+#[derive(Debug, Drop)]
+pub struct Atoms {
+    items: Vec<Atom>,
+}
+
+impl Model for Atoms {
+    ghost use Rattle.std.specs.Prelude.{List};
+    ghost use Rattle.linear_formula.specs.declared.formula.Atom.{Atom};
+
+    ghost Value = { List Atom };
+
+    ghost view = { λ a. a.items.items };
+}
+
+/// All of the atoms; the empty cube is true.
+#[derive(Debug, Drop)]
+pub struct Cube {
+    pub atoms: Atoms,
+}
+
+impl Atoms {
+    /// Takes no memory of its own.
+    pub fn from_vec(items: Vec<Atom>) -> Atoms
+        ensures { result ≡ items.items }
+    {
+        Atoms { items }
+    }
+
+    pub fn into_vec(self) -> Vec<Atom>
+        ensures { result.items ≡ self }
+    {
+        let Atoms { items } = self;
+        items
+    }
+
+    pub fn as_slice(&self) -> &[Atom]
+        ensures { result.now ≡ self.now }
+    {
+        self.items.as_slice()
+    }
+}
+
+impl Atom {
+    pub fn copy(&self, alloc: Global) -> Result<Atom, OutOfMemory>
+        ensures { IfOk result (λ atom. atom ≡ self.now) }
+    {
+        let term = self.term.copy(alloc)?;
+        Ok(Atom { term })
+    }
+
+    /// Puts a term in the place of a column.
+    pub fn substitute(&self, alloc: Global, column: u32, by: &Term) -> Result<Atom, LinError>
+        ensures value { IfOk result (λ atom. atom.term ≡ substituted column by.now self.now.term) }
+        ensures kept { IfOk result (λ atom. IsTrue (is_term atom.term)) }
+        ensures law { IfOk result
+            (λ atom. (v : ℕ → ℤ) → value_of v atom.term ≡ value_of (valuation_with v column (value_of v by.now)) self.now.term) }
+        ensures wide { IsErrOf result LinError.Wide → ¬ IsTrue (is_within (substituted column by.now self.now.term)) }
+    {
+        let term = self.term.substitute(alloc, column, by)?;
+        Ok(Atom { term })
+    }
+
+    /// Makes `1 - term <= 0` of `term <= 0`.
+    pub fn negate(&mut self) -> Result<(), LinError>
+        ensures value { OnOk result (self.new.term ≡ negated self.old.term) }
+        ensures kept { OnOk result (IsTrue (is_term self.new.term)) }
+        ensures law { OnOk result ((v : ℕ → ℤ) → (Holds v self.new ↔ (¬ Holds v self.old))) }
+        ensures wide { OnErr result (¬ IsTrue (is_within (negated self.old.term))) }
+        ensures unchanged { OnErr result (self.new ≡ self.old) }
+        ensures error { IsErrOf result LinError.Memory → ⊥ }
+    {
+        self.term.negate()
+    }
+
+    pub fn holds(&self, at: &Assignment) -> bool
+        ensures { IsTrue result ↔ Holds (valuation at.now) self.now }
+    {
+        self.term.value(at) <= 0
+    }
+}
+
+fn copy_onto(out: &mut Vec<Atom>, alloc: Global, atoms: &[Atom]) -> Result<(), OutOfMemory>
+    ensures { OnOk result (out.new.items ≡ out.old.items ++ atoms.now) }
+{
+    for atom in atoms {
+        out.push(atom.copy(alloc)?)?;
+    }
+    Ok(())
+}
+
+fn rename_onto(
+    out: &mut Vec<Atom>,
+    alloc: Global,
+    columns: &NewColumns,
+    atoms: &[Atom],
+) -> Result<(), LinError>
+    ensures items { OnOk result
+        (out.new.items ≡ out.old.items ++ renamed_atoms_by (λ x. unwrap_or (get nat_cmp columns.now x) x) atoms.now) }
+    ensures within { OnOk result (IsTrue (are_within out.old.items) → IsTrue (are_within out.new.items)) }
+    ensures wide { IsErrOf result LinError.Wide → ¬ IsTrue
+        (are_within (renamed_atoms_by (λ x. unwrap_or (get nat_cmp columns.now x) x) atoms.now)) }
+{
+    for atom in atoms {
+        let term = atom.term.rename(alloc, columns)?;
+        out.push(Atom { term })?;
+    }
+    Ok(())
+}
+
+impl Cube {
+    pub fn copy(&self, alloc: Global) -> Result<Cube, OutOfMemory>
+        ensures { IfOk result (λ cube. cube ≡ self.now) }
+    {
+        let mut items = Vec::with_capacity(alloc, self.atoms.as_slice().len())?;
+        copy_onto(&mut items, alloc, self.atoms.as_slice())?;
+        Ok(Cube {
+            atoms: Atoms::from_vec(items),
+        })
+    }
+
+    pub fn holds(&self, at: &Assignment) -> bool
+        ensures { IsTrue result ↔ HoldsAll (valuation at.now) self.now.atoms }
+    {
+        for atom in self.atoms.as_slice() {
+            if !atom.holds(at) {
+                return false;
+            }
+        }
+        true
+    }
+
+    /// The atoms of both, in order.
+    pub fn and(&self, alloc: Global, other: &Cube) -> Result<Cube, OutOfMemory>
+        ensures { IfOk result (λ cube. cube.atoms ≡ self.now.atoms ++ other.now.atoms) }
+    {
+        let left = self.atoms.as_slice();
+        let right = other.atoms.as_slice();
+        let mut items = Vec::with_capacity(alloc, left.len() + right.len())?;
+        copy_onto(&mut items, alloc, left)?;
+        copy_onto(&mut items, alloc, right)?;
+        Ok(Cube {
+            atoms: Atoms::from_vec(items),
+        })
+    }
+
+    /// Gives each listed column its new number, all at once; the columns that are not listed keep theirs.
+    pub fn rename(&self, alloc: Global, map: &[(u32, u32)]) -> Result<Cube, LinError>
+        requires { IsTrue (is_renaming map.now) }
+        ensures value { IfOk result (λ cube. cube.atoms ≡ renamed_atoms map.now self.now.atoms) }
+        ensures law { IfOk result
+            (λ cube. (v : ℕ → ℤ) → (HoldsAll v cube.atoms ↔ HoldsAll (renamed_valuation map.now v) self.now.atoms)) }
+        ensures within { IfOk result (λ cube. IsTrue (are_within cube.atoms)) }
+        ensures wide { IsErrOf result LinError.Wide → ¬ IsTrue (are_within (renamed_atoms map.now self.now.atoms)) }
+    {
+        let columns = new_columns(alloc, map)?;
+        let mut items = Vec::with_capacity(alloc, self.atoms.as_slice().len())?;
+        rename_onto(&mut items, alloc, &columns, self.atoms.as_slice())?;
+        Ok(Cube {
+            atoms: Atoms::from_vec(items),
+        })
+    }
+}

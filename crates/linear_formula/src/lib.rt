@@ -1,0 +1,15 @@
+//! Linear terms over columns, and formulas of them, in exact arithmetic.
+#![tactic(auto)]
+
+pub mod assignment;
+mod column;
+pub mod error;
+mod exact_sum;
+pub mod formula;
+mod merge;
+pub mod question;
+mod renaming;
+mod sums;
+pub mod term;
+#[cfg(test)]
+mod tests;

@@ -1,0 +1,6 @@
+pub mod Outcome
+pub mod Machine
+pub mod Results
+pub mod View
+pub mod Standing
+pub mod Sample
