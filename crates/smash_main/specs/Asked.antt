@@ -1,0 +1,99 @@
+-- What a source asks for under a command: a status and a whole text.
+use Rattle.std.specs.Prelude.{◌≡◌, ℕ, ◌<◌, List, [], ◌∷◌, ◌++◌, ◌⊎◌, codes, true, false, ℤ, slice_get, Some, Option, None}
+use Rattle.std.specs.Fmt.{decimal, signed_decimal}
+use Rattle.c_tree.specs.declared.tree.Pos.{Pos}
+use Rattle.c_tree.specs.declared.tree.AssertPlace.{AssertPlace}
+use Rattle.c_tree.specs.Syntax.{PureProgram}
+use Rattle.c_tree.specs.Meaning.{Returned, Stopped, Failed, ReplayOutcome, Comes, Starved, Fuel, Replays}
+use Rattle.smash_main.specs.declared.report.Verdict.{Verdict}
+use Rattle.smash_main.specs.Words.{Command, check, replay}
+use Rattle.smash_main.specs.Source.{IsAccepted, IsRefused, refusal_line}
+use Rattle.smash_main.specs.Plain.{is_plain}
+use Rattle.smash_main.specs.Verdicts.{HaveVerdicts}
+use Rattle.smash_main.specs.Report.{report_of, status_of}
+
+-- the first refusal of the bytes
+pub record AsksRefusal (bytes : List ℕ) (status : ℕ) (text : List ℕ) : Type 0 where
+  pub at : Pos
+  pub why : List ℕ
+  pub refused : IsRefused bytes at why
+  pub is_three : status ≡ 3
+  pub told : text ≡ refusal_line at why
+
+-- Checks
+
+abbrev pub unbuilt_text : List ℕ
+unbuilt_text = codes "refused: not built yet" ++ 10 ∷ []
+
+-- the report of a program, with its status
+pub record IsReported (program : PureProgram) (status : ℕ) (text : List ℕ) : Type 0 where
+  pub verdicts : List Verdict
+  pub judged : HaveVerdicts program verdicts
+  pub ended : status ≡ status_of verdicts
+  pub told : text ≡ report_of program.asserts verdicts
+
+-- a program with a second procedure, an input or a loop
+pub record IsUnbuilt (program : PureProgram) (status : ℕ) (text : List ℕ) : Type 0 where
+  pub more : is_plain program ≡ false
+  pub is_three : status ≡ 3
+  pub told : text ≡ unbuilt_text
+
+-- any other program
+pub record IsChecked (program : PureProgram) (status : ℕ) (text : List ℕ) : Type 0 where
+  pub plain : is_plain program ≡ true
+  pub reported : IsReported program status text
+
+-- Replays
+
+abbrev pub used_text : ℕ → List ℕ
+used_text used = codes ", inputs used " ++ (decimal used ++ 10 ∷ [])
+
+-- the place of the assertion that failed
+abbrev pub failed_text : Option AssertPlace → ℕ → List ℕ
+failed_text None used = []
+failed_text (Some a) used = codes "failed " ++ (decimal a.at.line ++ (codes ":" ++ (decimal a.at.column ++ used_text used)))
+
+-- an assertion that failed has a place
+abbrev pub HasPlace : ℕ → ReplayOutcome → Type 0
+HasPlace n (Comes (Failed id)) = id < n
+HasPlace n (Comes (Returned v)) = Unit {0}
+HasPlace n (Comes Stopped) = Unit {0}
+HasPlace n Starved = Unit {0}
+HasPlace n Fuel = Unit {0}
+
+abbrev pub replay_text : PureProgram → ℕ → ReplayOutcome → ℕ → List ℕ
+replay_text P fuel (Comes (Returned v)) used = codes "returned " ++ (signed_decimal v ++ used_text used)
+replay_text P fuel (Comes (Failed id)) used = failed_text (slice_get P.asserts id) used
+replay_text P fuel (Comes Stopped) used = codes "stopped" ++ used_text used
+replay_text P fuel Starved used = codes "starved" ++ used_text used
+replay_text P fuel Fuel used = codes "fuel " ++ (decimal fuel ++ (codes " spent" ++ 10 ∷ []))
+
+abbrev pub replay_status : ReplayOutcome → ℕ
+replay_status (Comes (Returned v)) = 0
+replay_status (Comes (Failed id)) = 1
+replay_status (Comes Stopped) = 0
+replay_status Starved = 2
+replay_status Fuel = 2
+
+-- the one outcome of the program on the list
+pub record IsReplayed (program : PureProgram) (fuel : ℕ) (list : List ℤ) (status : ℕ) (text : List ℕ) : Type 0 where
+  pub outcome : ReplayOutcome
+  pub used : ℕ
+  pub replayed : Replays program list fuel outcome used
+  pub ended : status ≡ replay_status outcome
+  pub told : text ≡ replay_text program fuel outcome used
+
+-- the answer to a program under a command
+abbrev pub Answers : Command → PureProgram → ℕ → List ℕ → Type 0
+Answers check program status text = IsUnbuilt program status text ⊎ IsChecked program status text
+Answers (replay fuel list) program status text = IsReplayed program fuel list status text
+
+-- an accepted source, and the answer to its program
+pub record AsksAnswer (c : Command) (bytes : List ℕ) (status : ℕ) (text : List ℕ) : Type 0 where
+  pub program : PureProgram
+  pub accepted : IsAccepted bytes program
+  pub answers : Answers c program status text
+
+-- what the source asks for under the command
+abbrev pub AsksFor : Command → List ℕ → ℕ → List ℕ → Type 0
+AsksFor c bytes status text = AsksRefusal bytes status text ⊎ AsksAnswer c bytes status text
