@@ -74,3 +74,7 @@ Gives (Err e) items = e ≡ Memory
 abbrev pub Refuses : Result Tree ParseError → ParseError → Type 0
 Refuses (Ok t) fault = ⊥
 Refuses (Err e) fault = (e ≡ fault) ⊎ (e ≡ Memory)
+
+-- a text has at most one file and one list of marks
+abbrev pub HasOneTree : Type 0
+HasOneTree = (ts : List PureToken) (deep marks : List Bool) (items others : List FileItem) → IsFile ts deep items → IsFile ts marks others → (deep ≡ marks) × (items ≡ others)

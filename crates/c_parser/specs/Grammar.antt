@@ -326,7 +326,7 @@ pub data IsItem : List PureToken → List Bool → FileItem → Type 0 where
   procedure : {rs ts body : List PureToken} {void : Bool} {ns : List Identifier} {deep : List Bool} {ss : StatementTrees} → IsResultType rs void → (n : Identifier) (t : PureToken) → IsMark punct.OpenParenthesis t → IsParameterList ts ns →
       (u : PureToken) → IsMark punct.CloseParenthesis u → IsStatement 1 body deep (tree.block ss) →
       IsItem (procedure_text rs n t ts u body) (all_shallow (rs ++ a_name n ∷ t ∷ (ts ++ u ∷ [])) ++ deep)
-        (tree.procedure (record { void = void; named = n; params = ns; body = ss; past = past_place (procedure_text rs n t ts u body) }))
+      (tree.procedure (record { void = void; named = n; params = ns; body = ss; past = past_place (procedure_text rs n t ts u body) }))
 
 -- the text is that of the file, and these of its tokens are too deep
 pub data IsFile : List PureToken → List Bool → List FileItem → Type 0 where

@@ -1,2 +1,11 @@
 pub mod Grammar
 pub mod Answer
+pub mod Machine
+pub mod Readable
+pub mod Parsing
+pub mod Prefixes
+pub mod Openings
+pub mod ParsingStatements
+pub mod Heads
+pub mod Found
+pub mod ParsingItems

@@ -2,6 +2,7 @@
 
 ghost use Rattle.std.specs.Prelude.{◌≡◌};
 ghost use Rattle.c_parser.specs.declared.fault.ParseError.TheVariants.{Memory};
+ghost use Rattle.c_parser.specs.declared.fault.Fault.TheVariants as inner;
 
 use c_tree::tree::Pos;
 use std::alloc::{AllocError, AllocFailed};
@@ -36,5 +37,30 @@ impl<T: Drop> From<AllocFailed<T>> for ParseError {
 
     fn from(_error: AllocFailed<T>) -> ParseError {
         ParseError::Memory
+    }
+}
+
+/// Why a part of a text was not read, by the number of the token.
+#[derive(Clone, Copy, PartialEq, Eq, Debug)]
+pub enum Fault {
+    Unexpected(usize),
+    End,
+    TooDeep(usize),
+    Memory,
+}
+
+impl From<AllocError> for Fault {
+    ghost from_gives = { λ _ e. e ≡ inner.Memory };
+
+    fn from(_error: AllocError) -> Fault {
+        Fault::Memory
+    }
+}
+
+impl<T: Drop> From<AllocFailed<T>> for Fault {
+    ghost from_gives = { λ _ e. e ≡ inner.Memory };
+
+    fn from(_error: AllocFailed<T>) -> Fault {
+        Fault::Memory
     }
 }

@@ -6,12 +6,34 @@ ghost use Rattle.c_tree.specs.SourceTree.{FileItem};
 ghost use Rattle.c_tree.specs.FileView.{file_of};
 ghost use Rattle.c_lexer.specs.Lexing.{IsTokens};
 ghost use Rattle.c_lexer.specs.Pure.{pure_tokens};
-ghost use Rattle.c_parser.specs.Answer.{IsShallowFile, IsUnexpected, IsUnfinished, IsFirstTooDeep, Gives, Refuses};
+ghost use Rattle.c_parser.specs.Answer.{IsShallowFile, IsUnexpected, IsUnfinished, IsFirstTooDeep, Gives, Refuses, HasOneTree};
+ghost use Rattle.c_parser.specs.Parsing.{IsTold};
 
 use crate::fault::ParseError;
+use crate::file::{all_finished, read, told};
+use crate::source::Source;
 use c_lexer::token::Token;
 use c_tree::syntax_tree::Tree;
 use std::alloc::Global;
+
+/// The answer, of which the clauses of `parse` follow.
+fn answer(alloc: Global, bytes: &[u8], tokens: &[Token]) -> Result<Tree, ParseError>
+    requires short { length bytes.now ≤ 65536 }
+    requires lexed { IsTokens bytes.now tokens.now }
+    ensures { IsTold bytes.now (pure_tokens bytes.now tokens.now) result }
+{
+    let source = Source {
+        alloc,
+        bytes,
+        tokens,
+    };
+    match read(&source) {
+        Ok(found) => Ok(Tree {
+            items: all_finished(alloc, found)?,
+        }),
+        Err(fault) => Err(told(&source, fault)),
+    }
+}
 
 /// The tree of a text, from its bytes and their tokens.
 pub fn parse(alloc: Global, bytes: &[u8], tokens: &[Token]) -> Result<Tree, ParseError>
@@ -29,5 +51,10 @@ pub fn parse(alloc: Global, bytes: &[u8], tokens: &[Token]) -> Result<Tree, Pars
     ensures if_end { (p : Pos) → IsUnfinished bytes.now (pure_tokens bytes.now tokens.now) p → Refuses result (ParseError.End p) }
     ensures if_too_deep { (p : Pos) → IsFirstTooDeep (pure_tokens bytes.now tokens.now) p → Refuses result (ParseError.TooDeep p) }
 {
-    Err(ParseError::Memory)
+    answer(alloc, bytes, tokens)
 }
+
+/// A text has at most one tree and one list of marks.
+pub fn one_tree()
+    ensures { HasOneTree }
+{}

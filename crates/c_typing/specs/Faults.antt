@@ -1,14 +1,14 @@
 -- All faults of a tree. They stand in any order; the one that is told is the first by position.
-use Rattle.std.specs.Prelude.{ℕ, ◌+◌, ◌==◌, Bool, true, false, ◌&&◌, ◌||◌, not as not_bool, List, [], ◌∷◌, ◌++◌, length, Option, Some, None, is_some, is_none, slice_get, if◌then◌else◌}
+use Rattle.std.specs.Prelude.{ℕ, ◌+◌, ◌==◌, Bool, true, false, ◌&&◌, ◌||◌, not as not_bool, List, [], ◌∷◌, ◌++◌, length, Option, Some, None, is_some, is_none, slice_get}
 use Rattle.c_tree.specs.declared.tree.Pos.{Pos}
 use Rattle.c_tree.specs.declared.tree.Op.{Op}
 use Rattle.c_tree.specs.declared.tree.Op.TheVariants as op
 use Rattle.c_tree.specs.SourceTree.{Identifier, ExpressionTree, literal, name, call, not, negate, plus, binary, ExpressionTrees, no_arguments, argument, SimpleStatement, set, change, add_one, subtract_one, call_statement, Declarator, ForInit, no_init, declaring, starting, StatementTree, block, empty, declare, simple, if_then, if_else, while_loop, do_while, for_loop, break, continue, return, StatementTrees, no_statements, statement, ProcedureTree, FileItem, prototype, procedure}
 use Rattle.c_typing.specs.declared.fault.TypeFault.{TypeFault}
-use Rattle.c_typing.specs.declared.fault.TypeFault.TheVariants.{UnknownName, Duplicate, WrongCount, VoidValue, NotLinear, NoMain, MainShape, OutsideLoop, OverLimit}
+use Rattle.c_typing.specs.declared.fault.TypeFault.TheVariants.{UnknownName, Duplicate, WrongCount, VoidValue, NotLinear, MainShape, OutsideLoop, OverLimit}
 use Rattle.c_typing.specs.declared.fault.Which.{Which}
 use Rattle.c_typing.specs.declared.fault.Which.TheVariants.{Procedures, Parameters, Variables, Tokens, Assertions}
-use Rattle.c_typing.specs.Scope.{is_built_in, is_main, procedures_of, number_of, Callee, input, assume, assert, defined, unknown, callee_of, Scope, slot_of, with_variable, with_names, names_of, is_declared_here, parameter_scope, declared_by, declared_by_init, variables_of, asserts_in_file}
+use Rattle.c_typing.specs.Scope.{is_built_in, is_main, procedures_of, number_of, Callee, input, assume, assert, defined, unknown, callee_of, Scope, slot_of, with_variable, with_names, names_of, is_declared_here, parameter_scope, declared_by_init, variables_of, asserts_in_file}
 
 pub record Fault : Type 0 where
   pub fault : TypeFault

@@ -2,3 +2,6 @@ pub mod Scope
 pub mod Faults
 pub mod Lowering
 pub mod Answer
+pub mod Least
+pub mod Tables
+pub mod Quiet

@@ -1,13 +1,11 @@
 -- The program of a tree without faults.
-use Rattle.std.specs.Prelude.{ℕ, ◌+◌, Bool, true, false, not as not_bool, List, [], ◌∷◌, ◌++◌, length, map, Option, Some, None, unwrap_or, codes, pos}
-use Rattle.c_tree.specs.declared.tree.Pos.{Pos}
-use Rattle.c_tree.specs.declared.tree.Op.{Op}
+use Rattle.std.specs.Prelude.{ℕ, ◌+◌, not as not_bool, List, [], ◌∷◌, ◌++◌, length, map, Option, Some, None, unwrap_or, codes, pos}
 use Rattle.c_tree.specs.declared.tree.Op.TheVariants as op
 use Rattle.c_tree.specs.declared.tree.AssertPlace.{AssertPlace}
 use Rattle.c_tree.specs.Syntax as program
 use Rattle.c_tree.specs.Syntax.{Expression, Expressions, no_expressions, expression, Statement, Statements, PureProcedure, PureProgram}
 use Rattle.c_tree.specs.SourceTree.{Identifier, ExpressionTree, literal, name, call, not, negate, plus, binary, ExpressionTrees, no_arguments, argument, SimpleStatement, set, change, add_one, subtract_one, call_statement, Declarator, ForInit, no_init, declaring, starting, StatementTree, block, empty, declare, simple, if_then, if_else, while_loop, do_while, for_loop, break, continue, return, StatementTrees, no_statements, statement, ProcedureTree, FileItem}
-use Rattle.c_typing.specs.Scope.{procedures_of, number_of, Callee, input, assume, assert, defined, unknown, callee_of, Scope, slot_of, with_variable, with_names, names_of, parameter_scope, declared_by, declared_by_init, variables_of, asserts_in, asserts_by, asserts_by_init, asserts_by_step, asserts_of_optional}
+use Rattle.c_typing.specs.Scope.{procedures_of, number_of, Callee, input, assume, assert, defined, unknown, callee_of, Scope, slot_of, with_variable, with_names, names_of, parameter_scope, declared_by, declared_by_init, variables_of, asserts_in, asserts_by, asserts_by_init, asserts_by_step}
 
 abbrev pub slot : List Scope → Identifier → ℕ
 slot scopes n = unwrap_or (slot_of scopes n.name) 0

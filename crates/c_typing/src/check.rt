@@ -8,9 +8,12 @@ ghost use Rattle.c_tree.specs.FileView.{file_of};
 ghost use Rattle.c_typing.specs.declared.fault.TypeFault.{TypeFault};
 ghost use Rattle.c_typing.specs.Answer.{IsProgram, IsFirstFault, Gives, Refuses};
 
-use crate::fault::TypeError;
+use crate::fault::{TypeError, TypeFault};
+use crate::procedures::all;
+use crate::program::parts;
+use crate::table::Table;
 use c_tree::syntax_tree::Tree;
-use c_tree::tree::Program;
+use c_tree::tree::{Pos, Program};
 use std::alloc::Global;
 
 /// The program of a tree, or its first fault.
@@ -20,5 +23,15 @@ pub fn check_types(alloc: Global, tree: &Tree) -> Result<Program, TypeError>
     ensures refused { (f : TypeFault) (p : Pos) → result ≡ Err (TypeError.Refused f p) → IsFirstFault (file_of tree.now) f p }
     ensures if_fault { (f : TypeFault) (p : Pos) → IsFirstFault (file_of tree.now) f p → Refuses result f p }
 {
-    Err(TypeError::Memory)
+    let table = Table { items: &tree.items };
+    let notes = all(alloc, &table)?;
+    if let Some(found) = notes.best {
+        return Err(TypeError::Refused(found.fault, found.at));
+    }
+    if !table.is_defined("main") {
+        return Err(TypeError::Refused(TypeFault::NoMain, Pos { line: 1, column: 1 }));
+    }
+    let made = parts(alloc, &table, &notes.asserts)?;
+    let main = table.number_of("main") as u32;
+    Ok(Program::new(made.procedures, main, made.places))
 }

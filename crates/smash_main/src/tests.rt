@@ -180,7 +180,7 @@ fn faults_and_lengths(rt: HostRuntime) -> Result<(), Fail> {
     }
     let lengths = [
         (65_537usize, "refused: source longer than 65536 bytes\n"),
-        (65_536, "refused 1:65537: unexpected end of file\n"),
+        (65_536, "refused 1:1: no main\n"),
     ];
     for (count, output) in lengths {
         let blanks = vec![in rt.alloc(); b' '; count]?;

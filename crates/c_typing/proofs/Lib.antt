@@ -1,0 +1,20 @@
+mod Order
+pub mod Least
+pub mod Erased
+pub mod Basics
+pub mod Sound
+pub mod Numbers
+pub mod Nodes
+pub mod Formed
+pub mod Tabled
+pub mod Noting
+pub mod Declaring
+pub mod Saying
+pub mod Filed
+pub mod Procedural
+pub mod Checked
+pub mod Lowered
+pub mod Building
+pub mod Fitting
+pub mod Quieting
+pub mod Programmed

@@ -1,0 +1,292 @@
+-- The program of a tree without faults names what exists, and its assertions are numbered one after another.
+use Rattle.std.proofs.Common.{◌≡◌, ℕ, ◌+◌, ◌<◌, ◌≤◌, Bool, true, false, cond, ◌==◌, eqb, ◌&&◌, ◌||◌, not as not_bool, List, [], ◌∷◌, ◌++◌, length, Option, Some, None, is_some, is_none, slice_get, unwrap_or, nat_lt, refl, ap, sym, ◌∙◌, subst, arith, ◌⊎◌, inl, inr, length-append, append_assoc, if◌then◌else◌}
+use Rattle.std.proofs.lemmas.Bool.{lt-ltb}
+use Rattle.std.proofs.lemmas.List.{append-nil}
+use Rattle.c_tree.specs.declared.tree.Pos.{Pos}
+use Rattle.c_tree.specs.Syntax as program
+use Rattle.c_tree.specs.Syntax.{Expression, Expressions, no_expressions, expression, Statement, Statements, PureProgram}
+use Rattle.c_tree.specs.WellFormed.{takes, count, is_sound, are_sound, returns_sound, runs_sound, all_sound, asserted_by, asserted_in}
+use Rattle.c_tree.specs.SourceTree.{Identifier, ExpressionTree, literal, name, call, not, negate, plus, binary, ExpressionTrees, no_arguments, argument, SimpleStatement, set, change, add_one, subtract_one, call_statement, Declarator, ForInit, no_init, declaring, starting, StatementTree, block, empty, declare, simple, if_then, if_else, while_loop, do_while, for_loop, break, continue, return, StatementTrees, no_statements, statement, ProcedureTree}
+use Rattle.c_typing.specs.declared.fault.TypeFault.TheVariants.{UnknownName, Duplicate, WrongCount, VoidValue, NotLinear, MainShape, OutsideLoop}
+use Rattle.c_typing.specs.Scope.{Scope, slot_of, Callee, input, assume, assert, defined, unknown, callee_of, is_main, with_variable, with_names, names_of, declared_by, declared_in, declared_by_init, if_assert, asserts_of, asserts_of_all, asserts_of_optional, asserts_by_simple, asserts_by_step, asserts_by_declarators, asserts_by_init, asserts_by, asserts_in}
+use Rattle.c_typing.specs.Faults.{Fault, fault_if, callee_faults, argument_count, name_faults, is_product, is_constant, expression_faults, arguments_faults, optional_faults, simple_faults, step_faults, declared_faults, declarators_faults, init_faults, init_scopes as plain_scopes, scopes_after as plain_after, return_faults, statement_faults, statements_faults}
+use Rattle.c_typing.specs.Lowering.{slot, joined, nothing, lowered_call, first_of, called_statement, lowered, lowered_all, lowered_value, lowered_test, lowered_result, lowered_simple, lowered_step, lowered_declarators, init_scopes, with_init, scopes_after, spliced, lowered_statement, lowered_statements}
+use Rattle.c_typing.proofs.Basics.{no_fault, nil_both, both, or_false, and_false, not_false, false_not, eqb-same, Below, below-push, below-names, below-one, asserts_at, asserts_at-callee}
+use Rattle.c_typing.proofs.Erased.{erased, erased-with_names, erased-variable, optional-same, declarators-same, step-same, statement-same, statements-same, after-same}
+
+-- what is called by a name exists in the program, and isn't `main`
+pub record CallsFit (P : PureProgram) (ps : List ProcedureTree) : Type 0 where
+  pub fits : (x : List ℕ) (n params : ℕ) (void : Bool) → callee_of ps x ≡ defined n params void → takes (slice_get P.procedures n) params ≡ true
+  pub not_main : (x : List ℕ) (n params : ℕ) (void : Bool) → callee_of ps x ≡ defined n params void → is_main x ≡ false → (n == P.main) ≡ false
+
+-- assertions numbered from a number on
+abbrev pub numbered : ℕ → List Pos → List ℕ
+numbered id [] = []
+numbered id (p ∷ ps) = id ∷ numbered (id + 1) ps
+
+pub numbered-append : (id : ℕ) (ps qs : List Pos) → numbered id (ps ++ qs) ≡ numbered id ps ++ numbered (id + length ps) qs
+numbered-append id [] qs = ap (λ i. numbered i qs) (omega arith)
+numbered-append id (p ∷ ps) qs = ap (λ r. id ∷ r) (numbered-append (id + 1) ps qs ∙ ap (λ i. numbered (id + 1) ps ++ numbered i qs) (omega arith))
+
+count-lowered_all : (ps : List ProcedureTree) (ss : List Scope) (es : ExpressionTrees) → count (lowered_all ps ss es) ≡ argument_count es
+count-lowered_all ps ss no_arguments = refl
+count-lowered_all ps ss (argument e es) = ap (λ n. 1 + n) (count-lowered_all ps ss es)
+
+-- a call whose value is used asserts nothing
+used_call : (c : Callee) (n : Identifier) (k : ℕ) → callee_faults c n k true ≡ [] → asserts_at c n ≡ []
+used_call input n k e = refl
+used_call assume n k e = refl
+used_call assert n k e = absurd (let h = (nil_both (fault_if (not_bool (k == 1)) WrongCount n.at) (fault_if true VoidValue n.at) e).1 in cc)
+used_call (defined number params void) n k e = refl
+used_call unknown n k e = refl
+
+module _ (ps : List ProcedureTree) where
+  mutual
+    pub no_asserts : (ss : List Scope) (e : ExpressionTree) → expression_faults ps ss e ≡ [] → asserts_of e ≡ []
+    no_asserts ss (literal n) h = refl
+    no_asserts ss (name n) h = refl
+    no_asserts ss (call n es) h =
+        let p = nil_both (callee_faults (callee_of ps n.name) n (argument_count es) true) (arguments_faults ps ss es) h in
+        ap (λ r. r ++ asserts_of_all es) (asserts_at-callee ps n ∙ used_call (callee_of ps n.name) n (argument_count es) p.0) ∙ no_asserts_all ss es p.1
+    no_asserts ss (not e) h = no_asserts ss e h
+    no_asserts ss (negate e) h = no_asserts ss e h
+    no_asserts ss (plus e) h = no_asserts ss e h
+    no_asserts ss (binary o at a b) h =
+        let p = (nil_both (fault_if (is_product o && not_bool (is_constant a || is_constant b)) NotLinear at) (expression_faults ps ss a ++ expression_faults ps ss b) h).1 in
+        let q = nil_both (expression_faults ps ss a) (expression_faults ps ss b) p in
+        ap (λ r. r ++ asserts_of b) (no_asserts ss a q.0) ∙ no_asserts ss b q.1
+
+    pub no_asserts_all : (ss : List Scope) (es : ExpressionTrees) → arguments_faults ps ss es ≡ [] → asserts_of_all es ≡ []
+    no_asserts_all ss no_arguments h = refl
+    no_asserts_all ss (argument e es) h =
+        let q = nil_both (expression_faults ps ss e) (arguments_faults ps ss es) h in
+        ap (λ r. r ++ asserts_of_all es) (no_asserts ss e q.0) ∙ no_asserts_all ss es q.1
+
+  pub no_asserts_optional : (ss : List Scope) (o : Option ExpressionTree) → optional_faults ps ss o ≡ [] → asserts_of_optional o ≡ []
+  no_asserts_optional ss None h = refl
+  no_asserts_optional ss (Some e) h = no_asserts ss e h
+
+  pub no_asserts_declared : (ss : List Scope) (ds : List Declarator) → declarators_faults ps ss ds ≡ [] → asserts_by_declarators ds ≡ []
+  no_asserts_declared ss [] h = refl
+  no_asserts_declared ss (d ∷ ds) h =
+      let p = nil_both (optional_faults ps ss d.value) (declared_faults ps ss d.named ++ declarators_faults ps (with_variable ss d.named.name 0) ds) h in
+      let q = nil_both (declared_faults ps ss d.named) (declarators_faults ps (with_variable ss d.named.name 0) ds) p.1 in
+      ap (λ r. r ++ asserts_by_declarators ds) (no_asserts_optional ss d.value p.0) ∙ no_asserts_declared (with_variable ss d.named.name 0) ds q.1
+
+-- Names exist
+
+module _ (P : PureProgram) (ps : List ProcedureTree) (slots : ℕ) (fit : CallsFit P ps) where
+  name-sound : (ss : List Scope) (n : Identifier) → Below ss slots → name_faults ss n ≡ [] → nat_lt (slot ss n) slots ≡ true
+  name-sound ss n h e = go (slot_of ss n.name) (h.below n.name) (no_fault (is_none (slot_of ss n.name)) UnknownName n.at e)
+    where
+      go : (o : Option ℕ) → ((s : ℕ) → o ≡ Some s → s < slots) → is_none o ≡ false → nat_lt (unwrap_or o 0) slots ≡ true
+      go None below e = absurd cc
+      go (Some s) below e = lt-ltb s slots (below s refl)
+
+  call-sound : (c : Callee) (n : Identifier) (k : ℕ) (es : Expressions) (used : Bool) → callee_of ps n.name ≡ c → callee_faults c n k used ≡ [] → count es ≡ k → are_sound P slots es ≡ true →
+      is_sound P slots (lowered_call c es) ≡ true
+  call-sound input n k es used e h same sound = refl
+  call-sound assume n k es used e h same sound = refl
+  call-sound assert n k es used e h same sound = refl
+  call-sound unknown n k es used e h same sound = refl
+  call-sound (defined number params void) n k es used e h same sound =
+      let p = nil_both (fault_if (not_bool (k == params)) WrongCount n.at) (fault_if (used && void) VoidValue n.at ++ fault_if (is_main n.name) MainShape n.at) h in
+      let q = nil_both (fault_if (used && void) VoidValue n.at) (fault_if (is_main n.name) MainShape n.at) p.1 in
+      let enough : count es ≡ params = same ∙ eqb-same k params (not_false (k == params) (no_fault (not_bool (k == params)) WrongCount n.at p.0)) in
+      let there : takes (slice_get P.procedures number) (count es) ≡ true = ap (takes (slice_get P.procedures number)) enough ∙ fit.fits n.name number params void e in
+      let other : not_bool (number == P.main) ≡ true = false_not (number == P.main) (fit.not_main n.name number params void e (no_fault (is_main n.name) MainShape n.at q.1)) in
+      both (takes (slice_get P.procedures number) (count es) && not_bool (number == P.main)) (are_sound P slots es) (both (takes (slice_get P.procedures number) (count es)) (not_bool (number == P.main)) there other) sound
+
+  mutual
+    pub expression-sound : (ss : List Scope) (e : ExpressionTree) → Below ss slots → expression_faults ps ss e ≡ [] → is_sound P slots (lowered ps ss e) ≡ true
+    expression-sound ss (literal n) b h = refl
+    expression-sound ss (name n) b h = name-sound ss n b h
+    expression-sound ss (call n es) b h =
+        let p = nil_both (callee_faults (callee_of ps n.name) n (argument_count es) true) (arguments_faults ps ss es) h in
+        call-sound (callee_of ps n.name) n (argument_count es) (lowered_all ps ss es) true refl p.0 (count-lowered_all ps ss es) (arguments-sound ss es b p.1)
+    expression-sound ss (not e) b h = expression-sound ss e b h
+    expression-sound ss (negate e) b h = expression-sound ss e b h
+    expression-sound ss (plus e) b h = expression-sound ss e b h
+    expression-sound ss (binary o at x y) b h =
+        let p = (nil_both (fault_if (is_product o && not_bool (is_constant x || is_constant y)) NotLinear at) (expression_faults ps ss x ++ expression_faults ps ss y) h).1 in
+        let q = nil_both (expression_faults ps ss x) (expression_faults ps ss y) p in
+        both (is_sound P slots (lowered ps ss x)) (is_sound P slots (lowered ps ss y)) (expression-sound ss x b q.0) (expression-sound ss y b q.1)
+
+    pub arguments-sound : (ss : List Scope) (es : ExpressionTrees) → Below ss slots → arguments_faults ps ss es ≡ [] → are_sound P slots (lowered_all ps ss es) ≡ true
+    arguments-sound ss no_arguments b h = refl
+    arguments-sound ss (argument e es) b h =
+        let q = nil_both (expression_faults ps ss e) (arguments_faults ps ss es) h in
+        both (is_sound P slots (lowered ps ss e)) (are_sound P slots (lowered_all ps ss es)) (expression-sound ss e b q.0) (arguments-sound ss es b q.1)
+
+  value-sound : (ss : List Scope) (o : Option ExpressionTree) → Below ss slots → optional_faults ps ss o ≡ [] → is_sound P slots (lowered_value ps ss o) ≡ true
+  value-sound ss None b h = refl
+  value-sound ss (Some e) b h = expression-sound ss e b h
+
+  test-sound : (ss : List Scope) (o : Option ExpressionTree) → Below ss slots → optional_faults ps ss o ≡ [] → is_sound P slots (lowered_test ps ss o) ≡ true
+  test-sound ss None b h = refl
+  test-sound ss (Some e) b h = expression-sound ss e b h
+
+  result-sound : (ss : List Scope) (o : Option ExpressionTree) → Below ss slots → optional_faults ps ss o ≡ [] → returns_sound P slots (lowered_result ps ss o) ≡ true
+  result-sound ss None b h = refl
+  result-sound ss (Some e) b h = expression-sound ss e b h
+
+  first-sound : (es : Expressions) → are_sound P slots es ≡ true → is_sound P slots (first_of es) ≡ true
+  first-sound no_expressions h = refl
+  first-sound (expression e es) h = elim (is_sound P slots e) as (λ b. (b && are_sound P slots es) ≡ true → b ≡ true) [ true ↦ λ _. refl | false ↦ λ g. g ] h
+
+  called-sound : (l : Bool) (c : Callee) (n : Identifier) (k id : ℕ) (es : Expressions) → callee_of ps n.name ≡ c → callee_faults c n k false ≡ [] → count es ≡ k → are_sound P slots es ≡ true →
+      id + length (asserts_at c n) ≤ length P.asserts → runs_sound P slots l (called_statement c id es) ≡ true
+  called-sound l input n k id es e h same sound room = refl
+  called-sound l assume n k id es e h same sound room = first-sound es sound
+  called-sound l assert n k id es e h same sound room =
+      let low : id < length P.asserts = omega arith in both (nat_lt id (length P.asserts)) (is_sound P slots (first_of es)) (lt-ltb id (length P.asserts) low) (first-sound es sound)
+  called-sound l unknown n k id es e h same sound room = refl
+  called-sound l (defined number params void) n k id es e h same sound room = call-sound (defined number params void) n k es false e h same sound
+
+  pub simple-sound : (l : Bool) (ss : List Scope) (id : ℕ) (s : SimpleStatement) → Below ss slots → id + length (asserts_by_simple s) ≤ length P.asserts → simple_faults ps ss s ≡ [] →
+      runs_sound P slots l (lowered_simple ps ss id s) ≡ true
+  simple-sound l ss id (set n e) b room h =
+      let q = nil_both (name_faults ss n) (expression_faults ps ss e) h in both (nat_lt (slot ss n) slots) (is_sound P slots (lowered ps ss e)) (name-sound ss n b q.0) (expression-sound ss e b q.1)
+  simple-sound l ss id (change o at n e) b room h =
+      let q = nil_both (name_faults ss n) (fault_if (is_product o && not_bool (is_constant e)) NotLinear at ++ expression_faults ps ss e) h in
+      let r = nil_both (fault_if (is_product o && not_bool (is_constant e)) NotLinear at) (expression_faults ps ss e) q.1 in
+      let here = name-sound ss n b q.0 in
+      both (nat_lt (slot ss n) slots) (nat_lt (slot ss n) slots && is_sound P slots (lowered ps ss e)) here (both (nat_lt (slot ss n) slots) (is_sound P slots (lowered ps ss e)) here (expression-sound ss e b r.1))
+  simple-sound l ss id (add_one n) b room h =
+      let here = name-sound ss n b h in both (nat_lt (slot ss n) slots) (nat_lt (slot ss n) slots && true) here (both (nat_lt (slot ss n) slots) true here refl)
+  simple-sound l ss id (subtract_one n) b room h =
+      let here = name-sound ss n b h in both (nat_lt (slot ss n) slots) (nat_lt (slot ss n) slots && true) here (both (nat_lt (slot ss n) slots) true here refl)
+  simple-sound l ss id (call_statement n es) b room h =
+      let p = nil_both (callee_faults (callee_of ps n.name) n (argument_count es) false) (arguments_faults ps ss es) h in
+      let place : length (if_assert n ++ asserts_of_all es) ≡ length (asserts_at (callee_of ps n.name) n) + length (asserts_of_all es) =
+      length-append (if_assert n) (asserts_of_all es) ∙ ap (λ r. length r + length (asserts_of_all es)) (asserts_at-callee ps n) in
+      called-sound l (callee_of ps n.name) n (argument_count es) id (lowered_all ps ss es) refl p.0 (count-lowered_all ps ss es) (arguments-sound ss es b p.1) (omega arith)
+
+  step-sound : (l : Bool) (ss : List Scope) (id : ℕ) (s : Option SimpleStatement) → Below ss slots → id + length (asserts_by_step s) ≤ length P.asserts → step_faults ps ss s ≡ [] →
+      runs_sound P slots l (lowered_step ps ss id s) ≡ true
+  step-sound l ss id None b room h = refl
+  step-sound l ss id (Some s) b room h = simple-sound l ss id s b room h
+
+  all_sound-joined : (l : Bool) (xs ys : Statements) → all_sound P slots l xs ≡ true → all_sound P slots l ys ≡ true → all_sound P slots l (joined xs ys) ≡ true
+  all_sound-joined l program.no_statements ys p q = q
+  all_sound-joined l (program.statement x xs) ys p q = go (runs_sound P slots l x) p (λ h. all_sound-joined l xs ys h q)
+    where
+      go : (b : Bool) → (b && all_sound P slots l xs) ≡ true → (all_sound P slots l xs ≡ true → all_sound P slots l (joined xs ys) ≡ true) → (b && all_sound P slots l (joined xs ys)) ≡ true
+      go true p h = h p
+      go false p h = p
+
+  declarators-sound : (l : Bool) (ss : List Scope) (next : ℕ) (ds : List Declarator) → Below ss slots → next + length (names_of ds) ≤ slots → declarators_faults ps ss ds ≡ [] →
+      all_sound P slots l (lowered_declarators ps ss next ds) ≡ true
+  declarators-sound l ss next [] b room h = refl
+  declarators-sound l ss next (d ∷ ds) b room h =
+      let p = nil_both (optional_faults ps ss d.value) (declared_faults ps ss d.named ++ declarators_faults ps (with_variable ss d.named.name 0) ds) h in
+      let q = nil_both (declared_faults ps ss d.named) (declarators_faults ps (with_variable ss d.named.name 0) ds) p.1 in
+      let rest = declarators-same ps (with_variable ss d.named.name next) (with_variable ss d.named.name 0) ds (erased-variable ss ss d.named.name next 0 refl) ∙ q.1 in
+      let low : next < slots = omega arith in
+      both (nat_lt next slots && is_sound P slots (lowered_value ps ss d.value)) (all_sound P slots l (lowered_declarators ps (with_variable ss d.named.name next) (next + 1) ds))
+      (both (nat_lt next slots) (is_sound P slots (lowered_value ps ss d.value)) (lt-ltb next slots low) (value-sound ss d.value b p.0))
+      (declarators-sound l (with_variable ss d.named.name next) (next + 1) ds (below-one ss slots next d.named.name b low) (omega arith) rest)
+
+  with_init-sound : (l : Bool) (ss : List Scope) (next id : ℕ) (f : ForInit) (whole : Statement) → Below ss slots → next + length (declared_by_init f) ≤ slots → id + length (asserts_by_init f) ≤ length P.asserts →
+      init_faults ps ([] ∷ ss) f ≡ [] → runs_sound P slots l whole ≡ true → runs_sound P slots l (with_init ps ss next id f whole) ≡ true
+  with_init-sound l ss next id no_init whole b room few h w = w
+  with_init-sound l ss next id (declaring ds) whole b room few h w =
+      all_sound-joined l (lowered_declarators ps ([] ∷ ss) next ds) (program.statement whole program.no_statements) (declarators-sound l ([] ∷ ss) next ds (below-push ss slots b) room h) (both (runs_sound P slots l whole) true w refl)
+  with_init-sound l ss next id (starting s) whole b room few h w =
+      both (runs_sound P slots l (lowered_simple ps ([] ∷ ss) id s)) (runs_sound P slots l whole && true) (simple-sound l ([] ∷ ss) id s (below-push ss slots b) few h) (both (runs_sound P slots l whole) true w refl)
+
+  module _ (void : Bool) where
+    spliced-sound : (l : Bool) (ss : List Scope) (next : ℕ) (s : StatementTree) (whole : Statement) → Below ss slots → next + length (declared_by s) ≤ slots → statement_faults ps void l ss s ≡ [] →
+        runs_sound P slots l whole ≡ true → all_sound P slots l (spliced ps ss next s whole) ≡ true
+    spliced-sound l ss next (declare ds) whole b room h w = declarators-sound l ss next ds b room h
+    spliced-sound l ss next (block a) whole b room h w = both (runs_sound P slots l whole) true w refl
+    spliced-sound l ss next empty whole b room h w = both (runs_sound P slots l whole) true w refl
+    spliced-sound l ss next (simple s) whole b room h w = both (runs_sound P slots l whole) true w refl
+    spliced-sound l ss next (if_then e a) whole b room h w = both (runs_sound P slots l whole) true w refl
+    spliced-sound l ss next (if_else e a c) whole b room h w = both (runs_sound P slots l whole) true w refl
+    spliced-sound l ss next (while_loop e a) whole b room h w = both (runs_sound P slots l whole) true w refl
+    spliced-sound l ss next (do_while a e) whole b room h w = both (runs_sound P slots l whole) true w refl
+    spliced-sound l ss next (for_loop f t s a) whole b room h w = both (runs_sound P slots l whole) true w refl
+    spliced-sound l ss next (break at) whole b room h w = both (runs_sound P slots l whole) true w refl
+    spliced-sound l ss next (continue at) whole b room h w = both (runs_sound P slots l whole) true w refl
+    spliced-sound l ss next (return at e) whole b room h w = both (runs_sound P slots l whole) true w refl
+
+    below-after : (ss : List Scope) (next : ℕ) (s : StatementTree) → Below ss slots → next + length (declared_by s) ≤ slots → Below (scopes_after ps ss next s) slots
+    below-after ss next (declare ds) b room = below-names ss slots next (names_of ds) b room
+    below-after ss next (block a) b room = b
+    below-after ss next empty b room = b
+    below-after ss next (simple s) b room = b
+    below-after ss next (if_then e a) b room = b
+    below-after ss next (if_else e a c) b room = b
+    below-after ss next (while_loop e a) b room = b
+    below-after ss next (do_while a e) b room = b
+    below-after ss next (for_loop f t s a) b room = b
+    below-after ss next (break at) b room = b
+    below-after ss next (continue at) b room = b
+    below-after ss next (return at e) b room = b
+
+    mutual
+      pub statement-sound : (l : Bool) (ss : List Scope) (next id : ℕ) (s : StatementTree) → Below ss slots → next + length (declared_by s) ≤ slots → id + length (asserts_by s) ≤ length P.asserts →
+          statement_faults ps void l ss s ≡ [] → runs_sound P slots l (lowered_statement ps ss next id s) ≡ true
+      statement-sound l ss next id (block a) b room few h = statements-sound l ([] ∷ ss) next id a (below-push ss slots b) room few h
+      statement-sound l ss next id empty b room few h = refl
+      statement-sound l ss next id (declare ds) b room few h = declarators-sound l ss next ds b room h
+      statement-sound l ss next id (simple s) b room few h = simple-sound l ss id s b few h
+      statement-sound l ss next id (if_then e a) b room few h =
+          let p = nil_both (expression_faults ps ss e) (statement_faults ps void l ss a) h in
+          let fewer : id + length (asserts_by a) ≤ length P.asserts = omega (arith, length-append (asserts_of e) (asserts_by a)) in
+          both (is_sound P slots (lowered ps ss e) && runs_sound P slots l (lowered_statement ps ss next id a)) true (both (is_sound P slots (lowered ps ss e)) (runs_sound P slots l (lowered_statement ps ss next id a)) (expression-sound ss e b p.0) (statement-sound l ss next id a b room fewer p.1)) refl
+      statement-sound l ss next id (if_else e a c) b room few h =
+          let p = nil_both (expression_faults ps ss e) (statement_faults ps void l ss a ++ statement_faults ps void l ss c) h in
+          let q = nil_both (statement_faults ps void l ss a) (statement_faults ps void l ss c) p.1 in
+          let lengths = length-append (asserts_of e) (asserts_by a ++ asserts_by c) in
+          let others = length-append (asserts_by a) (asserts_by c) in
+          let names = length-append (declared_by a) (declared_by c) in
+          both (is_sound P slots (lowered ps ss e) && runs_sound P slots l (lowered_statement ps ss next id a)) (runs_sound P slots l (lowered_statement ps ss (next + length (declared_by a)) (id + length (asserts_by a)) c))
+          (both (is_sound P slots (lowered ps ss e)) (runs_sound P slots l (lowered_statement ps ss next id a)) (expression-sound ss e b p.0) (statement-sound l ss next id a b (omega arith) (omega arith) q.0))
+          (statement-sound l ss (next + length (declared_by a)) (id + length (asserts_by a)) c b (omega arith) (omega arith) q.1)
+      statement-sound l ss next id (while_loop e a) b room few h =
+          let p = nil_both (expression_faults ps ss e) (statement_faults ps void true ss a) h in
+          let fewer : id + length (asserts_by a) ≤ length P.asserts = omega (arith, length-append (asserts_of e) (asserts_by a)) in
+          both (is_sound P slots (lowered ps ss e) && true) (runs_sound P slots true (lowered_statement ps ss next id a)) (both (is_sound P slots (lowered ps ss e)) true (expression-sound ss e b p.0) refl) (statement-sound true ss next id a b room fewer p.1)
+      statement-sound l ss next id (do_while a e) b room few h =
+          let p = nil_both (statement_faults ps void true ss a) (expression_faults ps ss e) h in
+          let fewer : id + length (asserts_by a) ≤ length P.asserts = omega (arith, length-append (asserts_by a) (asserts_of e)) in
+          both (runs_sound P slots true (lowered_statement ps ss next id a)) (is_sound P slots (lowered ps ss e)) (statement-sound true ss next id a b room fewer p.0) (expression-sound ss e b p.1)
+      statement-sound l ss next id (for_loop f t s a) b room few h =
+          let inside = init_scopes ps ss next f in
+          let plain = plain_scopes ps ss f in
+          let same : erased inside ≡ erased plain = erased-with_names ([] ∷ ss) ([] ∷ ss) next 0 (declared_by_init f) refl in
+          let p = nil_both (init_faults ps ([] ∷ ss) f) (optional_faults ps plain t ++ (step_faults ps plain s ++ statement_faults ps void true plain a)) h in
+          let q = nil_both (optional_faults ps plain t) (step_faults ps plain s ++ statement_faults ps void true plain a) p.1 in
+          let r = nil_both (step_faults ps plain s) (statement_faults ps void true plain a) q.1 in
+          let names = length-append (declared_by_init f) (declared_by a) in
+          let one = length-append (asserts_by_init f) (asserts_of_optional t ++ (asserts_by_step s ++ asserts_by a)) in
+          let more = length-append (asserts_of_optional t) (asserts_by_step s ++ asserts_by a) in
+          let last = length-append (asserts_by_step s) (asserts_by a) in
+          let low : Below inside slots = below-names ([] ∷ ss) slots next (declared_by_init f) (below-push ss slots b) (omega arith) in
+          let id_step = id + length (asserts_by_init f) in
+          let id_body = id + length (asserts_by_init f) + length (asserts_by_step s) in
+          let test : is_sound P slots (lowered_test ps inside t) ≡ true = test-sound inside t low (optional-same ps inside plain t same ∙ q.0) in
+          let step : runs_sound P slots true (lowered_step ps inside id_step s) ≡ true = step-sound true inside id_step s low (omega arith) (step-same ps inside plain s same ∙ r.0) in
+          let body : runs_sound P slots true (lowered_statement ps inside (next + length (declared_by_init f)) id_body a) ≡ true =
+          statement-sound true inside (next + length (declared_by_init f)) id_body a low (omega arith) (omega arith) (statement-same ps void true inside plain a same ∙ r.1) in
+          with_init-sound l ss next id f (program.loop (lowered_test ps inside t) (lowered_step ps inside id_step s) (lowered_statement ps inside (next + length (declared_by_init f)) id_body a)) b (omega arith) (omega arith) p.0
+          (both (is_sound P slots (lowered_test ps inside t) && runs_sound P slots true (lowered_step ps inside id_step s)) (runs_sound P slots true (lowered_statement ps inside (next + length (declared_by_init f)) id_body a))
+          (both (is_sound P slots (lowered_test ps inside t)) (runs_sound P slots true (lowered_step ps inside id_step s)) test step) body)
+      statement-sound l ss next id (break at) b room few h = not_false l (no_fault (not_bool l) OutsideLoop at h)
+      statement-sound l ss next id (continue at) b room few h = not_false l (no_fault (not_bool l) OutsideLoop at h)
+      statement-sound l ss next id (return at e) b room few h = result-sound ss e b (nil_both (return_faults ps void at e) (optional_faults ps ss e) h).1
+
+      pub statements-sound : (l : Bool) (ss : List Scope) (next id : ℕ) (a : StatementTrees) → Below ss slots → next + length (declared_in a) ≤ slots → id + length (asserts_in a) ≤ length P.asserts →
+          statements_faults ps void l ss a ≡ [] → all_sound P slots l (lowered_statements ps ss next id a) ≡ true
+      statements-sound l ss next id no_statements b room few h = refl
+      statements-sound l ss next id (statement s rest) b room few h =
+          let p = nil_both (statement_faults ps void l ss s) (statements_faults ps void l (plain_after ps ss s) rest) h in
+          let names = length-append (declared_by s) (declared_in rest) in
+          let places = length-append (asserts_by s) (asserts_in rest) in
+          let room_here : next + length (declared_by s) ≤ slots = omega arith in
+          all_sound-joined l (spliced ps ss next s (lowered_statement ps ss next id s)) (lowered_statements ps (scopes_after ps ss next s) (next + length (declared_by s)) (id + length (asserts_by s)) rest)
+          (spliced-sound l ss next s (lowered_statement ps ss next id s) b room_here p.0 (statement-sound l ss next id s b room_here (omega arith) p.0))
+          (statements-sound l (scopes_after ps ss next s) (next + length (declared_by s)) (id + length (asserts_by s)) rest (below-after ss next s b room_here) (omega arith) (omega arith)
+          (statements-same ps void l (scopes_after ps ss next s) (plain_after ps ss s) rest (after-same ps ss next s) ∙ p.1))

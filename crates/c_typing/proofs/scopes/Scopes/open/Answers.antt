@@ -1,0 +1,8 @@
+use Rattle.std.proofs.Common.{◌≡◌, [], ◌∷◌, ap, ◌∙◌}
+use Rattle.c_typing.specs.declared.scopes.Entry.TheVariants.{Opens}
+use Rattle.c_typing.specs.Tables.{scopes_onto}
+use Rattle.c_typing.proofs.Tabled.{scopes_onto-append}
+use Rattle.c_typing.proofs.scopes.Scopes.open.Goals as goal
+
+pub returns : goal.returns
+returns c = ap (scopes_onto []) c.in_ok-push.ensures.items ∙ scopes_onto-append [] c.args.self.now.entries.items (Opens ∷ [])
