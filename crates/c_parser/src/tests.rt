@@ -7,7 +7,7 @@ use std::alloc::Global;
 use std::test::Fail;
 
 /// How a text is answered: the number of its items, or its fault with the column.
-fn told(alloc: Global, text: &str) -> Result<(&'static str, u32), Fail> {
+fn told(alloc: Global, text: &str) -> Result<(&'static str, usize), Fail> {
     let bytes = text.as_bytes();
     if bytes.len() > 65_536 {
         return Ok(("too long", 0));
@@ -17,10 +17,10 @@ fn told(alloc: Global, text: &str) -> Result<(&'static str, u32), Fail> {
         Err(_) => return Ok(("no tokens", 0)),
     };
     Ok(match parse(alloc, bytes, &tokens) {
-        Ok(tree) => ("items", tree.items.len() as u32),
-        Err(ParseError::Unexpected(at)) => ("unexpected", at.column),
-        Err(ParseError::End(at)) => ("end", at.column),
-        Err(ParseError::TooDeep(at)) => ("deep", at.column),
+        Ok(tree) => ("items", tree.items.len()),
+        Err(ParseError::Unexpected(at)) => ("unexpected", at.column as usize),
+        Err(ParseError::End(at)) => ("end", at.column as usize),
+        Err(ParseError::TooDeep(at)) => ("deep", at.column as usize),
         Err(ParseError::Memory) => ("memory", 0),
     })
 }
@@ -38,7 +38,7 @@ fn repeated(alloc: Global, head: &str, part: &str, count: u32, tail: &str) -> Re
 #[test]
 fn texts(rt: HostRuntime) -> Result<(), Fail> {
     let cases = [
-        ("", "items", 0u32),
+        ("", "items", 0usize),
         ("int main() { }", "items", 1),
         (
             "void f(int a, long long b); long int f(int a) { ; }",
@@ -79,7 +79,7 @@ fn texts(rt: HostRuntime) -> Result<(), Fail> {
 #[test]
 fn limits(rt: HostRuntime) -> Result<(), Fail> {
     let cases = [
-        ("int f() { return ", "!", 256u32, "0; }", "items", 1u32),
+        ("int f() { return ", "!", 256u32, "0; }", "items", 1usize),
         ("int f() { return ", "!", 257, "0; }", "deep", 274),
         ("int f() { x = ", "(", 256, "", "end", 271),
         ("int f() ", "{", 64, "", "end", 73),
