@@ -1,0 +1,10 @@
+pub mod Ascending
+pub mod Ranges
+pub mod Branching
+pub mod Deriving
+pub mod Deciding
+pub mod Rounding
+pub mod Summing
+pub mod Signs
+pub mod Meeting
+pub mod Sound

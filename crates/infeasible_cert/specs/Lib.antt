@@ -1,0 +1,5 @@
+pub mod Refutation
+pub mod Right
+pub mod Terms
+pub mod Known
+pub mod Columns

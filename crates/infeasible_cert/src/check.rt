@@ -1,0 +1,42 @@
+//! The check of certificates.
+
+ghost use Rattle.std.specs.Prelude.{◌↔◌, IsTrue, List};
+ghost use Rattle.linear_formula.specs.LinearSum.{Valuation, Is64};
+ghost use Rattle.linear_formula.specs.Formula.{HoldsAll, are_terms};
+ghost use Rattle.linear_formula.specs.declared.formula.Atom.{Atom};
+ghost use Rattle.infeasible_cert.specs.Refutation.{Refutation, refutation_of};
+ghost use Rattle.infeasible_cert.specs.Right.{Refutes};
+ghost use Rattle.infeasible_cert.specs.Terms.{HasTerms};
+
+use crate::certificate::Certificate;
+use crate::rows::Rows;
+use crate::walk::is_right;
+use linear_formula::formula::{Atom, Cube};
+
+/// The law that no assignment of 64-bit values meets a cube that has a right certificate. It computes nothing.
+pub fn right_is_sound()
+    ensures { (atoms : List Atom) (c : Refutation) (v : Valuation) → IsTrue (are_terms atoms) → HasTerms c → Refutes atoms c →
+        Is64 v → HoldsAll v atoms → ⊥ }
+{}
+
+/// How deep branches may nest.
+const MAX_NESTING: u32 = 512;
+
+/// What is known of a cube's atoms, for the proof.
+fn know_terms(atoms: &[Atom])
+    ensures { IsTrue (are_terms atoms.now) }
+{
+    for atom in atoms {
+        let _ = atom.term.parts();
+    }
+}
+
+/// Whether the certificate is right for the cube. Then no assignment of 64-bit values meets the cube. It takes no memory.
+pub fn refutes(cube: &Cube, certificate: &Certificate) -> bool
+    ensures right { IsTrue result ↔ Refutes cube.now.atoms (refutation_of certificate.now) }
+    ensures sound { IsTrue result → (v : Valuation) → Is64 v → HoldsAll v cube.now.atoms → ⊥ }
+{
+    let atoms = cube.atoms.as_slice();
+    know_terms(atoms);
+    is_right(certificate, &Rows::Base(atoms), MAX_NESTING)
+}

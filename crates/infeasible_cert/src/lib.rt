@@ -1,0 +1,9 @@
+//! Certificates that no assignment of 64-bit values meets a cube, and their check.
+#![tactic(auto)]
+
+pub mod certificate;
+pub mod check;
+mod columns;
+mod rows;
+mod step;
+mod walk;
