@@ -3,7 +3,7 @@
 ghost use Rattle.std.specs.Prelude.{◌≡◌, ◌∷◌, [], ◌≤◌, ◌^◌, ◌-ℤ◌, ◌+ℤ◌, length, ℕ, ℤ, pos, unsigned_abs, unwrap_or, IfOk, OnOk, OnErr, IsErrOf, IsTrue};
 ghost use Rattle.std.specs.BTreeMap.{get};
 ghost use Rattle.std.specs.Ordering.{nat_cmp};
-ghost use Rattle.linear_formula.specs.LinearSum.{LinearSum, value_of, value_of_parts, valuation, is_term, is_within};
+ghost use Rattle.linear_formula.specs.LinearSum.{LinearSum, coefficient, value_of, value_of_parts, valuation, is_term, is_within};
 ghost use Rattle.linear_formula.specs.Order.{InOrder, AllWithin};
 ghost use Rattle.linear_formula.specs.Results.{combination, combination_value, plus_both, renamed_by, substituted, negated, negated_parts, valuation_with};
 
@@ -114,6 +114,15 @@ impl Term {
         self.constant
     }
 
+    /// The coefficient of a column, 0 where the term doesn't name it.
+    pub fn coefficient(&self, column: u32) -> i128
+        ensures value { result ≡ coefficient column self.now }
+        ensures limit { unsigned_abs result ≤ 2 ^ 40 }
+        ensures kept { IsTrue (is_term self.now) }
+    {
+        coefficient_of(self.parts(), column)
+    }
+
     pub fn copy(&self, alloc: Global) -> Result<Term, OutOfMemory>
         ensures { IfOk result (λ term. term ≡ self.now) }
     {
@@ -195,6 +204,7 @@ impl Term {
     /// The value at an assignment.
     pub fn value(&self, at: &Assignment) -> i128
         ensures value { result ≡ value_of (valuation at.now) self.now }
+        ensures limit { unsigned_abs result ≤ 2 ^ 114 }
     {
         value_of_sum(self.constant(), self.parts(), at)
     }
@@ -276,7 +286,8 @@ fn value_of_sum(constant: i128, parts: &[(u32, i128)], at: &Assignment) -> i128
     requires constant_limit { unsigned_abs constant ≤ 2 ^ 84 }
     requires limits { AllWithin parts.now }
     requires count { length parts.now ≤ 1024 }
-    ensures { result ≡ value_of_parts (valuation at.now) parts.now +ℤ constant }
+    ensures value { result ≡ value_of_parts (valuation at.now) parts.now +ℤ constant }
+    ensures limit { unsigned_abs result ≤ 2 ^ 114 }
 {
     let mut sum = constant;
     for (column, coefficient) in parts {
