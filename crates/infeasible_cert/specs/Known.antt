@@ -1,5 +1,5 @@
 -- The rows that a step may name, and what the check reads of them.
-use Rattle.std.specs.Prelude.{◌≡◌, ℕ, ◌<◌, List, [], ◌∷◌, ◌++◌, length, map, ℤ, pos, ◌+ℤ◌, ◌*ℤ◌, ◌≤ℤ◌}
+use Rattle.std.specs.Prelude.{◌≡◌, ℕ, List, [], ◌∷◌, ◌++◌, map, ℤ, pos, ◌+ℤ◌, ◌*ℤ◌}
 use Rattle.linear_formula.specs.LinearSum.{LinearSum, coefficient}
 use Rattle.linear_formula.specs.Order.{InOrder}
 use Rattle.infeasible_cert.specs.declared.certificate.Derived.{Derived}
