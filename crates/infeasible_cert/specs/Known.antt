@@ -8,7 +8,8 @@ use Rattle.infeasible_cert.specs.declared.rows.Place.TheVariants.{Column, Consta
 use Rattle.infeasible_cert.specs.declared.rows.Row.{Row}
 use Rattle.infeasible_cert.specs.declared.rows.Row.TheVariants.{Listed, Single}
 use Rattle.infeasible_cert.specs.declared.rows.Rows.{Rows}
-use Rattle.infeasible_cert.specs.declared.rows.Rows.TheVariants.{Base, Steps', Bound'}
+use Rattle.infeasible_cert.specs.declared.rows.Nodes.{Nodes}
+use Rattle.infeasible_cert.specs.declared.rows.Nodes.TheVariants.{Top, Steps', Bound'}
 use Rattle.infeasible_cert.specs.Right.{base_rows, summands, row_at, FitsAlong, IsRoundedUp, column_products, constant_products}
 
 -- a column's coefficient, or the constant
@@ -26,11 +27,15 @@ sum_of (Single x a c) = single x a c
 abbrev pub terms_of : List Derived → List LinearSum
 terms_of ds = map (λ d. d.row.term) ds
 
+-- rows, and those of the nodes behind them
+abbrev pub rows_below : List LinearSum → Nodes → List LinearSum
+rows_below rows Top = rows
+rows_below rows (Steps' p above derived) = rows_below rows above ++ terms_of derived.now
+rows_below rows (Bound' p above x a c) = rows_below rows above ++ single x a c ∷ []
+
 -- the rows in the order of their numbers
 abbrev pub rows_in : Rows → List LinearSum
-rows_in (Base atoms) = base_rows atoms.now
-rows_in (Steps' p above derived) = rows_in above ++ terms_of derived.now
-rows_in (Bound' p above x a c) = rows_in above ++ single x a c ∷ []
+rows_in rows = rows_below (base_rows rows.columns.now.atoms.now) rows.nodes.now
 
 abbrev pub total : List ℤ → ℤ
 total [] = pos 0
