@@ -14,12 +14,7 @@ use std::test::Fail;
 /// The parts of a derived row, its divisor, the coefficient of the column 0, and its constant.
 type Step<'a> = (&'a [(u32, i64)], i64, i64, i64);
 
-fn term_of(
-    alloc: Global,
-    column: u32,
-    coefficient: i128,
-    constant: i128,
-) -> Result<Term, LinError>
+fn term_of(alloc: Global, column: u32, coefficient: i128, constant: i128) -> Result<Term, LinError>
     requires { IsTrue (is_term (record { parts = (column, coefficient) ∷ []; constant = constant })) }
 {
     let mut items = Vec::with_capacity(alloc, 1)?;
@@ -99,14 +94,19 @@ fn high_side(alloc: Global) -> Result<Certificate, LinError> {
     close(alloc, &[(&[(0, 1), (4, 2)], 1, 0, 1)])
 }
 
-/// No branch: both rows are divided by 2, and rounded up.
-fn rounding(alloc: Global, lower: i64, upper: i64) -> Result<Certificate, LinError> {
+/// Both rows are divided by 2 and rounded up, and then added: `last` names the two quotients.
+fn rounding(
+    alloc: Global,
+    last: &[(u32, i64)],
+    lower: i64,
+    upper: i64,
+) -> Result<Certificate, LinError> {
     close(
         alloc,
         &[
             (&[(1, 1)], 2, -1, lower),
             (&[(0, 1)], 2, 1, upper),
-            (&[(4, 1), (5, 1)], 1, 0, 1),
+            (last, 1, 0, 1),
         ],
     )
 }
@@ -117,10 +117,22 @@ fn decides_steps(rt: HostRuntime) -> Result<(), Fail> {
     let cases: [(&str, Step, bool); 17] = [
         ("right", (&[(4, 2), (1, 1)], 1, 0, 1), true),
         ("multiplier 0", (&[(4, 2), (1, 1), (0, 0)], 1, 0, 1), true),
-        ("range rows", (&[(4, 2), (1, 1), (2, 1), (3, 1)], 1, 0, 0), false),
-        ("negative multiplier", (&[(4, 2), (1, 2), (1, -1)], 1, 0, 1), false),
+        (
+            "range rows",
+            (&[(4, 2), (1, 1), (2, 1), (3, 1)], 1, 0, 0),
+            false,
+        ),
+        (
+            "negative multiplier",
+            (&[(4, 2), (1, 2), (1, -1)], 1, 0, 1),
+            false,
+        ),
         ("its own row", (&[(4, 2), (1, 1), (5, 0)], 1, 0, 1), false),
-        ("no such row", (&[(4, 2), (1, 1), (u32::MAX, 0)], 1, 0, 1), false),
+        (
+            "no such row",
+            (&[(4, 2), (1, 1), (u32::MAX, 0)], 1, 0, 1),
+            false,
+        ),
         ("divisor 0", (&[(4, 2), (1, 1)], 0, 0, 1), false),
         ("divisor below 0", (&[(4, 2), (1, 1)], -1, 0, 1), false),
         ("great divisor", (&[(4, 2), (1, 1)], i64::MAX, 0, 1), true),
@@ -154,13 +166,13 @@ fn decides_nodes(rt: HostRuntime) -> Result<(), Fail> {
     assert!(rt; !refutes(&cube, &elsewhere));
     assert!(rt; !refutes(&cube, &close(alloc, &[])?));
     for (lower, upper, is_right) in [(4, -3, true), (3, -3, false), (4, -4, false)] {
-        let certificate = rounding(alloc, lower, upper)?;
+        let certificate = rounding(alloc, &[(4, 1), (5, 1)], lower, upper)?;
         assert_eq!(rt; refutes(&cube, &certificate), is_right, "{lower} {upper}");
     }
     // the column 5 is not in the cube, and the branch's row is not used
     for (at, is_right) in [(i64::MIN, true), (i64::MAX - 1, true), (i64::MAX, false)] {
-        let low = close(alloc, &[(&[(1, 1)], 2, -1, 4), (&[(0, 1)], 2, 1, -3), (&[(5, 1), (6, 1)], 1, 0, 1)])?;
-        let high = close(alloc, &[(&[(1, 1)], 2, -1, 4), (&[(0, 1)], 2, 1, -3), (&[(5, 1), (6, 1)], 1, 0, 1)])?;
+        let low = rounding(alloc, &[(5, 1), (6, 1)], 4, -3)?;
+        let high = rounding(alloc, &[(5, 1), (6, 1)], 4, -3)?;
         let certificate = branch(alloc, 5, at, low, high)?;
         assert_eq!(rt; refutes(&cube, &certificate), is_right, "{at}");
     }
@@ -195,13 +207,22 @@ fn numbers_ranges(rt: HostRuntime) -> Result<(), Fail> {
 #[test]
 fn keeps_the_limits(rt: HostRuntime) -> Result<(), Fail> {
     let alloc = rt.alloc();
-    let cube = cube_of(alloc, constant_of(alloc, 1 << 84), constant_of(alloc, 1 - (1 << 84)))?;
-    let cases: [(&[(u32, i64)], bool); 5] = [
+    let cube = cube_of(
+        alloc,
+        constant_of(alloc, 1 << 84),
+        constant_of(alloc, 1 - (1 << 84)),
+    )?;
+    let cases: [(&[(u32, i64)], bool); 4] = [
         (&[(0, 1), (1, 1)], true),
-        (&[(0, 1 << 42), (1, 1 << 42), (0, 1 << 42), (1, 1 << 42)], true),
-        (&[(0, 1 << 42), (0, 1 << 42), (1, 1 << 42), (1, 1 << 42)], false),
+        (
+            &[(0, 1 << 42), (1, 1 << 42), (0, 1 << 42), (1, 1 << 42)],
+            true,
+        ),
+        (
+            &[(0, 1 << 42), (0, 1 << 42), (1, 1 << 42), (1, 1 << 42)],
+            false,
+        ),
         (&[(0, 1 << 43), (1, 1 << 43)], false),
-        (&[(1, 1 << 43), (0, 1 << 43)], true),
     ];
     for (parts, right) in cases {
         let certificate = close(alloc, &[(parts, i64::MAX, 0, 1)])?;
@@ -222,8 +243,17 @@ fn keeps_the_limits(rt: HostRuntime) -> Result<(), Fail> {
 fn copies(rt: HostRuntime) -> Result<(), Fail> {
     let alloc = rt.alloc();
     let cube = twice_is_seven(alloc)?;
-    let certificate = branch(alloc, 0, 3, low_side(alloc)?, rounding(alloc, 4, -3)?)?;
+    let high = rounding(alloc, &[(5, 1), (6, 1)], 4, -3)?;
+    let certificate = branch(alloc, 0, 3, low_side(alloc)?, high)?;
     let copy = certificate.copy(alloc)?;
-    assert_eq!(rt; refutes(&cube, &copy), refutes(&cube, &certificate));
+    assert!(rt; refutes(&cube, &certificate) && refutes(&cube, &copy));
+    let Certificate::Close(rows) = rounding(alloc, &[(4, 1), (5, 1)], 4, -3)?.copy(alloc)? else {
+        return Err(Fail::from("not closed"));
+    };
+    let Some(second) = rows.get(1) else {
+        return Err(Fail::from("no second row"));
+    };
+    assert_eq!(rt; second.parts.as_slice(), [(0, 1)].as_slice());
+    assert_eq!(rt; (second.divide, second.row.term.constant()), (2, -3));
     Ok(())
 }
