@@ -10,7 +10,7 @@ use Rattle.infeasible_cert.specs.declared.rows.Row.TheVariants.{Listed, Single}
 use Rattle.infeasible_cert.specs.declared.rows.Rows.{Rows}
 use Rattle.infeasible_cert.specs.declared.rows.Nodes.{Nodes}
 use Rattle.infeasible_cert.specs.declared.rows.Nodes.TheVariants.{Top, Steps', Bound'}
-use Rattle.infeasible_cert.specs.Right.{base_rows, summands, row_at, FitsAlong, IsRoundedUp, column_products, constant_products}
+use Rattle.infeasible_cert.specs.Right.{base_rows, columns_of, summands, row_at, FitsAlong, IsRoundedUp, column_products, constant_products}
 
 -- a column's coefficient, or the constant
 abbrev pub number_at : Place → LinearSum → ℤ
@@ -59,10 +59,17 @@ abbrev pub DividesParts : List LinearSum → Derived → List (ℕ × ℤ) → T
 DividesParts rows d [] = Unit {0}
 DividesParts rows d (p ∷ ps) = DividesAt rows d p.0 × DividesParts rows d ps
 
+abbrev pub DividesAll : List LinearSum → Derived → List ℕ → Type 0
+DividesAll rows d [] = Unit {0}
+DividesAll rows d (x ∷ xs) = DividesAt rows d x × DividesAll rows d xs
+
+-- the rows that parts name
+abbrev pub named_rows : List LinearSum → List (ℕ × ℤ) → List LinearSum
+named_rows rows = map (λ p. row_at rows p.0)
+
 -- the same for the columns of the rows that parts name
 abbrev pub DividesNamed : List LinearSum → Derived → List (ℕ × ℤ) → Type 0
-DividesNamed rows d [] = Unit {0}
-DividesNamed rows d (p ∷ ps) = DividesParts rows d (row_at rows p.0).parts × DividesNamed rows d ps
+DividesNamed rows d ps = DividesAll rows d (columns_of (named_rows rows ps))
 
 abbrev pub IsRightConstant : List LinearSum → Derived → Type 0
 IsRightConstant rows d =
