@@ -1,7 +1,7 @@
 -- Both branches of a node.
 use Rattle.std.proofs.Common.{◌≡◌, ℕ, ◌<◌, ◌≤◌, ◌+◌, ◌^◌, ◌-◌, max, Bool, true, false, List, [], ◌∷◌, ◌++◌, ℤ, pos, negsuc, ◌+ℤ◌, ◌-ℤ◌, ◌↔◌, FitsSigned, to_z, of_z, w64, arith, refl, sym, ap, subst, ◌∙◌}
 use Rattle.std.specs.Int.{w128}
-use Rattle.std.specs.Prelude.{IsTrue, neg_ℤ, ◌≤ℤ◌, ◌<ℤ◌}
+use Rattle.std.specs.Prelude.{IsTrue, neg_ℤ, ◌<ℤ◌}
 use Rattle.std.proofs.lemmas.Int.{ints}
 use Rattle.linear_formula.specs.LinearSum.{LinearSum}
 use Rattle.infeasible_cert.specs.declared.certificate.Derived.{Derived}

@@ -1,14 +1,12 @@
 -- Derived rows, one after the other.
-use Rattle.std.proofs.Common.{◌≡◌, ℕ, suc, zero, ◌<◌, ◌≤◌, ◌+◌, ◌^◌, ◌-◌, max, List, [], ◌∷◌, ◌++◌, length, take, drop, get_or, map, ℤ, pos, negsuc, ◌+ℤ◌, ◌↔◌, arith, refl, sym, ap, subst, ◌∙◌}
-use Rattle.std.specs.Prelude.{IsTrue, neg_ℤ, ◌≤ℤ◌, ◌<ℤ◌}
-use Rattle.std.proofs.lemmas.Int.{ints}
+use Rattle.std.proofs.Common.{◌≡◌, ℕ, suc, zero, ◌<◌, ◌≤◌, ◌+◌, List, [], ◌∷◌, ◌++◌, length, take, drop, get_or, pos, ◌↔◌, arith, refl, sym, ap, subst, ◌∙◌}
+use Rattle.std.specs.Prelude.{IsTrue, ◌≤ℤ◌}
 use Rattle.std.proofs.lemmas.List.{append-nil, append_assoc, map-append, take_more, drop_more}
 use Rattle.linear_formula.specs.LinearSum.{LinearSum, is_term}
 use Rattle.linear_formula.proofs.Limits.{IsTerm-from_test}
 use Rattle.infeasible_cert.specs.declared.certificate.Derived.{Derived}
-use Rattle.infeasible_cert.specs.Refutation.{Refutation, branch}
-use Rattle.infeasible_cert.specs.Right.{AreRightSteps, IsRightStep, EndsInContradiction, rows_after, IsRight, nesting, at_most, at_least}
-use Rattle.infeasible_cert.specs.Terms.{AreDerivedTerms, HasTerms}
+use Rattle.infeasible_cert.specs.Right.{AreRightSteps, IsRightStep, EndsInContradiction, rows_after}
+use Rattle.infeasible_cert.specs.Terms.{AreDerivedTerms}
 use Rattle.infeasible_cert.specs.Known.{terms_of, RowsInOrder}
 use Rattle.infeasible_cert.proofs.Meeting.{order-append}
 

@@ -2,6 +2,7 @@ pub mod Ascending
 pub mod Ranges
 pub mod Branching
 pub mod Deriving
+pub mod Naming
 pub mod Deciding
 pub mod Rounding
 pub mod Summing

@@ -1,17 +1,17 @@
 -- Rows that are in order, and met.
-use Rattle.std.proofs.Common.{◌≡◌, ℕ, suc, zero, ◌<◌, ◌≤◌, ◌+◌, ◌^◌, Bool, true, false, List, [], ◌∷◌, ◌++◌, length, map, ℤ, pos, negsuc, ◌+ℤ◌, ◌*ℤ◌, ◌==◌, nat_lt, arith, refl, sym, subst}
-use Rattle.std.specs.Prelude.{IsTrue, ◌≤ℤ◌, ◌<ℤ◌, if◌then◌else◌}
+use Rattle.std.proofs.Common.{ℕ, suc, zero, ◌<◌, ◌+◌, ◌^◌, List, [], ◌∷◌, ◌++◌, ℤ, pos, ◌==◌, nat_lt, arith}
+use Rattle.std.specs.Prelude.{IsTrue, ◌≤ℤ◌}
 use Rattle.std.proofs.lemmas.Int.{ints}
-use Rattle.linear_formula.specs.LinearSum.{LinearSum, Valuation, Is64, value_of, value_of_parts, is_term}
+use Rattle.linear_formula.specs.LinearSum.{LinearSum, Valuation, Is64, value_of, is_term, is_ascending}
 use Rattle.linear_formula.specs.Order.{InOrder}
-use Rattle.linear_formula.specs.Results.{combination_value, constant_sum}
+use Rattle.linear_formula.specs.Results.{combination_value}
 use Rattle.linear_formula.specs.Formula.{HoldsAll, are_terms}
 use Rattle.linear_formula.specs.declared.formula.Atom.{Atom}
-use Rattle.linear_formula.proofs.Ring.{one-mul, zero-add}
-use Rattle.linear_formula.proofs.Limits.{both, IsTerm-from_test}
+use Rattle.linear_formula.proofs.Ring.{one-mul}
+use Rattle.linear_formula.proofs.Limits.{both, tests-from_InOrder, IsTerm-from_test}
 use Rattle.linear_formula.proofs.Values.{chosen}
 use Rattle.linear_formula.proofs.Laws.{AllInOrder}
-use Rattle.infeasible_cert.specs.Right.{upper_range, lower_range, range_rows, with_column, with_columns, columns_of, rows_of, base_rows, row_at, summands, AreMultiples}
+use Rattle.infeasible_cert.specs.Right.{range_rows, with_column, with_columns, columns_of, rows_of, base_rows, row_at, summands, AreMultiples}
 use Rattle.infeasible_cert.specs.Known.{RowsInOrder}
 use Rattle.infeasible_cert.proofs.Signs.{mul_nonpos, is64-bounds}
 
@@ -83,6 +83,10 @@ columns-with_all low (p ∷ ps) xs o h =
 columns-of : (ts : List LinearSum) → RowsInOrder ts → AreColumns (columns_of ts)
 columns-of [] h = tt
 columns-of (t ∷ ts) h = columns-with_all 0 t.parts (columns_of ts) h.0 (columns-of ts h.1)
+
+-- the columns of a term ascend
+pub term-ascends : (t : LinearSum) → IsTrue (is_term t) → IsTrue (is_ascending t.parts)
+term-ascends t h = (tests-from_InOrder 0 t.parts (IsTerm-from_test t h).order).0
 
 atoms-order : (atoms : List Atom) → IsTrue (are_terms atoms) → RowsInOrder (rows_of atoms)
 atoms-order [] h = tt

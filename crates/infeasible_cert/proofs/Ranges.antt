@@ -1,11 +1,16 @@
 -- The rows of ranges by their numbers.
-use Rattle.std.proofs.Common.{◌≡◌, ℕ, suc, zero, ◌<◌, ◌≤◌, ◌+◌, ◌-◌, ◌*◌, ◌/◌, ◌%◌, Bool, true, false, List, [], ◌∷◌, ◌++◌, length, get_or, map, arith, refl, sym, ap, subst, ◌∙◌}
-use Rattle.std.specs.Prelude.{if◌then◌else◌, ◌==◌}
-use Rattle.std.proofs.lemmas.List.{get_or_append_left, get_or-append_right, length-append, length-map, get_or-map}
+use Rattle.std.proofs.Common.{◌≡◌, ℕ, suc, zero, ◌<◌, ◌≤◌, ◌+◌, ◌-◌, ◌*◌, ◌/◌, ◌%◌, Bool, true, false, Result, Ok, Err, List, [], ◌∷◌, ◌++◌, length, get_or, pos, arith, refl, sym, ap, ◌∙◌}
+use Rattle.std.specs.Prelude.{if◌then◌else◌, ◌==◌, MatchResult}
+use Rattle.std.proofs.lemmas.List.{append-nil, append_assoc, length-append, get_or_append_left, get_or-append_right}
 use borrow.Author.Tests.{eqb-true, eqb_apart}
 use Rattle.linear_formula.specs.LinearSum.{LinearSum}
+use Rattle.linear_formula.specs.Results.{constant_sum}
 use Rattle.linear_formula.specs.declared.formula.Atom.{Atom}
 use Rattle.infeasible_cert.specs.Right.{upper_range, lower_range, range_rows, columns_of, rows_of, base_rows, row_at}
+use Rattle.infeasible_cert.specs.declared.rows.Nodes.{Nodes}
+use Rattle.infeasible_cert.specs.declared.rows.Nodes.TheVariants.{Top, Steps', Bound'}
+use Rattle.infeasible_cert.specs.declared.rows.Row.{Row}
+use Rattle.infeasible_cert.specs.Known.{rows_below, single, terms_of, sum_of}
 
 pub length-ranges : (xs : List ℕ) → length (range_rows xs) ≡ 2 * length xs
 length-ranges [] = refl
@@ -65,3 +70,30 @@ base-range atoms n x b le eb lt ex =
       by_side false e =
           let odd : 2 * ((n - length atoms) / 2) + 1 ≡ n - length atoms = omega (arith, eqb_apart ((n - length atoms) % 2) 0 (sym e)) in
           ap lower_range ex ∙ sym (range-lower (columns_of (rows_of atoms)) ((n - length atoms) / 2) lt) ∙ ap (row_at (range_rows (columns_of (rows_of atoms)))) odd
+
+-- the rows of nodes are behind the others
+pub below-apart : (rows : List LinearSum) (nodes : Nodes) → rows_below rows nodes ≡ rows ++ rows_below [] nodes
+below-apart rows Top = sym (append-nil rows)
+below-apart rows (Steps' p above derived) =
+    ap (λ ts. ts ++ terms_of derived.now) (below-apart rows above) ∙ append_assoc rows (rows_below [] above) (terms_of derived.now)
+below-apart rows (Bound' p above x a c) =
+    ap (λ ts. ts ++ single x a c ∷ []) (below-apart rows above) ∙ append_assoc rows (rows_below [] above) (single x a c ∷ [])
+
+-- a row with its number, or how far the number is behind the last one
+abbrev pub IsFound : List LinearSum → ℕ → Result Row ℕ → Type 0
+IsFound rows n r =
+    MatchResult r (λ row. (n < length rows) × (sum_of row ≡ row_at rows n)) (λ behind. n ≡ length rows + behind)
+
+pub found-before : (rows : List LinearSum) (nodes : Nodes) (n : ℕ) (t : LinearSum) → (n < length rows) × (t ≡ row_at rows n) → (n < length (rows_below rows nodes)) × (t ≡ row_at (rows_below rows nodes) n)
+found-before rows nodes n t h =
+    let e = below-apart rows nodes in
+    (omega (arith, h.0, ap length e, length-append rows (rows_below [] nodes)), h.1 ∙ sym (get_or_append_left rows (rows_below [] nodes) (constant_sum (pos 0)) n h.0) ∙ ap (λ ts. row_at ts n) (sym e))
+
+pub found-below : (rows : List LinearSum) (nodes : Nodes) (n k : ℕ) (r : Result Row ℕ) → n ≡ length rows + k → IsFound (rows_below [] nodes) k r → IsFound (rows_below rows nodes) n r
+found-below rows nodes n k (Ok row) en h =
+    let e = below-apart rows nodes in
+    let back : n - length rows ≡ k = omega (arith, en) in
+    (omega (arith, en, h.0, ap length e, length-append rows (rows_below [] nodes)), h.1 ∙ ap (row_at (rows_below [] nodes)) (sym back) ∙ sym (get_or-append_right rows (rows_below [] nodes) (length rows) n (constant_sum (pos 0)) refl (omega (arith, en))) ∙ ap (λ ts. row_at ts n) (sym e))
+found-below rows nodes n k (Err behind) en h =
+    let e = below-apart rows nodes in
+    omega (arith, en, h, ap length e, length-append rows (rows_below [] nodes))

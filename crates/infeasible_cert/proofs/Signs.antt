@@ -1,6 +1,6 @@
 -- Signs of products, and bounds of values.
-use Rattle.std.proofs.Common.{◌≡◌, ℕ, suc, zero, ◌<◌, ◌≤◌, ◌+◌, ◌*◌, ◌^◌, true, false, ℤ, pos, negsuc, ◌+ℤ◌, ◌*ℤ◌, nat_lt, arith, refl}
-use Rattle.std.specs.Prelude.{IsTrue, neg_ℤ, ◌≤ℤ◌, ◌<ℤ◌}
+use Rattle.std.proofs.Common.{suc, zero, ◌<◌, ◌^◌, ℤ, pos, negsuc, ◌+ℤ◌, ◌*ℤ◌, arith}
+use Rattle.std.specs.Prelude.{IsTrue, ◌≤ℤ◌, ◌<ℤ◌}
 use Rattle.std.proofs.lemmas.Int.{ints}
 use borrow.Author.Tests.{ltb-true}
 use Rattle.linear_formula.specs.LinearSum.{is64}

@@ -1,13 +1,13 @@
 -- Nothing meets a cube that has a right certificate.
-use Rattle.std.proofs.Common.{◌≡◌, ℕ, ◌<◌, ◌+◌, ◌^◌, List, [], ◌∷◌, ◌++◌, ℤ, pos, negsuc, ◌+ℤ◌, ◌*ℤ◌, arith, refl, sym, ◌∙◌, ap}
-use Rattle.std.specs.Prelude.{IsTrue, ◌≤ℤ◌, ◌<ℤ◌, neg_ℤ}
+use Rattle.std.proofs.Common.{◌≡◌, ℕ, List, [], ◌∷◌, ◌++◌, ℤ, pos, ◌+ℤ◌, arith, sym, ◌∙◌, ap}
+use Rattle.std.specs.Prelude.{IsTrue, ◌≤ℤ◌}
 use Rattle.std.proofs.lemmas.Int.{ints, by_lt_z}
 use Rattle.linear_formula.specs.LinearSum.{LinearSum, Valuation, Is64, value_of, value_of_parts}
 use Rattle.linear_formula.specs.Order.{InOrder}
-use Rattle.linear_formula.specs.Results.{combination, combination_value, plus_parts}
+use Rattle.linear_formula.specs.Results.{combination, plus_parts}
 use Rattle.linear_formula.specs.Formula.{HoldsAll, are_terms}
 use Rattle.linear_formula.specs.declared.formula.Atom.{Atom}
-use Rattle.linear_formula.proofs.Ring.{one-mul, add-zero}
+use Rattle.linear_formula.proofs.Ring.{add-zero}
 use Rattle.linear_formula.proofs.Order.{InOrder-plus_parts, listed-plus_parts, same_parts}
 use Rattle.linear_formula.proofs.Values.{value-plus_parts, value-combination}
 use Rattle.linear_formula.proofs.Laws.{InOrder-combination}

@@ -1,5 +1,5 @@
 -- The rows that a step may name, and what the check reads of them.
-use Rattle.std.specs.Prelude.{◌≡◌, ℕ, ◌<◌, List, [], ◌∷◌, ◌++◌, length, map, ℤ, pos, ◌+ℤ◌, ◌*ℤ◌, ◌≤ℤ◌}
+use Rattle.std.specs.Prelude.{◌≡◌, ℕ, List, [], ◌∷◌, ◌++◌, map, ℤ, pos, ◌+ℤ◌, ◌*ℤ◌}
 use Rattle.linear_formula.specs.LinearSum.{LinearSum, coefficient}
 use Rattle.linear_formula.specs.Order.{InOrder}
 use Rattle.infeasible_cert.specs.declared.certificate.Derived.{Derived}
@@ -8,8 +8,9 @@ use Rattle.infeasible_cert.specs.declared.rows.Place.TheVariants.{Column, Consta
 use Rattle.infeasible_cert.specs.declared.rows.Row.{Row}
 use Rattle.infeasible_cert.specs.declared.rows.Row.TheVariants.{Listed, Single}
 use Rattle.infeasible_cert.specs.declared.rows.Rows.{Rows}
-use Rattle.infeasible_cert.specs.declared.rows.Rows.TheVariants.{Base, Steps', Bound'}
-use Rattle.infeasible_cert.specs.Right.{base_rows, summands, row_at, FitsAlong, IsRoundedUp, column_products, constant_products}
+use Rattle.infeasible_cert.specs.declared.rows.Nodes.{Nodes}
+use Rattle.infeasible_cert.specs.declared.rows.Nodes.TheVariants.{Top, Steps', Bound'}
+use Rattle.infeasible_cert.specs.Right.{base_rows, columns_of, summands, row_at, FitsAlong, IsRoundedUp, column_products, constant_products}
 
 -- a column's coefficient, or the constant
 abbrev pub number_at : Place → LinearSum → ℤ
@@ -26,11 +27,15 @@ sum_of (Single x a c) = single x a c
 abbrev pub terms_of : List Derived → List LinearSum
 terms_of ds = map (λ d. d.row.term) ds
 
+-- rows, and those of the nodes behind them
+abbrev pub rows_below : List LinearSum → Nodes → List LinearSum
+rows_below rows Top = rows
+rows_below rows (Steps' p above derived) = rows_below rows above ++ terms_of derived.now
+rows_below rows (Bound' p above x a c) = rows_below rows above ++ single x a c ∷ []
+
 -- the rows in the order of their numbers
 abbrev pub rows_in : Rows → List LinearSum
-rows_in (Base atoms) = base_rows atoms.now
-rows_in (Steps' p above derived) = rows_in above ++ terms_of derived.now
-rows_in (Bound' p above x a c) = rows_in above ++ single x a c ∷ []
+rows_in rows = rows_below (base_rows rows.columns.now.atoms.now) rows.nodes.now
 
 abbrev pub total : List ℤ → ℤ
 total [] = pos 0
@@ -54,10 +59,17 @@ abbrev pub DividesParts : List LinearSum → Derived → List (ℕ × ℤ) → T
 DividesParts rows d [] = Unit {0}
 DividesParts rows d (p ∷ ps) = DividesAt rows d p.0 × DividesParts rows d ps
 
+abbrev pub DividesAll : List LinearSum → Derived → List ℕ → Type 0
+DividesAll rows d [] = Unit {0}
+DividesAll rows d (x ∷ xs) = DividesAt rows d x × DividesAll rows d xs
+
+-- the rows that parts name
+abbrev pub named_rows : List LinearSum → List (ℕ × ℤ) → List LinearSum
+named_rows rows = map (λ p. row_at rows p.0)
+
 -- the same for the columns of the rows that parts name
 abbrev pub DividesNamed : List LinearSum → Derived → List (ℕ × ℤ) → Type 0
-DividesNamed rows d [] = Unit {0}
-DividesNamed rows d (p ∷ ps) = DividesParts rows d (row_at rows p.0).parts × DividesNamed rows d ps
+DividesNamed rows d ps = DividesAll rows d (columns_of (named_rows rows ps))
 
 abbrev pub IsRightConstant : List LinearSum → Derived → Type 0
 IsRightConstant rows d =

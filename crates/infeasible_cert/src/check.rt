@@ -9,7 +9,8 @@ ghost use Rattle.infeasible_cert.specs.Right.{Refutes};
 ghost use Rattle.infeasible_cert.specs.Terms.{HasTerms};
 
 use crate::certificate::Certificate;
-use crate::rows::Rows;
+use crate::columns::{Columns, list_columns};
+use crate::rows::{Nodes, Rows};
 use crate::walk::is_right;
 use linear_formula::formula::{Atom, Cube};
 
@@ -21,6 +22,9 @@ pub fn right_is_sound()
 
 /// How deep branches may nest.
 const MAX_NESTING: u32 = 512;
+
+/// How many columns of a cube are listed; those behind them are looked up in the cube.
+const LISTED_COLUMNS: usize = 1024;
 
 /// What is known of a cube's atoms, for the proof.
 fn know_terms(atoms: &[Atom])
@@ -38,5 +42,16 @@ pub fn refutes(cube: &Cube, certificate: &Certificate) -> bool
 {
     let atoms = cube.atoms.as_slice();
     know_terms(atoms);
-    is_right(certificate, &Rows::Base(atoms), MAX_NESTING)
+    let mut first = [0; LISTED_COLUMNS];
+    let count = list_columns(atoms, &mut first);
+    let columns = Columns {
+        atoms,
+        count,
+        first: &first,
+    };
+    let rows = Rows {
+        columns: &columns,
+        nodes: &Nodes::Top,
+    };
+    is_right(certificate, &rows, MAX_NESTING)
 }

@@ -6,4 +6,6 @@ pub mod check;
 mod columns;
 mod rows;
 mod step;
+#[cfg(test)]
+mod tests;
 mod walk;

@@ -1,13 +1,12 @@
 //! The rows that a step may name, by their numbers.
 
-ghost use Rattle.std.specs.Prelude.{◌≡◌, ◌+◌, ◌<◌, length, MatchResult, if◌then◌else◌};
-ghost use Rattle.linear_formula.specs.LinearSum.{listed_at};
+ghost use Rattle.std.specs.Prelude.{◌≡◌, ◌+◌, ◌<◌, [], length, IsTrue, MatchResult, if◌then◌else◌};
+ghost use Rattle.linear_formula.specs.LinearSum.{listed_at, coefficient, is_ascending};
 ghost use Rattle.infeasible_cert.specs.Right.{base_rows, row_at, upper_range, lower_range};
-ghost use Rattle.infeasible_cert.specs.Known.{number_at, sum_of, rows_in};
+ghost use Rattle.infeasible_cert.specs.Known.{number_at, sum_of, rows_below, rows_in};
 
 use crate::certificate::Derived;
-use crate::columns::nth_column;
-use linear_formula::formula::Atom;
+use crate::columns::{Columns, nth_column};
 use linear_formula::term::Term;
 
 /// A column of a row, or its constant.
@@ -28,32 +27,56 @@ pub enum Row<'a> {
     },
 }
 
-/// Rows in order: those of a cube, then those of the nodes down to one.
+/// The rows of the nodes down to one, in order.
 #[derive(Clone, Copy)]
-pub enum Rows<'a> {
-    Base(&'a [Atom]),
+pub enum Nodes<'a> {
+    Top,
     Steps {
-        above: &'a Rows<'a>,
+        above: &'a Nodes<'a>,
         derived: &'a [Derived],
     },
     Bound {
-        above: &'a Rows<'a>,
+        above: &'a Nodes<'a>,
         column: u32,
         coefficient: i128,
         constant: i128,
     },
 }
 
-/// The coefficient of a column.
-pub fn coefficient_of(parts: &[(u32, i128)], column: u32) -> i128
+/// The rows of a cube and of its ranges, and behind them those of nodes.
+#[derive(Clone, Copy)]
+pub struct Rows<'a> {
+    pub columns: &'a Columns<'a>,
+    pub nodes: &'a Nodes<'a>,
+}
+
+/// Halves the places that are left until it finds the column.
+fn listed(parts: &[(u32, i128)], column: u32) -> i128
+    requires { IsTrue (is_ascending parts.now) }
     ensures { result ≡ listed_at column parts.now }
 {
-    for (x, coefficient) in parts {
-        if column == *x {
-            return *coefficient;
+    let mut low = 0;
+    let mut high = parts.len();
+    while low < high {
+        let middle = low + (high - low) / 2;
+        let (x, coefficient) = parts[middle];
+        if x == column {
+            return coefficient;
+        }
+        if x < column {
+            low = middle + 1;
+        } else {
+            high = middle;
         }
     }
     0
+}
+
+/// The coefficient of a column.
+pub fn coefficient_of(term: &Term, column: u32) -> i128
+    ensures { result ≡ coefficient column term.now }
+{
+    listed(term.parts(), column)
 }
 
 impl Row<'_> {
@@ -62,7 +85,7 @@ impl Row<'_> {
     {
         match self {
             Row::Listed(term) => match place {
-                Place::Column(x) => coefficient_of(term.parts(), x),
+                Place::Column(x) => coefficient_of(term, x),
                 Place::Constant => term.constant(),
             },
             Row::Single {
@@ -97,29 +120,31 @@ fn range_row<'a>(column: u32, is_upper: bool) -> Row<'a>
 }
 
 /// A row of a cube or of a range, or how far the number is behind the last one.
-fn find_base(atoms: &[Atom], number: u64) -> Result<Row<'_>, u64>
-    ensures { MatchResult result (λ row. (number < length (base_rows atoms.now)) × (sum_of row ≡ row_at (base_rows atoms.now) number))
-        (λ behind. number ≡ length (base_rows atoms.now) + behind) }
+fn find_base<'a>(columns: &'a Columns<'a>, number: u64) -> Result<Row<'a>, u64>
+    ensures { MatchResult result
+        (λ row. (number < length (base_rows columns.now.atoms.now)) × (sum_of row ≡ row_at (base_rows columns.now.atoms.now) number))
+        (λ behind. number ≡ length (base_rows columns.now.atoms.now) + behind) }
 {
+    let atoms = columns.atoms;
     let count = atoms.len() as u64;
     if number < count {
         return Ok(Row::Listed(&atoms[number as usize].term));
     }
     let place = number - count;
-    match nth_column(atoms, place / 2) {
+    match nth_column(columns, place / 2) {
         Ok(column) => Ok(range_row(column, place % 2 == 0)),
         Err(behind) => Err(behind * 2 + place % 2),
     }
 }
 
-/// The row of a number, or how far the number is behind the last one.
-pub fn find<'a>(rows: &Rows<'a>, number: u64) -> Result<Row<'a>, u64>
-    ensures { MatchResult result (λ row. (number < length (rows_in rows.now)) × (sum_of row ≡ row_at (rows_in rows.now) number))
-        (λ behind. number ≡ length (rows_in rows.now) + behind) }
+/// The row of a number among those of nodes, or how far the number is behind the last one.
+fn find_below<'a>(nodes: &Nodes<'a>, number: u64) -> Result<Row<'a>, u64>
+    ensures { MatchResult result (λ row. (number < length (rows_below [] nodes.now)) × (sum_of row ≡ row_at (rows_below [] nodes.now) number))
+        (λ behind. number ≡ length (rows_below [] nodes.now) + behind) }
 {
-    match rows {
-        Rows::Base(atoms) => find_base(atoms, number),
-        Rows::Steps { above, derived } => match find(above, number) {
+    match nodes {
+        Nodes::Top => Err(number),
+        Nodes::Steps { above, derived } => match find_below(above, number) {
             Ok(row) => Ok(row),
             Err(behind) => {
                 let count = derived.len() as u64;
@@ -130,12 +155,12 @@ pub fn find<'a>(rows: &Rows<'a>, number: u64) -> Result<Row<'a>, u64>
                 }
             }
         },
-        Rows::Bound {
+        Nodes::Bound {
             above,
             column,
             coefficient,
             constant,
-        } => match find(above, number) {
+        } => match find_below(above, number) {
             Ok(row) => Ok(row),
             Err(0) => Ok(Row::Single {
                 column: *column,
@@ -144,5 +169,16 @@ pub fn find<'a>(rows: &Rows<'a>, number: u64) -> Result<Row<'a>, u64>
             }),
             Err(behind) => Err(behind - 1),
         },
+    }
+}
+
+/// The row of a number, or how far the number is behind the last one.
+pub fn find<'a>(rows: &Rows<'a>, number: u64) -> Result<Row<'a>, u64>
+    ensures { MatchResult result (λ row. (number < length (rows_in rows.now)) × (sum_of row ≡ row_at (rows_in rows.now) number))
+        (λ behind. number ≡ length (rows_in rows.now) + behind) }
+{
+    match find_base(rows.columns, number) {
+        Ok(row) => Ok(row),
+        Err(behind) => find_below(rows.nodes, behind),
     }
 }

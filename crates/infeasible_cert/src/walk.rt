@@ -7,7 +7,7 @@ ghost use Rattle.infeasible_cert.specs.Terms.{AreDerivedTerms, HasTerms};
 ghost use Rattle.infeasible_cert.specs.Known.{rows_in, RowsInOrder};
 
 use crate::certificate::{Certificate, Derived};
-use crate::rows::Rows;
+use crate::rows::{Nodes, Rows};
 use crate::step::is_right_step;
 use linear_formula::term::Term;
 
@@ -17,9 +17,13 @@ fn derives<'x>(rows: &'x Rows<'x>, derived: &'x [Derived]) -> bool
     ensures terms { IsTrue result → AreDerivedTerms derived.now }
 {
     for i in 0..derived.len() {
-        let known = Rows::Steps {
-            above: rows,
+        let nodes = Nodes::Steps {
+            above: rows.nodes,
             derived: &derived[..i],
+        };
+        let known = Rows {
+            columns: rows.columns,
+            nodes: &nodes,
         };
         if !is_right_step(&known, &derived[i]) {
             return false;
@@ -70,23 +74,31 @@ pub fn is_right<'x>(certificate: &'x Certificate, rows: &'x Rows<'x>, depth: u32
             if depth == 0 || *at == i64::MAX || !derives(rows, derived) {
                 return false;
             }
-            let known = Rows::Steps {
-                above: rows,
+            let known = Nodes::Steps {
+                above: rows.nodes,
                 derived,
             };
-            let below = Rows::Bound {
+            let below = Nodes::Bound {
                 above: &known,
                 column: *column,
                 coefficient: 1,
                 constant: -i128::from(*at),
             };
-            let beyond = Rows::Bound {
+            let beyond = Nodes::Bound {
                 above: &known,
                 column: *column,
                 coefficient: -1,
                 constant: i128::from(*at) + 1,
             };
-            is_right(&**low, &below, depth - 1) && is_right(&**high, &beyond, depth - 1)
+            let lower = Rows {
+                columns: rows.columns,
+                nodes: &below,
+            };
+            let upper = Rows {
+                columns: rows.columns,
+                nodes: &beyond,
+            };
+            is_right(&**low, &lower, depth - 1) && is_right(&**high, &upper, depth - 1)
         }
     }
 }

@@ -1,4 +1,4 @@
-use Rattle.std.proofs.Common.{◌≡◌, List, IsTrue, sym, subst}
+use Rattle.std.proofs.Common.{List, IsTrue, sym, subst}
 use Rattle.linear_formula.specs.Formula.{are_terms}
 use Rattle.linear_formula.specs.declared.formula.Atom.{Atom}
 use Rattle.infeasible_cert.specs.Refutation.{refutation_of}

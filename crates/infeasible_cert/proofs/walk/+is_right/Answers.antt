@@ -1,4 +1,4 @@
-use Rattle.std.proofs.Common.{◌≡◌, ◌<◌, ◌<ℤ◌, ◌-◌, ◌∙◌, pos, FitsSigned, Fits, w32, w64, arith, rules, refl, sym, ap, subst}
+use Rattle.std.proofs.Common.{◌∙◌, FitsSigned, Fits, w32, w64, arith, rules, refl, sym, ap, subst}
 use Rattle.infeasible_cert.specs.Refutation.{refutation_of}
 use Rattle.infeasible_cert.specs.Terms.{AreDerivedTerms}
 use Rattle.infeasible_cert.specs.Known.{rows_in}
