@@ -1,0 +1,4 @@
+pub mod Shapes
+pub mod WellFormed
+pub mod Linked
+pub mod Runs

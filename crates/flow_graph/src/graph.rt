@@ -1,0 +1,194 @@
+//! Graphs, edge by edge.
+
+ghost use Rattle.std.specs.Prelude.{◌≡◌};
+ghost use Rattle.flow_graph.specs.WellFormed.{IsGraph};
+
+use c_tree::tree::{AssertId, ProcId, Slot};
+use linear_formula::formula::Cube;
+use std::marker::Model;
+
+/// Coefficients and slots, in order.
+#[derive(Debug, Drop)]
+pub struct LinParts {
+    items: Vec<(i64, Slot)>,
+}
+
+impl Model for LinParts {
+    ghost use Rattle.std.specs.Prelude.{List, ℕ, ℤ};
+
+    ghost Value = { List (ℤ × ℕ) };
+
+    ghost view = { λ p. p.items.items };
+}
+
+impl LinParts {
+    /// Takes no memory of its own.
+    pub fn from_vec(items: Vec<(i64, Slot)>) -> LinParts
+        ensures { result ≡ items.items }
+    {
+        LinParts { items }
+    }
+
+    pub fn as_slice(&self) -> &[(i64, Slot)]
+        ensures { result.now ≡ self.now }
+    {
+        self.items.as_slice()
+    }
+}
+
+/// The value of at most two parts and a constant.
+#[derive(Debug, Drop)]
+pub struct Lin {
+    pub parts: LinParts,
+    pub constant: i64,
+}
+
+/// Slots in order.
+#[derive(Debug, Drop)]
+pub struct Slots {
+    items: Vec<Slot>,
+}
+
+impl Model for Slots {
+    ghost use Rattle.std.specs.Prelude.{List, ℕ};
+
+    ghost Value = { List ℕ };
+
+    ghost view = { λ s. s.items.items };
+}
+
+impl Slots {
+    /// Takes no memory of its own.
+    pub fn from_vec(items: Vec<Slot>) -> Slots
+        ensures { result ≡ items.items }
+    {
+        Slots { items }
+    }
+
+    pub fn as_slice(&self) -> &[Slot]
+        ensures { result.now ≡ self.now }
+    {
+        self.items.as_slice()
+    }
+}
+
+/// A step from one node to the next. Rows are read at the slots.
+#[derive(Debug, Drop)]
+pub enum Edge {
+    /// A frame begins, with the arguments in the first slots and 0 in the others.
+    Entry {
+        to: u32,
+        params: u32,
+    },
+    /// The slot gets the exact value; there is no step where it isn't one of 64 bits.
+    Assign {
+        from: u32,
+        to: u32,
+        slot: Slot,
+        value: Lin,
+    },
+    /// The rows hold.
+    Guard {
+        from: u32,
+        to: u32,
+        rows: Cube,
+    },
+    /// The slot gets the next input.
+    Input {
+        from: u32,
+        to: u32,
+        slot: Slot,
+    },
+    /// The slot gets any value with which the rows hold.
+    Pick {
+        from: u32,
+        to: u32,
+        slot: Slot,
+        rows: Cube,
+    },
+    /// The slot gets what the procedure returns; where its run fails, the frame fails.
+    Call {
+        from: u32,
+        to: u32,
+        proc: ProcId,
+        args: Slots,
+        slot: Slot,
+    },
+    /// The rows hold, and the assertion fails.
+    Assert {
+        from: u32,
+        to: u32,
+        id: AssertId,
+        rows: Cube,
+    },
+    /// The frame returns the slot's value.
+    Return {
+        from: u32,
+        to: u32,
+        slot: Slot,
+    },
+}
+
+/// Edges in order.
+#[derive(Debug, Drop)]
+pub struct Edges {
+    items: Vec<Edge>,
+}
+
+impl Model for Edges {
+    ghost use Rattle.std.specs.Prelude.{List};
+    ghost use Rattle.flow_graph.specs.declared.graph.Edge.{Edge};
+
+    ghost Value = { List Edge };
+
+    ghost view = { λ e. e.items.items };
+}
+
+impl Edges {
+    /// Takes no memory of its own.
+    pub fn from_vec(items: Vec<Edge>) -> Edges
+        ensures { result ≡ items.items }
+    {
+        Edges { items }
+    }
+
+    pub fn as_slice(&self) -> &[Edge]
+        ensures { result.now ≡ self.now }
+    {
+        self.items.as_slice()
+    }
+}
+
+/// The graph of a procedure. Nodes and slots are numbered from 0; frames end at `exit` and at `fail`.
+#[derive(Drop)]
+pub struct Graph {
+    pub nodes: u32,
+    pub exit: u32,
+    pub fail: u32,
+    pub params: u32,
+    pub slots: u32,
+    pub edges: Edges,
+    pub ghost kept: { IsGraph nodes exit fail params slots edges },
+}
+
+impl Graph {
+    /// The graph of these parts.
+    pub fn new(nodes: u32, exit: u32, fail: u32, params: u32, slots: u32, edges: Edges) -> Graph
+        requires { IsGraph nodes exit fail params slots edges }
+        ensures nodes { result.nodes ≡ nodes }
+        ensures exit { result.exit ≡ exit }
+        ensures fail { result.fail ≡ fail }
+        ensures params { result.params ≡ params }
+        ensures slots { result.slots ≡ slots }
+        ensures edges { result.edges ≡ edges }
+    {
+        Graph {
+            nodes,
+            exit,
+            fail,
+            params,
+            slots,
+            edges,
+        }
+    }
+}

@@ -1,0 +1,6 @@
+//! Control-flow graphs of procedures, and their meaning.
+#![tactic(auto)]
+
+pub mod graph;
+pub mod graphs;
+pub mod laws;
