@@ -1,0 +1,11 @@
+pub mod Division
+pub mod Reduction
+pub mod Elimination
+pub mod Errors
+pub mod Making
+pub mod Stages
+pub mod Places
+pub mod Shadows
+pub mod Points
+pub mod Plan
+pub mod RightLimit

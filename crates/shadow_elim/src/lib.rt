@@ -1,0 +1,14 @@
+//! The elimination of columns from linear rows over the integers, and the plan of a solver that stands on it.
+#![tactic(auto)]
+
+mod column;
+mod division;
+pub mod eliminate;
+pub mod elimination;
+pub mod limit;
+mod pairing;
+mod reduction;
+pub mod row;
+pub mod shadow;
+#[cfg(test)]
+mod tests;

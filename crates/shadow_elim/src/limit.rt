@@ -1,0 +1,76 @@
+//! Limits that a question met.
+
+ghost use Rattle.std.specs.Prelude.{◌≡◌};
+
+use crate::shadow::Pair;
+use linear_formula::formula::Cube;
+use linear_formula::question::Question;
+use std::marker::Model;
+
+/// Cubes in order.
+#[derive(Debug, Drop)]
+pub struct Cubes {
+    items: Vec<Cube>,
+}
+
+impl Model for Cubes {
+    ghost use Rattle.std.specs.Prelude.{List};
+    ghost use Rattle.linear_formula.specs.declared.formula.Cube.{Cube};
+
+    ghost Value = { List Cube };
+
+    ghost view = { λ c. c.items.items };
+}
+
+impl Cubes {
+    /// Takes no memory of its own.
+    pub fn from_vec(items: Vec<Cube>) -> Cubes
+        ensures { result ≡ items.items }
+    {
+        Cubes { items }
+    }
+
+    pub fn into_vec(self) -> Vec<Cube>
+        ensures { result.items ≡ self }
+    {
+        let Cubes { items } = self;
+        items
+    }
+
+    pub fn as_slice(&self) -> &[Cube]
+        ensures { result.now ≡ self.now }
+    {
+        self.items.as_slice()
+    }
+}
+
+/// Why a question has no answer.
+#[derive(Debug, Drop)]
+pub enum Limit {
+    /// The cube names more than 256 columns.
+    Columns,
+    /// A sum, or a row of the branch's elimination, is beyond the limits of a term.
+    Wide { branch: Question },
+    /// The elimination of the branch leaves more than 4,096 rows after a column.
+    Rows { branch: Cube },
+    /// These cubes were split, and one more split is needed.
+    Branches { branches: Cubes },
+    /// The first pair of an elimination with neither coefficient 1 or -1.
+    Inexact(Pair),
+}
+
+#[derive(Clone, Copy, Debug, PartialEq, Eq)]
+pub enum LimitKind {
+    Columns,
+    Wide,
+    Rows,
+    Branches,
+    Inexact,
+}
+
+/// A question and the limit that it met.
+#[derive(Debug, Drop)]
+pub struct Kept {
+    pub question: Question,
+    pub limit: Limit,
+}
