@@ -10,7 +10,7 @@ use Rattle.c_tree.specs.SourceTree.{Identifier, ExpressionTree, SimpleStatement,
 use Rattle.c_tree.specs.SourceView.{statement_tree_of, statement_trees_of}
 use Rattle.c_typing.specs.Scope.{Scope, with_variable, with_names, names_of, declared_by, declared_in, declared_by_init, asserts_of, asserts_of_optional, asserts_by_declarators, asserts_by_simple, asserts_by_init, asserts_by_step, asserts_by, asserts_in}
 use Rattle.c_typing.specs.Lowering.{joined, nothing, lowered, lowered_test, lowered_step, lowered_declarators, lowered_simple, init_scopes, with_init, scopes_after, spliced, lowered_statement, lowered_statements}
-use Rattle.c_typing.specs.Quiet.{IsQuiet, AreQuiet, Fits, AllFit, IsLowered, IsPlaced, AreLowered, init_statements, wrapped}
+use Rattle.c_typing.specs.LoweringSteps.{IsQuiet, AreQuiet, Fits, AllFit, IsLowered, IsPlaced, AreLowered, init_statements, wrapped}
 use Rattle.c_typing.specs.Tables.{outer_of}
 use Rattle.c_tree.proofs.SourceRows.{source_block_of}
 use Rattle.c_typing.proofs.Building.{joined-nil, joined-joined}

@@ -17,7 +17,7 @@ use Rattle.c_typing.specs.Scope.{procedures_of, number_of, number_from, defined,
 use Rattle.c_typing.specs.Faults.{all_faults}
 use Rattle.c_typing.specs.Lowering.{lowered_procedure, lowered_procedures, assert_places, lowered_file}
 use Rattle.c_typing.specs.Answer.{DefinesMain}
-use Rattle.c_typing.specs.Quiet.{ProceduresFit, placed}
+use Rattle.c_typing.specs.LoweringSteps.{ProceduresFit, placed}
 use Rattle.c_typing.specs.Tables.{procedures_in, number_in}
 use Rattle.c_typing.proofs.Formed.{AreSmall, well_formed}
 
