@@ -1,7 +1,6 @@
 -- The table of procedures, name by name.
-use Rattle.std.proofs.Common.{◌≡◌, ℕ, ◌+◌, ◌<◌, Bool, true, false, not, Bor, List, [], ◌∷◌, length, drop, get_or, Option, Some, None, is_some, refl, ap, sym, ◌∙◌, bytes_eq, if◌then◌else◌, arith}
+use Rattle.std.proofs.Common.{◌≡◌, ℕ, ◌+◌, ◌<◌, Bool, true, false, Bor, List, [], ◌∷◌, length, drop, get_or, Option, Some, None, is_some, refl, ap, sym, ◌∙◌, bytes_eq, if◌then◌else◌}
 use Rattle.std.proofs.lemmas.List.{at_drop_more}
-use Rattle.std.specs.Map.{lookup}
 use Rattle.indexmap.specs.IndexMap.{IndexMap, UpdatesBy}
 use Rattle.c_tree.specs.declared.syntax_tree.ProcTree.{ProcTree}
 use Rattle.c_tree.specs.declared.syntax_tree.Item.{Item}

@@ -1,5 +1,5 @@
 -- What names mean behind entries, and that it agrees with the scopes.
-use Rattle.std.proofs.Common.{◌≡◌, ℕ, ◌+◌, ◌<◌, ◌≤◌, Bool, true, false, ◌==◌, ◌||◌, Bor, List, [], ◌∷◌, ◌++◌, length, Option, Some, None, IsSome, is_some, option_map, Result, Ok, Err, IsOk, OnOk, OnErr, refl, ap, sym, ◌∙◌, subst, arith, bytes_eq, if◌then◌else◌}
+use Rattle.std.proofs.Common.{◌≡◌, ℕ, ◌+◌, ◌≤◌, Bool, true, false, ◌==◌, ◌||◌, Bor, List, [], ◌∷◌, ◌++◌, length, Option, Some, None, IsSome, is_some, option_map, Result, Ok, Err, IsOk, OnOk, OnErr, refl, ap, sym, ◌∙◌, subst, arith, bytes_eq, if◌then◌else◌}
 use Rattle.std.proofs.lemmas.Bool.Decides.{nat_tests}
 use Rattle.std.proofs.lemmas.Slice.Eq.{bytes_eq-Decides}
 use Rattle.std.proofs.lemmas.Map.Text.{hash_map_updates_str}

@@ -1,8 +1,8 @@
 -- The scopes and procedures of the code, step by step.
-use Rattle.std.proofs.Common.{◌≡◌, ℕ, ◌+◌, ◌<◌, zero, suc, Bool, true, false, ◌||◌, Bor, List, [], ◌∷◌, ◌++◌, length, take, drop, get_or, Option, Some, None, is_some, refl, ap, sym, ◌∙◌, subst, arith, bytes_eq, if◌then◌else◌}
+use Rattle.std.proofs.Common.{◌≡◌, ℕ, true, false, ◌||◌, Bor, List, [], ◌∷◌, ◌++◌, length, take, Option, Some, None, is_some, refl, ap, sym, ◌∙◌, bytes_eq, if◌then◌else◌}
 use Rattle.c_typing.specs.declared.scopes.Entry.{Entry}
 use Rattle.c_typing.specs.declared.scopes.Entry.TheVariants.{Opens, Declares}
-use Rattle.c_typing.specs.Scope.{Scope, Variable, slot_of, slot_in, or_outer, with_variable, is_declared_here}
+use Rattle.c_typing.specs.Scope.{Scope, slot_of, slot_in, or_outer, with_variable, is_declared_here}
 use Rattle.c_typing.specs.Tables.{scopes_onto, outer_of}
 use Rattle.c_typing.specs.declared.scopes.Meaning.{Meaning}
 

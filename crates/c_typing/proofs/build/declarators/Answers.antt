@@ -1,4 +1,4 @@
-use Rattle.std.proofs.Common.{◌≡◌, ◌∙◌, ◌+◌, ap, sym, arith}
+use Rattle.std.proofs.Common.{◌∙◌, ap, arith}
 use Rattle.c_tree.specs.Syntax as program
 use Rattle.c_tree.specs.View.{statements_of}
 use Rattle.c_tree.specs.SourceView.{declarator_of}

@@ -1,6 +1,5 @@
-use Rattle.std.proofs.Common.{◌≡◌, ◌∙◌, ap, sym, None, Some, map, codes, inl, false, Err, Result, arith, rules}
+use Rattle.std.proofs.Common.{◌≡◌, ◌∙◌, ap, sym, None, map, codes, inl, arith, rules}
 use Rattle.c_tree.specs.FileView.{file_of, item_of}
-use Rattle.c_typing.specs.declared.fault.TypeError.{TypeError}
 use Rattle.c_typing.specs.declared.fault.TypeError.TheVariants.{Refused}
 use Rattle.c_typing.specs.declared.fault.TypeFault.TheVariants.{NoMain}
 use Rattle.c_typing.specs.Answer.{start}
@@ -75,8 +74,8 @@ overflow_cast-main c =
     let small = main_small (procedures_of is) (codes "main") c.number_of-main.result few c.number_of-main.ensures in
     search (rules, small)
 
-pub new-requires : goal.new-requires
-new-requires c =
+pub new-requires-2 : goal.new-requires-2
+new-requires-2 c =
     let r = c.in_ok-table.table.items.now in
     let is = map item_of r in
     let faultless = least-none (all_faults is) (sym c.in_ok-notes.ensures.best ∙ ap best_of c.in_default.is) in
@@ -93,7 +92,7 @@ returns-clause-ok c =
     record {
       faultless = least-none (all_faults (map item_of items)) least;
       main = defines_main (map item_of items) (ap (λ x. is_defined (defined_from 0 (procedures_in x) (codes "main"))) (sym (c.in_ok-table.ensures ∙ c.deref.ensures.value)) ∙ sym c.is_defined.ensures ∙ c.if-not-is_defined.false);
-      lowered = made_program items r c.new.result.procedures.items c.in_ok-made.made.procedures.items c.new.result.main c.number_of-main.result c.new.result.asserts.items c.in_ok-made.made.places.items (c.in_ok-table.ensures ∙ c.deref.ensures.value) c.new.ensures.procedures c.new.ensures.main c.new.ensures.asserts same;
+      lowered = made_program items r c.new-2.result.procedures.items c.in_ok-made.made.procedures.items c.new-2.result.main c.number_of-main.result c.new-2.result.asserts.items c.in_ok-made.made.places.items (c.in_ok-table.ensures ∙ c.deref.ensures.value) c.new-2.ensures.procedures c.new-2.ensures.main c.new-2.ensures.asserts same;
     }
 
 pub returns-clause-only : goal.returns-clause-only
@@ -101,7 +100,7 @@ returns-clause-only c P h =
     let r = c.in_ok-table.table.items.now in
     let items = c.args.tree.now.items.items in
     let same = whole r c.in_ok-made.made.procedures.items c.number_of-main.result c.in_ok-made.made.places.items c.in_ok-made.ensures.procedures c.number_of-main.ensures c.in_ok-made.ensures.places in
-    made_program items r c.new.result.procedures.items c.in_ok-made.made.procedures.items c.new.result.main c.number_of-main.result c.new.result.asserts.items c.in_ok-made.made.places.items (c.in_ok-table.ensures ∙ c.deref.ensures.value) c.new.ensures.procedures c.new.ensures.main c.new.ensures.asserts same ∙ sym h.lowered
+    made_program items r c.new-2.result.procedures.items c.in_ok-made.made.procedures.items c.new-2.result.main c.number_of-main.result c.new-2.result.asserts.items c.in_ok-made.made.places.items (c.in_ok-table.ensures ∙ c.deref.ensures.value) c.new-2.ensures.procedures c.new-2.ensures.main c.new-2.ensures.asserts same ∙ sym h.lowered
 
 pub returns-clause-if_fault : goal.returns-clause-if_fault
 returns-clause-if_fault c f p h =

@@ -1,6 +1,6 @@
-use Rattle.std.proofs.Common.{◌≡◌, ◌∙◌, ap, sym, arith}
+use Rattle.std.proofs.Common.{◌∙◌, ap, arith}
 use Rattle.c_tree.specs.SourceView.{declarator_of}
-use Rattle.c_typing.specs.Scope.{asserts_of_optional, with_variable}
+use Rattle.c_typing.specs.Scope.{with_variable}
 use Rattle.c_typing.specs.Tables.{scopes_of, procedures_in, notes_of}
 use Rattle.c_typing.proofs.Declaring.{declarators_turn, declarators_end, zeros_turn, zeros_end}
 use Rattle.c_typing.proofs.Tabled.{longer-still}

@@ -1,4 +1,4 @@
-use Rattle.std.proofs.Common.{sym, ap, ◌∙◌, is_some, Some}
+use Rattle.std.proofs.Common.{Some}
 use Rattle.c_typing.proofs.Known.{must_succeed, changed, none_there}
 use Rattle.c_typing.proofs.scopes.restore.Goals as goal
 

@@ -1,5 +1,4 @@
-use Rattle.std.proofs.Common.{◌≡◌, [], ◌∷◌, ap, sym, ◌∙◌, arith, length, take}
-use Rattle.std.proofs.Math.Seq.{take-append_seam}
+use Rattle.std.proofs.Common.{[], ◌∷◌, ap, sym, ◌∙◌}
 use Rattle.c_typing.specs.declared.scopes.Entry.TheVariants.{Declares}
 use Rattle.c_typing.specs.Meanings.{depth_onto}
 use Rattle.c_typing.specs.Tables.{scopes_onto}

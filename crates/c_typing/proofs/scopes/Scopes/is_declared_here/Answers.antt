@@ -1,4 +1,4 @@
-use Rattle.std.proofs.Common.{refl, ap, ◌∙◌, sym}
+use Rattle.std.proofs.Common.{ap, sym}
 use Rattle.c_typing.proofs.Known.{here_told, is_here}
 use Rattle.c_typing.proofs.scopes.Scopes.is_declared_here.Goals as goal
 

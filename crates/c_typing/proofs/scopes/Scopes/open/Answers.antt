@@ -1,4 +1,4 @@
-use Rattle.std.proofs.Common.{◌≡◌, ◌+◌, [], ◌∷◌, ap, sym, ◌∙◌, arith}
+use Rattle.std.proofs.Common.{◌+◌, [], ◌∷◌, ap, sym, ◌∙◌, arith}
 use Rattle.c_typing.specs.declared.scopes.Entry.TheVariants.{Opens}
 use Rattle.c_typing.specs.Meanings.{depth_onto}
 use Rattle.c_typing.specs.Tables.{scopes_onto}

@@ -1,4 +1,4 @@
-use Rattle.std.proofs.Common.{refl, ap, ◌∙◌, sym, option_map}
+use Rattle.std.proofs.Common.{ap, sym, option_map}
 use Rattle.c_typing.proofs.Known.{slot_told}
 use Rattle.c_typing.proofs.scopes.Scopes.slot_of.Goals as goal
 

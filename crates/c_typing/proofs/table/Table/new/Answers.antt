@@ -1,4 +1,4 @@
-use Rattle.std.proofs.Common.{refl, ap, sym, ◌∙◌, arith, rules, bytes_eq}
+use Rattle.std.proofs.Common.{ap, ◌∙◌, arith, rules, bytes_eq}
 use Rattle.std.proofs.Math.ListN.{drop_of_length-le}
 use Rattle.std.specs.Map.{lookup}
 use Rattle.c_typing.specs.Scope.{defined_from}
