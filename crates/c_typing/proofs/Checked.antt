@@ -1,5 +1,5 @@
 -- What the first fault, or none, says of a tree.
-use Rattle.std.proofs.Common.{◌≡◌, Bool, true, false, List, [], ◌∷◌, Option, Some, None, IsSome, is_some, codes, Result, Ok, Err, ◌⊎◌, inl, inr, refl, ap, sym, ◌∙◌, subst}
+use Rattle.std.proofs.Common.{◌≡◌, true, false, List, [], Option, Some, None, codes, inl, inr, refl, ap, sym, ◌∙◌, subst}
 use Rattle.c_tree.specs.declared.tree.Pos.{Pos}
 use Rattle.c_tree.specs.Syntax.{PureProgram}
 use Rattle.c_tree.specs.SourceTree.{FileItem}
@@ -7,9 +7,9 @@ use Rattle.c_typing.specs.declared.fault.TypeFault.{TypeFault}
 use Rattle.c_typing.specs.declared.fault.TypeFault.TheVariants.{NoMain}
 use Rattle.c_typing.specs.declared.fault.TypeError.{TypeError}
 use Rattle.c_typing.specs.declared.fault.TypeError.TheVariants.{Refused, Memory}
-use Rattle.c_typing.specs.Scope.{procedures_of, number_of, number_from, defined_from}
+use Rattle.c_typing.specs.Scope.{procedures_of, defined_from}
 use Rattle.c_typing.specs.Faults.{Fault, all_faults}
-use Rattle.c_typing.specs.Answer.{IsProgram, IsFirstOf, LacksMain, IsFirstFault, DefinesMain, start}
+use Rattle.c_typing.specs.Answer.{IsProgram, LacksMain, IsFirstFault, DefinesMain, start}
 use Rattle.c_typing.specs.Least.{least_from}
 use Rattle.c_typing.specs.Tables.{is_defined}
 use Rattle.c_typing.proofs.Least.{least-is_first, first-is_least, least-none}

@@ -1,17 +1,17 @@
 -- Declarations and statements, one after another.
-use Rattle.std.proofs.Common.{◌≡◌, ℕ, ◌+◌, ◌<◌, ◌≤◌, Bool, true, false, ◌||◌, List, [], ◌∷◌, ◌++◌, length, drop, get_or, map, Option, Some, None, refl, ap, sym, ◌∙◌, arith, append_assoc}
+use Rattle.std.proofs.Common.{◌≡◌, ℕ, ◌+◌, ◌<◌, ◌≤◌, Bool, ◌||◌, List, [], ◌∷◌, ◌++◌, length, drop, get_or, map, refl, ap, sym, ◌∙◌, append_assoc}
 use Rattle.std.proofs.lemmas.List.{append-nil, at_drop_more, at_drop_all}
 use Rattle.c_tree.specs.declared.tree.Pos.{Pos}
 use Rattle.c_tree.specs.declared.syntax_tree.Named.{Named}
 use Rattle.c_tree.specs.declared.syntax_tree.Declared.{Declared}
 use Rattle.c_tree.specs.declared.syntax_tree.StmtTree.{StmtTree}
 use Rattle.c_typing.specs.declared.fault.TypeFault.TheVariants.{Duplicate}
-use Rattle.c_tree.specs.SourceTree.{Identifier, Declarator, ForInit, StatementTree, StatementTrees, ProcedureTree, block, empty, declare, simple, if_then, if_else, while_loop, do_while, for_loop, break, continue, return, ExpressionTree, SimpleStatement}
+use Rattle.c_tree.specs.SourceTree.{Identifier, StatementTree, ProcedureTree, block, empty, declare, simple, if_then, if_else, while_loop, do_while, for_loop, break, continue, return}
 use Rattle.c_tree.specs.SourceView.{identifier_of, declarator_of, statement_tree_of, statement_trees_of}
-use Rattle.c_typing.specs.Scope.{Scope, with_variable, with_names, names_of, declared_by_init, declared_by, declared_in, is_declared_here, is_built_in, asserts_of_optional, asserts_by_declarators, asserts_by_init, asserts_by_step, asserts_by, asserts_in}
-use Rattle.c_typing.specs.Faults.{Fault, fault_if, optional_faults, declared_faults, declarators_faults, init_faults, step_faults, init_scopes, scopes_after, statement_faults, statements_faults, parameters_faults}
+use Rattle.c_typing.specs.Scope.{Scope, with_variable, with_names, names_of, declared_by, declared_in, is_declared_here, is_built_in, asserts_of_optional, asserts_by_declarators, asserts_by, asserts_in}
+use Rattle.c_typing.specs.Faults.{Fault, fault_if, optional_faults, declared_faults, declarators_faults, scopes_after, statement_faults, statements_faults, parameters_faults}
 use Rattle.c_typing.specs.Tables.{Noted, noted, with_zeros, zeros_after, outer_of}
-use Rattle.c_typing.proofs.Erased.{erased, erased-variable, erased-push, optional-same, step-same, statement-same, statements-same}
+use Rattle.c_typing.proofs.Erased.{erased, erased-variable, statements-same}
 use Rattle.c_typing.proofs.Noting.{noted-append, noted-nil, noted_two}
 use Rattle.c_typing.proofs.Tabled.{outer-variable}
 

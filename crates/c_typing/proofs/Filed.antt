@@ -1,5 +1,5 @@
 -- The items of a file, one after another.
-use Rattle.std.proofs.Common.{◌≡◌, ℕ, ◌+◌, ◌<◌, ◌≤◌, zero, suc, Bool, true, false, ◌&&◌, ◌||◌, not as not_bool, nat_lt, List, [], ◌∷◌, ◌++◌, length, drop, get_or, map, slice_get, Option, Some, None, is_some, bytes_eq, string_bytes, refl, ap, sym, ◌∙◌, subst, arith, append_assoc, if◌then◌else◌}
+use Rattle.std.proofs.Common.{◌≡◌, ℕ, ◌+◌, ◌<◌, ◌≤◌, zero, suc, Bool, true, false, ◌||◌, not as not_bool, nat_lt, List, [], ◌∷◌, ◌++◌, length, drop, get_or, map, slice_get, Option, Some, is_some, bytes_eq, string_bytes, refl, ap, sym, ◌∙◌, arith, append_assoc, if◌then◌else◌}
 use Rattle.std.proofs.lemmas.Bool.Decides.{nat_tests}
 use Rattle.std.proofs.lemmas.List.{append-nil, at_drop_more, at_drop_all, length-append}
 use Rattle.std.proofs.lemmas.Slice.Eq.{bytes_eq-Decides}
@@ -8,13 +8,13 @@ use Rattle.c_tree.specs.declared.syntax_tree.Named.{Named}
 use Rattle.c_typing.specs.declared.fault.TypeFault.TheVariants.{UnknownName}
 use Rattle.c_tree.specs.declared.syntax_tree.Item.{Item}
 use Rattle.c_tree.specs.declared.syntax_tree.Item.TheVariants.{Proto, Proc}
-use Rattle.c_tree.specs.SourceTree.{Identifier, ProcedureTree, FileItem}
+use Rattle.c_tree.specs.SourceTree.{Identifier, ProcedureTree}
 use Rattle.c_tree.specs.FileView.{item_of}
-use Rattle.c_typing.specs.declared.fault.Which.TheVariants.{Procedures, Parameters, Variables, Tokens, Assertions}
-use Rattle.c_typing.specs.Scope.{is_built_in, procedures_of, number_from, number_of, Callee, defined, defined_from, variables_of, parameter_scope, asserts_in, asserts_in_file}
-use Rattle.c_typing.specs.Faults.{Fault, fault_if, limit_fault, place_of, heading_faults, parameters_faults, statements_faults, procedure_faults, procedures_faults, prototypes_faults}
+use Rattle.c_typing.specs.declared.fault.Which.TheVariants.{Parameters, Variables, Tokens}
+use Rattle.c_typing.specs.Scope.{is_built_in, number_from, number_of, defined, defined_from, variables_of, parameter_scope, asserts_in, asserts_in_file}
+use Rattle.c_typing.specs.Faults.{Fault, fault_if, limit_fault, place_of, parameters_faults, statements_faults, procedure_faults, procedures_faults, prototypes_faults}
 use Rattle.c_typing.specs.Least.{least_from}
-use Rattle.c_typing.specs.Tables.{Noted, noted, places_of, procedures_in, number_in, is_defined, is_again, heading_found, body_found, procedure_found, procedures_found}
+use Rattle.c_typing.specs.Tables.{Noted, noted, places_of, procedures_in, number_in, is_defined, is_again, heading_found, procedure_found, procedures_found}
 use Rattle.c_typing.proofs.Least.{least-append, least-swap}
 use Rattle.c_typing.proofs.Noting.{noted-append, noted-nil}
 

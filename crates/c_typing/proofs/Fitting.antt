@@ -1,16 +1,16 @@
 -- What a statement needs, its parts have, and what the parts become, it becomes.
-use Rattle.std.proofs.Common.{◌≡◌, ℕ, ◌+◌, ◌<◌, ◌≤◌, List, [], ◌∷◌, ◌++◌, length, drop, get_or, Option, Some, None, refl, ap, sym, ◌∙◌, subst, arith, length-append, Vec, Global}
+use Rattle.std.proofs.Common.{◌≡◌, ℕ, ◌+◌, ◌<◌, ◌≤◌, List, [], ◌∷◌, ◌++◌, length, drop, get_or, Option, refl, ap, sym, ◌∙◌, subst, arith, length-append, Vec, Global}
 use Rattle.std.proofs.lemmas.List.{at_drop_more, at_drop_all}
 use Rattle.c_tree.specs.declared.syntax_tree.Declared.{Declared}
 use Rattle.c_tree.specs.declared.syntax_tree.StmtTree.{StmtTree, Block, None', Some'}
 use Rattle.c_tree.specs.declared.syntax_tree.StmtTree.TheVariants as code
 use Rattle.c_tree.specs.Syntax as program
 use Rattle.c_tree.specs.Syntax.{Expression, Statement, Statements}
-use Rattle.c_tree.specs.SourceTree.{Identifier, ExpressionTree, SimpleStatement, Declarator, ForInit, no_init, declaring, starting, StatementTree, StatementTrees, block, empty, declare, simple, if_then, if_else, while_loop, do_while, for_loop, break, continue, return, no_statements, statement, ProcedureTree}
+use Rattle.c_tree.specs.SourceTree.{Identifier, ExpressionTree, SimpleStatement, Declarator, ForInit, no_init, declaring, starting, StatementTree, block, empty, declare, simple, if_then, if_else, while_loop, do_while, for_loop, break, continue, return, ProcedureTree}
 use Rattle.c_tree.specs.SourceView.{statement_tree_of, statement_trees_of}
-use Rattle.c_typing.specs.Scope.{Scope, with_variable, with_names, names_of, declared_by, declared_in, declared_by_init, asserts_of, asserts_of_optional, asserts_by_declarators, asserts_by_simple, asserts_by_init, asserts_by_step, asserts_by, asserts_in}
-use Rattle.c_typing.specs.Lowering.{joined, nothing, lowered, lowered_test, lowered_step, lowered_declarators, lowered_simple, init_scopes, with_init, scopes_after, spliced, lowered_statement, lowered_statements}
-use Rattle.c_typing.specs.Quiet.{IsQuiet, AreQuiet, Fits, AllFit, IsLowered, IsPlaced, AreLowered, init_statements, wrapped}
+use Rattle.c_typing.specs.Scope.{Scope, with_variable, with_names, names_of, declared_by, declared_in, declared_by_init, asserts_of, asserts_of_optional, asserts_by_declarators, asserts_by_init, asserts_by_step, asserts_by, asserts_in}
+use Rattle.c_typing.specs.Lowering.{joined, nothing, lowered, lowered_test, lowered_step, lowered_declarators, init_scopes, with_init, scopes_after, spliced, lowered_statement, lowered_statements}
+use Rattle.c_typing.specs.LoweringSteps.{IsQuiet, AreQuiet, Fits, AllFit, IsLowered, IsPlaced, AreLowered, init_statements, wrapped}
 use Rattle.c_typing.specs.Tables.{outer_of}
 use Rattle.c_tree.proofs.SourceRows.{source_block_of}
 use Rattle.c_typing.proofs.Building.{joined-nil, joined-joined}

@@ -1,24 +1,24 @@
 -- The program of a file without faults is well formed.
-use Rattle.std.proofs.Common.{◌≡◌, ℕ, ◌+◌, ◌*◌, ◌<◌, ◌≤◌, zero, suc, Bool, true, false, cond, ◌==◌, eqb, ◌&&◌, ◌||◌, not as not_bool, List, [], ◌∷◌, ◌++◌, length, map, Option, Some, None, IsSome, is_some, is_none, IsTrue, slice_get, unwrap_or, nat_lt, nat_le, count_by, bytes_eq, codes, All, refl, ap, sym, ◌∙◌, subst, arith, zero-add, ◌⊎◌, inl, inr, length-append, append_assoc, if◌then◌else◌}
+use Rattle.std.proofs.Common.{◌≡◌, ℕ, ◌+◌, ◌<◌, ◌≤◌, zero, suc, Bool, true, false, cond, ◌==◌, ◌&&◌, ◌||◌, not as not_bool, List, [], ◌∷◌, ◌++◌, length, map, Option, Some, None, IsSome, is_some, slice_get, unwrap_or, nat_le, count_by, bytes_eq, codes, refl, ap, sym, ◌∙◌, subst, arith, zero-add, ◌⊎◌, inl, inr, length-append, if◌then◌else◌}
 use Rattle.std.proofs.lemmas.List.Sums.{sum_by-cons}
 use Rattle.std.proofs.lemmas.Bool.{le-leb}
 use Rattle.std.proofs.lemmas.Bool.Decides.{nat_tests}
-use Rattle.std.proofs.lemmas.Option.{slice_get_cases, slice_get_within, slice_get_past}
+use Rattle.std.proofs.lemmas.Option.{slice_get_cases, slice_get_within}
 use Rattle.std.proofs.lemmas.Slice.Eq.{bytes_eq-Decides}
 use Rattle.c_tree.specs.declared.tree.Pos.{Pos}
 use Rattle.c_tree.specs.declared.tree.AssertPlace.{AssertPlace}
-use Rattle.c_tree.specs.Syntax.{PureProcedure, PureProgram}
+use Rattle.c_tree.specs.Syntax.{PureProcedure}
 use Rattle.c_tree.specs.WellFormed.{IsWellFormed, takes, all_sound, asserted_in, is_sound_procedure, statements_nodes}
 use Rattle.c_tree.specs.SourceNodes.{statement_trees_nodes}
 use Rattle.c_tree.specs.SourceTree.{Identifier, ProcedureTree, FileItem}
-use Rattle.c_typing.specs.declared.fault.TypeFault.TheVariants.{UnknownName, Duplicate, MainShape, OverLimit}
+use Rattle.c_typing.specs.declared.fault.TypeFault.TheVariants.{Duplicate, MainShape}
 use Rattle.c_typing.specs.declared.fault.Which.{Which}
 use Rattle.c_typing.specs.declared.fault.Which.TheVariants.{Procedures, Parameters, Variables, Tokens, Assertions}
-use Rattle.c_typing.specs.Scope.{procedures_of, number_of, number_from, Callee, input, assume, assert, defined, unknown, callee_of, defined_from, is_input, is_assume, is_assert, is_main, is_built_in, variables_of, parameter_scope, declared_in, asserts_in, asserts_in_file}
-use Rattle.c_typing.specs.Faults.{Fault, fault_if, limit_fault, place_of, procedure_place, heading_faults, parameters_faults, statements_faults, procedure_faults, procedures_faults, prototypes_faults, all_faults, max_procedures, max_parameters, max_variables, max_asserts}
+use Rattle.c_typing.specs.Scope.{procedures_of, number_of, number_from, input, assume, assert, defined, callee_of, defined_from, is_input, is_assume, is_assert, is_main, is_built_in, variables_of, parameter_scope, declared_in, asserts_in, asserts_in_file}
+use Rattle.c_typing.specs.Faults.{fault_if, limit_fault, place_of, procedure_place, heading_faults, parameters_faults, statements_faults, procedure_faults, procedures_faults, prototypes_faults, all_faults, max_procedures, max_parameters, max_variables, max_asserts}
 use Rattle.c_typing.specs.Lowering.{lowered_statements, lowered_procedure, lowered_procedures, assert_places, lowered_file}
 use Rattle.c_typing.specs.Answer.{DefinesMain}
-use Rattle.c_typing.proofs.Basics.{no_fault, nil_both, both, or_false, and_false, not_false, false_not, eqb-same, Below, below-names}
+use Rattle.c_typing.proofs.Basics.{no_fault, nil_both, both, or_false, and_false, not_false, eqb-same, Below, below-names}
 use Rattle.c_typing.proofs.Sound.{CallsFit, numbered, statements-sound}
 use Rattle.c_typing.proofs.Numbers.{statements-numbers}
 use Rattle.c_typing.proofs.Nodes.{lowered_statements-nodes}

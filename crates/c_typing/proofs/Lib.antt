@@ -7,6 +7,8 @@ pub mod Numbers
 pub mod Nodes
 pub mod Formed
 pub mod Tabled
+mod Known
+mod Defined
 pub mod Noting
 pub mod Declaring
 pub mod Saying

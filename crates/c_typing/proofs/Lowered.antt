@@ -7,7 +7,7 @@ use Rattle.c_tree.specs.Syntax.{Expression, Expressions, no_expressions, express
 use Rattle.c_tree.specs.View.{expression_of, expressions_of}
 use Rattle.c_tree.specs.SourceTree.{Identifier, ProcedureTree, call}
 use Rattle.c_tree.specs.SourceView.{tree_of, trees_of}
-use Rattle.c_typing.specs.Scope.{Scope, Callee, input, assume, assert, defined, unknown, callee_of, defined_from, is_input, is_assume, is_assert}
+use Rattle.c_typing.specs.Scope.{Scope, Callee, input, assume, assert, defined, callee_of, defined_from, is_input, is_assume, is_assert}
 use Rattle.c_typing.specs.Lowering.{lowered, lowered_all, lowered_call}
 use Rattle.c_typing.specs.Tables.{number_in}
 

@@ -1,10 +1,10 @@
 -- The program of a tree has no more nodes than were counted of the tree.
-use Rattle.std.proofs.Common.{◌≡◌, ℕ, ◌+◌, ◌≤◌, List, [], ◌∷◌, length, Option, Some, None, refl, ap, sym, ◌∙◌, arith}
+use Rattle.std.proofs.Common.{◌≡◌, ℕ, ◌+◌, ◌≤◌, List, [], ◌∷◌, length, Option, Some, None, arith}
 use Rattle.c_tree.specs.Syntax as program
 use Rattle.c_tree.specs.Syntax.{Expressions, no_expressions, expression, Statement, Statements}
 use Rattle.c_tree.specs.WellFormed.{nodes, nodes_all, nodes_optional, statement_nodes, statements_nodes}
 use Rattle.c_tree.specs.SourceNodes.{tree_nodes, trees_nodes, optional_nodes, simple_nodes, declared_nodes, init_nodes, step_nodes, statement_tree_nodes, statement_trees_nodes}
-use Rattle.c_tree.specs.SourceTree.{Identifier, ExpressionTree, literal, name, call, not, negate, plus, binary, ExpressionTrees, no_arguments, argument, SimpleStatement, set, change, add_one, subtract_one, call_statement, Declarator, ForInit, no_init, declaring, starting, StatementTree, block, empty, declare, simple, if_then, if_else, while_loop, do_while, for_loop, break, continue, return, StatementTrees, no_statements, statement, ProcedureTree}
+use Rattle.c_tree.specs.SourceTree.{ExpressionTree, literal, name, call, not, negate, plus, binary, ExpressionTrees, no_arguments, argument, SimpleStatement, set, change, add_one, subtract_one, call_statement, Declarator, ForInit, no_init, declaring, starting, StatementTree, block, empty, declare, simple, if_then, if_else, while_loop, do_while, for_loop, break, continue, return, StatementTrees, no_statements, statement, ProcedureTree}
 use Rattle.c_typing.specs.Scope.{Scope, Callee, input, assume, assert, defined, unknown, callee_of, with_variable, declared_by, declared_by_init, asserts_by, asserts_by_init, asserts_by_step}
 use Rattle.c_typing.specs.Lowering.{joined, lowered_call, first_of, called_statement, lowered, lowered_all, lowered_value, lowered_test, lowered_result, lowered_simple, lowered_step, lowered_declarators, init_scopes, with_init, scopes_after, spliced, lowered_statement, lowered_statements}
 

@@ -1,11 +1,11 @@
 -- What was found, one part of a tree after another.
-use Rattle.std.proofs.Common.{◌≡◌, ℕ, ◌+◌, ◌<◌, ◌≤◌, Bool, true, false, ◌&&◌, ◌||◌, not as not_bool, List, [], ◌∷◌, ◌++◌, length, drop, get_or, map, Option, Some, None, refl, ap, sym, ◌∙◌, arith, append_assoc}
+use Rattle.std.proofs.Common.{◌≡◌, ℕ, ◌+◌, ◌<◌, ◌≤◌, Bool, true, false, ◌&&◌, ◌||◌, not as not_bool, List, [], ◌∷◌, ◌++◌, length, drop, get_or, Option, refl, ap, sym, ◌∙◌, arith, append_assoc}
 use Rattle.std.proofs.lemmas.List.{append-nil, at_drop_more, at_drop_all}
 use Rattle.c_tree.specs.declared.tree.Pos.{Pos}
 use Rattle.c_tree.specs.declared.syntax_tree.ExprTree.{ExprTree}
 use Rattle.c_tree.specs.declared.tree.Op.{Op}
 use Rattle.c_typing.specs.declared.fault.TypeFault.TheVariants.{NotLinear}
-use Rattle.c_tree.specs.SourceTree.{Identifier, ExpressionTree, ExpressionTrees, ProcedureTree, binary}
+use Rattle.c_tree.specs.SourceTree.{Identifier, ProcedureTree, binary}
 use Rattle.c_tree.specs.SourceView.{tree_of, trees_of}
 use Rattle.c_typing.specs.Scope.{Scope, callee_of, if_assert, asserts_of, asserts_of_all}
 use Rattle.c_typing.specs.Faults.{Fault, fault_if, callee_faults, name_faults, is_product, is_constant, expression_faults, arguments_faults, argument_count}

@@ -1,10 +1,10 @@
 -- What is found in a procedure and in a file.
-use Rattle.std.proofs.Common.{◌≡◌, ℕ, ◌+◌, ◌<◌, ◌≤◌, Bool, true, false, ◌||◌, not as not_bool, List, [], ◌∷◌, ◌++◌, length, map, slice_get, Option, Some, None, refl, ap, sym, ◌∙◌, append_assoc}
+use Rattle.std.proofs.Common.{◌≡◌, Bool, false, List, [], ◌∷◌, ◌++◌, map, slice_get, Option, None, refl, ap, sym, ◌∙◌}
 use Rattle.std.proofs.lemmas.List.{append-nil}
 use Rattle.c_tree.specs.declared.tree.Pos.{Pos}
 use Rattle.c_tree.specs.declared.syntax_tree.Named.{Named}
 use Rattle.c_tree.specs.declared.syntax_tree.StmtTree.{StmtTree}
-use Rattle.c_tree.specs.SourceTree.{Identifier, ProcedureTree, FileItem}
+use Rattle.c_tree.specs.SourceTree.{ProcedureTree, FileItem}
 use Rattle.c_tree.specs.SourceView.{identifier_of, statement_trees_of}
 use Rattle.c_typing.specs.declared.fault.Which.TheVariants.{Procedures, Parameters, Variables, Tokens, Assertions}
 use Rattle.c_typing.specs.Scope.{Scope, procedures_of, with_names, variables_of, declared_in, asserts_in, asserts_in_file}

@@ -1,5 +1,5 @@
 -- The program of a file, one procedure after another.
-use Rattle.std.proofs.Common.{◌≡◌, ℕ, ◌+◌, ◌-◌, ◌<◌, ◌≤◌, zero, suc, List, [], ◌∷◌, ◌++◌, length, map, take, drop, get_or, slice_get, unwrap_or, Option, Some, None, codes, bytes_eq, refl, ap, sym, ◌∙◌, subst, arith, append_assoc, length-append, if◌then◌else◌, Bool, true, false}
+use Rattle.std.proofs.Common.{◌≡◌, ℕ, ◌+◌, ◌-◌, ◌<◌, ◌≤◌, zero, suc, List, [], ◌∷◌, ◌++◌, length, map, take, drop, get_or, slice_get, unwrap_or, Some, None, codes, bytes_eq, refl, ap, sym, ◌∙◌, subst, arith, append_assoc, length-append, if◌then◌else◌, Bool, true, false}
 use Rattle.std.proofs.lemmas.List.{append-nil, at_drop_more, at_drop_all}
 use Rattle.c_tree.specs.declared.tree.Pos.{Pos}
 use Rattle.c_tree.specs.declared.tree.AssertPlace.{AssertPlace}
@@ -11,13 +11,13 @@ use Rattle.c_tree.specs.Syntax.{PureProcedure, PureProgram}
 use Rattle.c_tree.specs.View.{procedure_of, program_from}
 use Rattle.c_tree.specs.WellFormed.{IsWellFormed}
 use Rattle.c_tree.specs.SourceNodes.{statement_trees_nodes}
-use Rattle.c_tree.specs.SourceTree.{ProcedureTree, FileItem}
+use Rattle.c_tree.specs.SourceTree.{ProcedureTree}
 use Rattle.c_tree.specs.FileView.{item_of, procedure_tree_of}
 use Rattle.c_typing.specs.Scope.{procedures_of, number_of, number_from, defined, defined_from, asserts_in, asserts_in_file}
 use Rattle.c_typing.specs.Faults.{all_faults}
 use Rattle.c_typing.specs.Lowering.{lowered_procedure, lowered_procedures, assert_places, lowered_file}
 use Rattle.c_typing.specs.Answer.{DefinesMain}
-use Rattle.c_typing.specs.Quiet.{ProceduresFit, placed}
+use Rattle.c_typing.specs.LoweringSteps.{ProceduresFit, placed}
 use Rattle.c_typing.specs.Tables.{procedures_in, number_in}
 use Rattle.c_typing.proofs.Formed.{AreSmall, well_formed}
 

@@ -4,4 +4,5 @@ pub mod Lowering
 pub mod Answer
 pub mod Least
 pub mod Tables
-pub mod Quiet
+pub mod LoweringSteps
+pub mod Meanings

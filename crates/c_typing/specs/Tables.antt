@@ -1,5 +1,9 @@
 -- What contracts see of the tables of the check.
-use Rattle.std.specs.Prelude.{ℕ, ◌+◌, ◌==◌, Bool, true, false, ◌&&◌, ◌||◌, not as not_bool, nat_lt, length, slice_get, bytes_eq, if◌then◌else◌, List, [], ◌∷◌, ◌++◌, map, Option, Some, None}
+use Rattle.std.specs.Prelude.{◌≡◌, ℕ, ◌+◌, ◌==◌, Bool, true, false, ◌&&◌, ◌||◌, not as not_bool, nat_lt, length, take, slice_get, bytes_eq, if◌then◌else◌, refl, List, [], ◌∷◌, ◌++◌, map, Option, Some, None}
+use denote.Ref.{Bor}
+use Rattle.std.specs.Coded.{Coded-set, code_by, coded×, coded_ℕ, coded_bool, coded_option, Π_prop}
+use Rattle.indexmap.specs.IndexMap.{IndexMap}
+use Rattle.c_typing.specs.Meanings.{found_in}
 use Rattle.c_tree.specs.declared.tree.Pos.{Pos}
 use Rattle.c_tree.specs.declared.syntax_tree.Item.{Item}
 use Rattle.c_tree.specs.SourceTree.{Identifier, ProcedureTree, StatementTree, declare}
@@ -8,6 +12,7 @@ use Rattle.c_typing.specs.declared.scopes.Entry.{Entry}
 use Rattle.c_typing.specs.declared.scopes.Entry.TheVariants.{Opens, Declares}
 use Rattle.c_typing.specs.declared.scopes.Scopes.{Scopes}
 use Rattle.c_typing.specs.declared.table.Called.{Called}
+use Rattle.c_typing.specs.declared.table.Definition.{Definition}
 use Rattle.c_typing.specs.declared.table.Called.TheVariants as called
 use Rattle.c_typing.specs.declared.notes.Found.{Found}
 use Rattle.c_typing.specs.declared.notes.Notes.{Notes}
@@ -22,7 +27,7 @@ use Rattle.c_typing.specs.Least.{least_from}
 abbrev pub scopes_onto : List Scope → List Entry → List Scope
 scopes_onto ss [] = ss
 scopes_onto ss (Opens ∷ es) = scopes_onto ([] ∷ ss) es
-scopes_onto ss (Declares x slot ∷ es) = scopes_onto (with_variable ss x.now slot) es
+scopes_onto ss (Declares x slot before ∷ es) = scopes_onto (with_variable ss x.now slot) es
 
 abbrev pub scopes_of : Scopes → List Scope
 scopes_of s = scopes_onto [] s.entries.items
@@ -31,15 +36,9 @@ abbrev pub outer_of : List Scope → List Scope
 outer_of [] = []
 outer_of (s ∷ ss) = ss
 
--- the slot that a name means behind one more entry
-abbrev pub slot_after : Entry → List ℕ → Option ℕ → Option ℕ
-slot_after Opens x before = before
-slot_after (Declares y slot) x before = if bytes_eq y.now x then Some slot else before
-
--- whether the innermost scope declares a name behind one more entry
-abbrev pub declared_after : Entry → List ℕ → Bool → Bool
-declared_after Opens x before = false
-declared_after (Declares y slot) x before = bytes_eq y.now x || before
+-- the later scopes have the entries of the earlier ones, and maybe more
+abbrev pub IsLonger : Scopes → Scopes → Type 0
+IsLonger old new = take (length old.entries.items) new.entries.items ≡ old.entries.items
 
 -- The procedures
 
@@ -52,6 +51,48 @@ callee_from called.Assume = assume
 callee_from called.Assert = assert
 callee_from (called.Defined number params void) = defined number params void
 callee_from called.Unknown = unknown
+
+-- a callee is its kind and its numbers, so two proofs that callees are equal are equal
+abbrev callee_code : Callee → Option (ℕ × (ℕ × Bool)) × (Bool × Bool)
+callee_code input = (None, (false, false))
+callee_code assume = (None, (false, true))
+callee_code assert = (None, (true, false))
+callee_code unknown = (None, (true, true))
+callee_code (defined number params void) = (Some (number, (params, void)), (false, false))
+
+abbrev callee_back : Option (ℕ × (ℕ × Bool)) × (Bool × Bool) → Callee
+callee_back (Some d, kind) = defined d.0 d.1.0 d.1.1
+callee_back (None, (false, false)) = input
+callee_back (None, (false, true)) = assume
+callee_back (None, (true, false)) = assert
+callee_back (None, (true, true)) = unknown
+
+callee_again : (c : Callee) → callee_back (callee_code c) ≡ c
+callee_again input = refl
+callee_again assume = refl
+callee_again assert = refl
+callee_again (defined number params void) = refl
+callee_again unknown = refl
+
+callee-set : (a b : Callee) → IsProp (a ≡ b)
+callee-set a b = Coded-set (code_by (Option (ℕ × (ℕ × Bool)) × (Bool × Bool)) (coded× (coded_option (coded× coded_ℕ (coded× coded_ℕ coded_bool))) (coded× coded_bool coded_bool)) callee_code callee_back callee_again) a b
+
+-- the first procedure of a name, where there is one
+abbrev pub defined_as : Option Definition → Callee
+defined_as None = unknown
+defined_as (Some d) = defined d.number d.params d.void
+
+-- the map has the first procedure of each name
+abbrev pub AreDefined : {S : Type 0} → IndexMap (Bor (List ℕ)) Definition S → List Item → Type 0
+AreDefined m is = (x : List ℕ) → defined_as (found_in m x) ≡ defined_from 0 (procedures_in is) x
+
+pub AreDefined-prop : {S : Type 0} (m : IndexMap (Bor (List ℕ)) Definition S) (is : List Item) → IsProp (AreDefined m is)
+AreDefined-prop m is = Π_prop (λ x. callee-set (defined_as (found_in m x)) (defined_from 0 (procedures_in is) x))
+
+-- what a name has before, or else this procedure if it has the name
+abbrev pub kept_or : Option Definition → ProcedureTree → ℕ → List ℕ → Option Definition
+kept_or (Some d) p number x = Some d
+kept_or None p number x = if bytes_eq p.named.name x then Some (record { number = number; params = length p.params; void = p.void }) else None
 
 -- What was found
 

@@ -4,7 +4,7 @@ ghost use Rattle.std.specs.Prelude.{◌≡◌, ◌≤◌, length, map, OnOk, IfO
 ghost use Rattle.c_tree.specs.SourceTree.{declare, block};
 ghost use Rattle.c_tree.specs.SourceView.{declarator_of, statement_tree_of, statement_trees_of};
 ghost use Rattle.c_tree.specs.View.{statement_of, statements_of};
-ghost use Rattle.c_typing.specs.Quiet.{Fits, IsLowered, IsPlaced, AreLowered};
+ghost use Rattle.c_typing.specs.LoweringSteps.{Fits, IsLowered, IsPlaced, AreLowered};
 ghost use Rattle.c_typing.specs.Tables.{scopes_of, procedures_in};
 
 use crate::build::{Counts, counted, declarators, head, wrapped};
@@ -20,17 +20,20 @@ use std::alloc::{AllocError, Global};
 fn alone<'a>(
     alloc: Global,
     table: &Table<'_>,
-    scopes: &Scopes<'a>,
+    scopes: &mut Scopes<'a>,
     counts: &mut Counts,
     trees: &'a [Declared],
 ) -> Result<Stmt, AllocError>
     requires few { length (procedures_in table.now.items.now) ≤ 64 }
     requires fits { Fits counts.old.next counts.old.id (declare (map declarator_of trees.now)) }
-    ensures { IfOk result (λ made. IsLowered (procedures_in table.now.items.now) (scopes_of scopes.now) (scopes_of scopes.now) counts.old.next counts.old.id counts.new.next counts.new.id (declare (map declarator_of trees.now)) (statement_of made)) }
+    ensures { IfOk result (λ made. IsLowered (procedures_in table.now.items.now) (scopes_of scopes.old)
+        (scopes_of scopes.new) counts.old.next counts.old.id counts.new.next counts.new.id (declare (map declarator_of trees.now))
+        (statement_of made)) }
 {
-    let mut inner = scopes.copy()?;
+    let mark = scopes.mark();
     let mut made = Vec::new(alloc);
-    declarators(alloc, table, &mut inner, counts, &mut made, trees)?;
+    declarators(alloc, table, scopes, counts, &mut made, trees)?;
+    scopes.back_to(mark);
     Ok(block(made))
 }
 
@@ -46,7 +49,9 @@ fn statement<'a>(
 ) -> Result<Stmt, AllocError>
     requires few { length (procedures_in table.now.items.now) ≤ 64 }
     requires fits { Fits counts.old.next counts.old.id (statement_tree_of tree.now) }
-    ensures { IfOk result (λ made. IsLowered (procedures_in table.now.items.now) (scopes_of scopes.old) (scopes_of scopes.new) counts.old.next counts.old.id counts.new.next counts.new.id (statement_tree_of tree.now) (statement_of made)) }
+    ensures { IfOk result (λ made. IsLowered (procedures_in table.now.items.now) (scopes_of scopes.old)
+        (scopes_of scopes.new) counts.old.next counts.old.id counts.new.next counts.new.id (statement_tree_of tree.now)
+        (statement_of made)) }
 {
     match tree {
         StmtTree::Block(trees) => nested(alloc, table, scopes, counts, trees),
@@ -105,7 +110,9 @@ fn nested<'a>(
 ) -> Result<Stmt, AllocError>
     requires few { length (procedures_in table.now.items.now) ≤ 64 }
     requires fits { Fits counts.old.next counts.old.id (statement_tree_of (StmtTree.Block trees.now)) }
-    ensures { IfOk result (λ made. IsLowered (procedures_in table.now.items.now) (scopes_of scopes.old) (scopes_of scopes.new) counts.old.next counts.old.id counts.new.next counts.new.id (statement_tree_of (StmtTree.Block trees.now)) (statement_of made)) }
+    ensures { IfOk result (λ made. IsLowered (procedures_in table.now.items.now) (scopes_of scopes.old)
+        (scopes_of scopes.new) counts.old.next counts.old.id counts.new.next counts.new.id (statement_tree_of (StmtTree.Block trees.now))
+        (statement_of made)) }
 {
     scopes.open()?;
     let made = statements(alloc, table, scopes, counts, trees)?;
@@ -125,7 +132,9 @@ pub fn statements<'a>(
 ) -> Result<Vec<Stmt>, AllocError>
     requires few { length (procedures_in table.now.items.now) ≤ 64 }
     requires fits { Fits counts.old.next counts.old.id (block (statement_trees_of trees.now)) }
-    ensures { IfOk result (λ made. AreLowered (procedures_in table.now.items.now) (scopes_of scopes.old) (scopes_of scopes.new) counts.old.next counts.old.id counts.new.next counts.new.id (statement_trees_of trees.now) (statements_of made.items)) }
+    ensures { IfOk result (λ made. AreLowered (procedures_in table.now.items.now) (scopes_of scopes.old)
+        (scopes_of scopes.new) counts.old.next counts.old.id counts.new.next counts.new.id (statement_trees_of trees.now)
+        (statements_of made.items)) }
 {
     let mut made = Vec::new(alloc);
     for tree in trees {
@@ -147,7 +156,9 @@ fn in_block<'a>(
 ) -> Result<(), AllocError>
     requires few { length (procedures_in table.now.items.now) ≤ 64 }
     requires fits { Fits counts.old.next counts.old.id (statement_tree_of tree.now) }
-    ensures { OnOk result (IsPlaced (procedures_in table.now.items.now) (scopes_of scopes.old) (scopes_of scopes.new) counts.old.next counts.old.id counts.new.next counts.new.id (statement_tree_of tree.now) (statements_of out.old.items) (statements_of out.new.items)) }
+    ensures { OnOk result (IsPlaced (procedures_in table.now.items.now) (scopes_of scopes.old)
+        (scopes_of scopes.new) counts.old.next counts.old.id counts.new.next counts.new.id (statement_tree_of tree.now)
+        (statements_of out.old.items) (statements_of out.new.items)) }
 {
     match tree {
         StmtTree::Declare(trees) => declarators(alloc, table, scopes, counts, out, trees)?,

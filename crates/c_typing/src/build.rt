@@ -6,8 +6,8 @@ ghost use Rattle.c_tree.specs.Syntax.{set, statement, no_statements};
 ghost use Rattle.c_tree.specs.View.{expression_of, statement_of, statements_of};
 ghost use Rattle.c_typing.specs.Scope.{with_variable, with_names, names_of, declared_by_init, asserts_by_simple, asserts_by_step, asserts_by_init};
 ghost use Rattle.c_typing.specs.Lowering.{joined, lowered_value, lowered_test, lowered_declarators, lowered_simple, lowered_step, init_scopes};
-ghost use Rattle.c_typing.specs.Quiet.{IsQuietSimple, IsQuietStep, IsQuietInit, init_statements, wrapped};
-ghost use Rattle.c_typing.specs.Tables.{scopes_of, procedures_in};
+ghost use Rattle.c_typing.specs.LoweringSteps.{IsQuietSimple, IsQuietStep, IsQuietInit, init_statements, wrapped};
+ghost use Rattle.c_typing.specs.Tables.{scopes_of, IsLonger, procedures_in};
 
 use crate::lowering::{test, value};
 use crate::making::{asserted, block, nothing, simple};
@@ -35,10 +35,13 @@ fn declarator<'a>(
 ) -> Result<(), AllocError>
     requires few { length (procedures_in table.now.items.now) ≤ 64 }
     requires room { counts.old.next < 24 }
-    ensures out { OnOk result (statements_of out.new.items ≡ joined (statements_of out.old.items) (statement (set counts.old.next (lowered_value (procedures_in table.now.items.now) (scopes_of scopes.old) (declarator_of tree.now).value)) no_statements)) }
+    ensures out { OnOk result (statements_of out.new.items ≡ joined (statements_of out.old.items)
+        (statement (set counts.old.next (lowered_value (procedures_in table.now.items.now) (scopes_of scopes.old)
+        (declarator_of tree.now).value)) no_statements)) }
     ensures next { OnOk result (counts.new.next ≡ counts.old.next + 1) }
     ensures id { OnOk result (counts.new.id ≡ counts.old.id) }
     ensures scopes { OnOk result (scopes_of scopes.new ≡ with_variable (scopes_of scopes.old) (declarator_of tree.now).named.name counts.old.next) }
+    ensures longer { OnOk result (IsLonger scopes.old scopes.new) }
 {
     let value = value(alloc, table, scopes, &tree.value)?;
     out.push(Stmt::Set(counts.next, value))?;
@@ -58,10 +61,12 @@ pub fn declarators<'a>(
 ) -> Result<(), AllocError>
     requires few { length (procedures_in table.now.items.now) ≤ 64 }
     requires room { counts.old.next + length (names_of (map declarator_of trees.now)) ≤ 24 }
-    ensures out { OnOk result (statements_of out.new.items ≡ joined (statements_of out.old.items) (lowered_declarators (procedures_in table.now.items.now) (scopes_of scopes.old) counts.old.next (map declarator_of trees.now))) }
+    ensures out { OnOk result (statements_of out.new.items ≡ joined (statements_of out.old.items)
+        (lowered_declarators (procedures_in table.now.items.now) (scopes_of scopes.old) counts.old.next (map declarator_of trees.now))) }
     ensures next { OnOk result (counts.new.next ≡ counts.old.next + length (names_of (map declarator_of trees.now))) }
     ensures id { OnOk result (counts.new.id ≡ counts.old.id) }
     ensures scopes { OnOk result (scopes_of scopes.new ≡ with_names (scopes_of scopes.old) counts.old.next (names_of (map declarator_of trees.now))) }
+    ensures longer { OnOk result (IsLonger scopes.old scopes.new) }
 {
     for tree in trees {
         declarator(alloc, table, scopes, counts, out, tree)?;
@@ -80,7 +85,8 @@ pub fn counted(
     requires few { length (procedures_in table.now.items.now) ≤ 64 }
     requires room { counts.old.id + length (asserts_by_simple (simple_of tree.now)) ≤ 64 }
     requires quiet { IsQuietSimple (simple_of tree.now) }
-    ensures made { IfOk result (λ made. statement_of made ≡ lowered_simple (procedures_in table.now.items.now) (scopes_of scopes.now) counts.old.id (simple_of tree.now)) }
+    ensures made { IfOk result (λ made. statement_of made ≡ lowered_simple (procedures_in table.now.items.now)
+        (scopes_of scopes.now) counts.old.id (simple_of tree.now)) }
     ensures next { OnOk result (counts.new.next ≡ counts.old.next) }
     ensures id { OnOk result (counts.new.id ≡ counts.old.id + length (asserts_by_simple (simple_of tree.now))) }
 {
@@ -100,7 +106,8 @@ fn counted_step(
     requires few { length (procedures_in table.now.items.now) ≤ 64 }
     requires room { counts.old.id + length (asserts_by_step (optional_simple tree.now)) ≤ 64 }
     requires quiet { IsQuietStep (optional_simple tree.now) }
-    ensures made { IfOk result (λ made. statement_of made ≡ lowered_step (procedures_in table.now.items.now) (scopes_of scopes.now) counts.old.id (optional_simple tree.now)) }
+    ensures made { IfOk result (λ made. statement_of made ≡ lowered_step (procedures_in table.now.items.now)
+        (scopes_of scopes.now) counts.old.id (optional_simple tree.now)) }
     ensures next { OnOk result (counts.new.next ≡ counts.old.next) }
     ensures id { OnOk result (counts.new.id ≡ counts.old.id + length (asserts_by_step (optional_simple tree.now))) }
 {
@@ -122,7 +129,8 @@ fn start<'a>(
     requires names { counts.old.next + length (declared_by_init (init_of tree.now)) ≤ 24 }
     requires room { counts.old.id + length (asserts_by_init (init_of tree.now)) ≤ 64 }
     requires quiet { IsQuietInit (init_of tree.now) }
-    ensures made { IfOk result (λ made. statements_of made.items ≡ init_statements (procedures_in table.now.items.now) (scopes_of scopes.old) counts.old.next counts.old.id (init_of tree.now)) }
+    ensures made { IfOk result (λ made. statements_of made.items ≡ init_statements (procedures_in table.now.items.now)
+        (scopes_of scopes.old) counts.old.next counts.old.id (init_of tree.now)) }
     ensures next { OnOk result (counts.new.next ≡ counts.old.next + length (declared_by_init (init_of tree.now))) }
     ensures id { OnOk result (counts.new.id ≡ counts.old.id + length (asserts_by_init (init_of tree.now))) }
     ensures scopes { OnOk result (scopes_of scopes.new ≡ with_names (scopes_of scopes.old) counts.old.next (declared_by_init (init_of tree.now))) }
@@ -175,12 +183,19 @@ pub fn head<'a>(
     requires room { counts.old.id + length (asserts_by_init (init_of tree.now)) + length (asserts_by_step (optional_simple next.now)) ≤ 64 }
     requires quiet { IsQuietInit (init_of tree.now) }
     requires quiet_step { IsQuietStep (optional_simple next.now) }
-    ensures before { IfOk result (λ made. statements_of made.before.items ≡ init_statements (procedures_in table.now.items.now) ([] ∷ scopes_of scopes.old) counts.old.next counts.old.id (init_of tree.now)) }
-    ensures test { IfOk result (λ made. expression_of made.test ≡ lowered_test (procedures_in table.now.items.now) (init_scopes (procedures_in table.now.items.now) (scopes_of scopes.old) counts.old.next (init_of tree.now)) (optional_tree condition.now)) }
-    ensures step { IfOk result (λ made. statement_of made.step ≡ lowered_step (procedures_in table.now.items.now) (init_scopes (procedures_in table.now.items.now) (scopes_of scopes.old) counts.old.next (init_of tree.now)) (counts.old.id + length (asserts_by_init (init_of tree.now))) (optional_simple next.now)) }
+    ensures before { IfOk result (λ made. statements_of made.before.items ≡ init_statements (procedures_in table.now.items.now)
+        ([] ∷ scopes_of scopes.old) counts.old.next counts.old.id (init_of tree.now)) }
+    ensures test { IfOk result (λ made. expression_of made.test ≡ lowered_test (procedures_in table.now.items.now)
+        (init_scopes (procedures_in table.now.items.now) (scopes_of scopes.old) counts.old.next (init_of tree.now))
+        (optional_tree condition.now)) }
+    ensures step { IfOk result (λ made. statement_of made.step ≡ lowered_step (procedures_in table.now.items.now)
+        (init_scopes (procedures_in table.now.items.now) (scopes_of scopes.old) counts.old.next (init_of tree.now))
+        (counts.old.id + length (asserts_by_init (init_of tree.now))) (optional_simple next.now)) }
     ensures next { OnOk result (counts.new.next ≡ counts.old.next + length (declared_by_init (init_of tree.now))) }
-    ensures id { OnOk result (counts.new.id ≡ counts.old.id + length (asserts_by_init (init_of tree.now)) + length (asserts_by_step (optional_simple next.now))) }
-    ensures scopes { OnOk result (scopes_of scopes.new ≡ init_scopes (procedures_in table.now.items.now) (scopes_of scopes.old) counts.old.next (init_of tree.now)) }
+    ensures id { OnOk result (counts.new.id ≡ counts.old.id + length (asserts_by_init (init_of tree.now)) + length
+        (asserts_by_step (optional_simple next.now))) }
+    ensures scopes { OnOk result (scopes_of scopes.new ≡ init_scopes (procedures_in table.now.items.now)
+        (scopes_of scopes.old) counts.old.next (init_of tree.now)) }
 {
     scopes.open()?;
     let before = start(alloc, table, scopes, counts, tree)?;

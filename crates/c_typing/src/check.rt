@@ -23,7 +23,7 @@ pub fn check_types(alloc: Global, tree: &Tree) -> Result<Program, TypeError>
     ensures refused { (f : TypeFault) (p : Pos) → result ≡ Err (TypeError.Refused f p) → IsFirstFault (file_of tree.now) f p }
     ensures if_fault { (f : TypeFault) (p : Pos) → IsFirstFault (file_of tree.now) f p → Refuses result f p }
 {
-    let table = Table { items: &tree.items };
+    let table = Table::new(alloc, &tree.items)?;
     let notes = all(alloc, &table)?;
     if let Some(found) = notes.best {
         return Err(TypeError::Refused(found.fault, found.at));

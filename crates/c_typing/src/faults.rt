@@ -5,7 +5,7 @@ ghost use Rattle.c_typing.specs.declared.fault.TypeFault.TheVariants.{NotLinear,
 ghost use Rattle.c_tree.specs.SourceView.{identifier_of, tree_of, trees_of, optional_tree, simple_of, optional_simple, declarator_of, init_of};
 ghost use Rattle.c_typing.specs.Scope.{callee_of, if_assert, asserts_of, asserts_of_all, asserts_of_optional, asserts_by_simple, asserts_by_step, asserts_by_declarators, asserts_by_init, is_declared_here, is_built_in, with_variable, names_of, declared_by_init};
 ghost use Rattle.c_typing.specs.Faults.{fault_if, is_arithmetic, is_constant, is_product, callee_faults, name_faults, expression_faults, arguments_faults, optional_faults, simple_faults, step_faults, declared_faults, declarators_faults, init_faults};
-ghost use Rattle.c_typing.specs.Tables.{scopes_of, procedures_in, callee_from, notes_of, noted, with_zeros};
+ghost use Rattle.c_typing.specs.Tables.{scopes_of, IsLonger, procedures_in, callee_from, notes_of, noted, with_zeros};
 
 use crate::fault::TypeFault;
 use crate::notes::Notes;
@@ -83,7 +83,9 @@ fn callee(
     count: usize,
     used: bool,
 ) -> Result<(), AllocError>
-    ensures { OnOk result (notes_of notes.new ≡ noted (notes_of notes.old) (callee_faults (callee_of (procedures_in table.now.items.now) (identifier_of name.now).name) (identifier_of name.now) count used) [] (if_assert (identifier_of name.now))) }
+    ensures { OnOk result (notes_of notes.new ≡ noted (notes_of notes.old)
+        (callee_faults (callee_of (procedures_in table.now.items.now) (identifier_of name.now).name)
+        (identifier_of name.now) count used) [] (if_assert (identifier_of name.now))) }
 {
     called(
         notes,
@@ -106,7 +108,9 @@ pub fn expression(
     notes: &mut Notes,
     tree: &ExprTree,
 ) -> Result<bool, AllocError>
-    ensures notes { OnOk result (notes_of notes.new ≡ noted (notes_of notes.old) (expression_faults (procedures_in table.now.items.now) (scopes_of scopes.now) (tree_of tree.now)) [] (asserts_of (tree_of tree.now))) }
+    ensures notes { OnOk result (notes_of notes.new ≡ noted (notes_of notes.old)
+        (expression_faults (procedures_in table.now.items.now) (scopes_of scopes.now) (tree_of tree.now)) []
+        (asserts_of (tree_of tree.now))) }
     ensures constant { IfOk result (λ constant. constant ≡ is_constant (tree_of tree.now)) }
 {
     match tree {
@@ -143,7 +147,9 @@ fn arguments(
     notes: &mut Notes,
     trees: &[ExprTree],
 ) -> Result<(), AllocError>
-    ensures { OnOk result (notes_of notes.new ≡ noted (notes_of notes.old) (arguments_faults (procedures_in table.now.items.now) (scopes_of scopes.now) (trees_of trees.now)) [] (asserts_of_all (trees_of trees.now))) }
+    ensures { OnOk result (notes_of notes.new ≡ noted (notes_of notes.old)
+        (arguments_faults (procedures_in table.now.items.now) (scopes_of scopes.now) (trees_of trees.now)) []
+        (asserts_of_all (trees_of trees.now))) }
 {
     for tree in trees {
         expression(table, scopes, notes, tree)?;
@@ -158,7 +164,9 @@ pub fn optional(
     notes: &mut Notes,
     tree: &Option<ExprTree>,
 ) -> Result<(), AllocError>
-    ensures { OnOk result (notes_of notes.new ≡ noted (notes_of notes.old) (optional_faults (procedures_in table.now.items.now) (scopes_of scopes.now) (optional_tree tree.now)) [] (asserts_of_optional (optional_tree tree.now))) }
+    ensures { OnOk result (notes_of notes.new ≡ noted (notes_of notes.old)
+        (optional_faults (procedures_in table.now.items.now) (scopes_of scopes.now) (optional_tree tree.now)) []
+        (asserts_of_optional (optional_tree tree.now))) }
 {
     if let Some(tree) = tree {
         expression(table, scopes, notes, tree)?;
@@ -173,7 +181,9 @@ pub fn simple(
     notes: &mut Notes,
     tree: &SimpleTree,
 ) -> Result<(), AllocError>
-    ensures { OnOk result (notes_of notes.new ≡ noted (notes_of notes.old) (simple_faults (procedures_in table.now.items.now) (scopes_of scopes.now) (simple_of tree.now)) [] (asserts_by_simple (simple_of tree.now))) }
+    ensures { OnOk result (notes_of notes.new ≡ noted (notes_of notes.old)
+        (simple_faults (procedures_in table.now.items.now) (scopes_of scopes.now) (simple_of tree.now)) []
+        (asserts_by_simple (simple_of tree.now))) }
 {
     match tree {
         SimpleTree::Set(named, value) => {
@@ -201,7 +211,9 @@ pub fn step(
     notes: &mut Notes,
     tree: &Option<SimpleTree>,
 ) -> Result<(), AllocError>
-    ensures { OnOk result (notes_of notes.new ≡ noted (notes_of notes.old) (step_faults (procedures_in table.now.items.now) (scopes_of scopes.now) (optional_simple tree.now)) [] (asserts_by_step (optional_simple tree.now))) }
+    ensures { OnOk result (notes_of notes.new ≡ noted (notes_of notes.old)
+        (step_faults (procedures_in table.now.items.now) (scopes_of scopes.now) (optional_simple tree.now)) []
+        (asserts_by_step (optional_simple tree.now))) }
 {
     if let Some(tree) = tree {
         simple(table, scopes, notes, tree)?;
@@ -215,8 +227,11 @@ pub fn declared<'a>(
     notes: &mut Notes,
     named: &'a Named,
 ) -> Result<(), AllocError>
-    ensures notes { OnOk result (notes_of notes.new ≡ noted (notes_of notes.old) (fault_if (is_declared_here (scopes_of scopes.old) (identifier_of named.now).name || is_built_in (identifier_of named.now).name) Duplicate (identifier_of named.now).at) (identifier_of named.now ∷ []) []) }
+    ensures notes { OnOk result (notes_of notes.new ≡ noted (notes_of notes.old)
+        (fault_if (is_declared_here (scopes_of scopes.old) (identifier_of named.now).name || is_built_in
+        (identifier_of named.now).name) Duplicate (identifier_of named.now).at) (identifier_of named.now ∷ []) []) }
     ensures scopes { OnOk result (scopes_of scopes.new ≡ with_variable (scopes_of scopes.old) (identifier_of named.now).name 0) }
+    ensures longer { OnOk result (IsLonger scopes.old scopes.new) }
 {
     let text = named.name.as_str();
     let known = scopes.is_declared_here(text);
@@ -233,8 +248,12 @@ fn declarator<'a>(
     notes: &mut Notes,
     tree: &'a Declared,
 ) -> Result<(), AllocError>
-    ensures notes { OnOk result (notes_of notes.new ≡ noted (notes_of notes.old) (optional_faults (procedures_in table.now.items.now) (scopes_of scopes.old) (declarator_of tree.now).value ++ declared_faults (procedures_in table.now.items.now) (scopes_of scopes.old) (declarator_of tree.now).named) ((declarator_of tree.now).named ∷ []) (asserts_of_optional (declarator_of tree.now).value)) }
+    ensures notes { OnOk result (notes_of notes.new ≡ noted (notes_of notes.old)
+        (optional_faults (procedures_in table.now.items.now) (scopes_of scopes.old) (declarator_of tree.now).value ++ declared_faults
+        (procedures_in table.now.items.now) (scopes_of scopes.old) (declarator_of tree.now).named) ((declarator_of tree.now).named ∷ [])
+        (asserts_of_optional (declarator_of tree.now).value)) }
     ensures scopes { OnOk result (scopes_of scopes.new ≡ with_variable (scopes_of scopes.old) (declarator_of tree.now).named.name 0) }
+    ensures longer { OnOk result (IsLonger scopes.old scopes.new) }
 {
     optional(table, scopes, notes, &tree.value)?;
     declared(scopes, notes, &tree.named)?;
@@ -248,8 +267,11 @@ pub fn declarators<'a>(
     notes: &mut Notes,
     trees: &'a [Declared],
 ) -> Result<(), AllocError>
-    ensures notes { OnOk result (notes_of notes.new ≡ noted (notes_of notes.old) (declarators_faults (procedures_in table.now.items.now) (scopes_of scopes.old) (map declarator_of trees.now)) (names_of (map declarator_of trees.now)) (asserts_by_declarators (map declarator_of trees.now))) }
+    ensures notes { OnOk result (notes_of notes.new ≡ noted (notes_of notes.old)
+        (declarators_faults (procedures_in table.now.items.now) (scopes_of scopes.old) (map declarator_of trees.now))
+        (names_of (map declarator_of trees.now)) (asserts_by_declarators (map declarator_of trees.now))) }
     ensures scopes { OnOk result (scopes_of scopes.new ≡ with_zeros (scopes_of scopes.old) (names_of (map declarator_of trees.now))) }
+    ensures longer { OnOk result (IsLonger scopes.old scopes.new) }
 {
     for tree in trees {
         declarator(table, scopes, notes, tree)?;
@@ -264,7 +286,9 @@ pub fn first<'a>(
     notes: &mut Notes,
     tree: &'a ForFirst,
 ) -> Result<(), AllocError>
-    ensures notes { OnOk result (notes_of notes.new ≡ noted (notes_of notes.old) (init_faults (procedures_in table.now.items.now) (scopes_of scopes.old) (init_of tree.now)) (declared_by_init (init_of tree.now)) (asserts_by_init (init_of tree.now))) }
+    ensures notes { OnOk result (notes_of notes.new ≡ noted (notes_of notes.old)
+        (init_faults (procedures_in table.now.items.now) (scopes_of scopes.old) (init_of tree.now)) (declared_by_init (init_of tree.now))
+        (asserts_by_init (init_of tree.now))) }
     ensures scopes { OnOk result (scopes_of scopes.new ≡ with_zeros (scopes_of scopes.old) (declared_by_init (init_of tree.now))) }
 {
     match tree {

@@ -72,7 +72,8 @@ pub fn arguments(
     trees: &[ExprTree],
 ) -> Result<Vec<Expr>, AllocError>
     requires { length (procedures_in table.now.items.now) ≤ 64 }
-    ensures { IfOk result (λ made. expressions_of made.items ≡ lowered_all (procedures_in table.now.items.now) (scopes_of scopes.now) (trees_of trees.now)) }
+    ensures { IfOk result (λ made. expressions_of made.items ≡ lowered_all (procedures_in table.now.items.now) (scopes_of scopes.now)
+        (trees_of trees.now)) }
 {
     let mut made = Vec::new(alloc);
     for tree in trees {
@@ -90,7 +91,8 @@ pub fn value(
     tree: &Option<ExprTree>,
 ) -> Result<Expr, AllocError>
     requires { length (procedures_in table.now.items.now) ≤ 64 }
-    ensures { IfOk result (λ made. expression_of made ≡ lowered_value (procedures_in table.now.items.now) (scopes_of scopes.now) (optional_tree tree.now)) }
+    ensures { IfOk result (λ made. expression_of made ≡ lowered_value (procedures_in table.now.items.now) (scopes_of scopes.now)
+        (optional_tree tree.now)) }
 {
     match tree {
         Some(tree) => expression(alloc, table, scopes, tree),
@@ -106,7 +108,8 @@ pub fn test(
     tree: &Option<ExprTree>,
 ) -> Result<Expr, AllocError>
     requires { length (procedures_in table.now.items.now) ≤ 64 }
-    ensures { IfOk result (λ made. expression_of made ≡ lowered_test (procedures_in table.now.items.now) (scopes_of scopes.now) (optional_tree tree.now)) }
+    ensures { IfOk result (λ made. expression_of made ≡ lowered_test (procedures_in table.now.items.now) (scopes_of scopes.now)
+        (optional_tree tree.now)) }
 {
     match tree {
         Some(tree) => expression(alloc, table, scopes, tree),
@@ -122,7 +125,8 @@ pub fn returned(
     tree: &Option<ExprTree>,
 ) -> Result<Option<Expr>, AllocError>
     requires { length (procedures_in table.now.items.now) ≤ 64 }
-    ensures { IfOk result (λ made. optional_expression made ≡ lowered_result (procedures_in table.now.items.now) (scopes_of scopes.now) (optional_tree tree.now)) }
+    ensures { IfOk result (λ made. optional_expression made ≡ lowered_result (procedures_in table.now.items.now) (scopes_of scopes.now)
+        (optional_tree tree.now)) }
 {
     match tree {
         Some(tree) => Ok(Some(expression(alloc, table, scopes, tree)?)),

@@ -6,7 +6,7 @@ ghost use Rattle.c_tree.specs.Syntax.{set, binary, read, block, if_else, loop, d
 ghost use Rattle.c_tree.specs.View.{expression_of, expressions_of, statement_of, statements_of};
 ghost use Rattle.c_typing.specs.Scope.{with_variable, with_names, names_of, declared_by_init, declared_by, declared_in, asserts_by_simple, asserts_by_step, asserts_by_init, asserts_by, asserts_in};
 ghost use Rattle.c_typing.specs.Lowering.{slot, nothing, first_of, called_statement, lowered_simple, lowered_step, lowered_declarators, lowered_statement, lowered_statements};
-ghost use Rattle.c_typing.specs.Quiet.{IsQuietSimple, IsQuietStep, IsQuietInit, IsQuiet, AreQuiet};
+ghost use Rattle.c_typing.specs.LoweringSteps.{IsQuietSimple, IsQuietStep, IsQuietInit, IsQuiet, AreQuiet};
 ghost use Rattle.c_typing.specs.Tables.{scopes_of, procedures_in, callee_from, number_in};
 
 use crate::lowering::{arguments, call, expression};
@@ -113,7 +113,8 @@ fn change(
     named: &Named,
     value: Expr,
 ) -> Result<Stmt, AllocError>
-    ensures { IfOk result (λ made. statement_of made ≡ set (slot (scopes_of scopes.now) (identifier_of named.now)) (binary op (read (slot (scopes_of scopes.now) (identifier_of named.now))) (expression_of value))) }
+    ensures { IfOk result (λ made. statement_of made ≡ set (slot (scopes_of scopes.now) (identifier_of named.now))
+        (binary op (read (slot (scopes_of scopes.now) (identifier_of named.now))) (expression_of value))) }
 {
     let slot = scopes.slot_of(named.name.as_str()).unwrap_or(0);
     let left = Box::new(alloc, Expr::Read(slot))?;
@@ -130,7 +131,8 @@ pub fn simple(
     tree: &SimpleTree,
 ) -> Result<Stmt, AllocError>
     requires { length (procedures_in table.now.items.now) ≤ 64 }
-    ensures { IfOk result (λ made. statement_of made ≡ lowered_simple (procedures_in table.now.items.now) (scopes_of scopes.now) id (simple_of tree.now)) }
+    ensures { IfOk result (λ made. statement_of made ≡ lowered_simple (procedures_in table.now.items.now) (scopes_of scopes.now) id
+        (simple_of tree.now)) }
 {
     match tree {
         SimpleTree::Set(named, value) => {
@@ -166,7 +168,8 @@ pub fn step(
     tree: &Option<SimpleTree>,
 ) -> Result<Stmt, AllocError>
     requires { length (procedures_in table.now.items.now) ≤ 64 }
-    ensures { IfOk result (λ made. statement_of made ≡ lowered_step (procedures_in table.now.items.now) (scopes_of scopes.now) id (optional_simple tree.now)) }
+    ensures { IfOk result (λ made. statement_of made ≡ lowered_step (procedures_in table.now.items.now) (scopes_of scopes.now) id
+        (optional_simple tree.now)) }
 {
     match tree {
         Some(tree) => simple(alloc, table, scopes, id, tree),

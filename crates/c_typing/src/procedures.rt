@@ -42,7 +42,8 @@ fn parameters<'a>(
     notes: &mut Notes,
     names: &'a [Named],
 ) -> Result<(), AllocError>
-    ensures notes { OnOk result (notes_of notes.new ≡ noted (notes_of notes.old) (parameters_faults (scopes_of scopes.old) (map identifier_of names.now)) (map identifier_of names.now) []) }
+    ensures notes { OnOk result (notes_of notes.new ≡ noted (notes_of notes.old)
+        (parameters_faults (scopes_of scopes.old) (map identifier_of names.now)) (map identifier_of names.now) []) }
     ensures scopes { OnOk result (scopes_of scopes.new ≡ with_zeros (scopes_of scopes.old) (map identifier_of names.now)) }
 {
     for named in names {
@@ -53,7 +54,8 @@ fn parameters<'a>(
 
 /// The heading of the procedure of a number.
 fn heading(table: &Table<'_>, notes: &mut Notes, number: usize, tree: &ProcTree)
-    ensures { notes_of notes.new ≡ noted (notes_of notes.old) (heading_found (is_again (procedures_in table.now.items.now) number (procedure_tree_of tree.now)) (procedure_tree_of tree.now)) [] [] }
+    ensures { notes_of notes.new ≡ noted (notes_of notes.old) (heading_found
+        (is_again (procedures_in table.now.items.now) number (procedure_tree_of tree.now)) (procedure_tree_of tree.now)) [] [] }
 {
     let name = tree.named.name.as_str();
     let built_in = is_built_in(name);
@@ -71,7 +73,9 @@ fn body(
     notes: &mut Notes,
     tree: &ProcTree,
 ) -> Result<(), AllocError>
-    ensures { OnOk result (notes_of notes.new ≡ noted (notes_of notes.old) (body_found (procedures_in table.now.items.now) (procedure_tree_of tree.now)) (variables_of (procedure_tree_of tree.now)) (asserts_in (procedure_tree_of tree.now).body)) }
+    ensures { OnOk result (notes_of notes.new ≡ noted (notes_of notes.old)
+        (body_found (procedures_in table.now.items.now) (procedure_tree_of tree.now)) (variables_of (procedure_tree_of tree.now))
+        (asserts_in (procedure_tree_of tree.now).body)) }
 {
     let mut scopes = Scopes::new(alloc);
     scopes.open()?;
@@ -93,7 +97,9 @@ fn procedure(
     number: usize,
     tree: &ProcTree,
 ) -> Result<(), AllocError>
-    ensures best { OnOk result (best_of notes.new.best ≡ least_from (best_of notes.old.best) (procedure_found (procedures_in table.now.items.now) (is_again (procedures_in table.now.items.now) number (procedure_tree_of tree.now)) (procedure_tree_of tree.now))) }
+    ensures best { OnOk result (best_of notes.new.best ≡ least_from (best_of notes.old.best)
+        (procedure_found (procedures_in table.now.items.now) (is_again (procedures_in table.now.items.now) number
+        (procedure_tree_of tree.now)) (procedure_tree_of tree.now))) }
     ensures asserts { OnOk result (notes.new.asserts.items ≡ notes.old.asserts.items ++ asserts_in (procedure_tree_of tree.now).body) }
 {
     notes.forget_names();
@@ -115,7 +121,8 @@ fn item(
 ) -> Result<usize, AllocError>
     requires { number < 2 ^ 63 }
     ensures number { IfOk result (λ after. after ≡ number + length (procedures_in (tree.now ∷ []))) }
-    ensures best { OnOk result (best_of notes.new.best ≡ least_from (best_of notes.old.best) (procedures_found (procedures_in table.now.items.now) number (procedures_in (tree.now ∷ [])))) }
+    ensures best { OnOk result (best_of notes.new.best ≡ least_from (best_of notes.old.best)
+        (procedures_found (procedures_in table.now.items.now) number (procedures_in (tree.now ∷ [])))) }
     ensures asserts { OnOk result (notes.new.asserts.items ≡ notes.old.asserts.items ++ asserts_in_file (procedures_in (tree.now ∷ []))) }
 {
     match tree {
@@ -134,7 +141,8 @@ fn procedures(
     notes: &mut Notes,
     items: &[Item],
 ) -> Result<(), AllocError>
-    ensures best { OnOk result (best_of notes.new.best ≡ least_from (best_of notes.old.best) (procedures_found (procedures_in table.now.items.now) 0 (procedures_in items.now))) }
+    ensures best { OnOk result (best_of notes.new.best ≡ least_from (best_of notes.old.best)
+        (procedures_found (procedures_in table.now.items.now) 0 (procedures_in items.now))) }
     ensures asserts { OnOk result (notes.new.asserts.items ≡ notes.old.asserts.items ++ asserts_in_file (procedures_in items.now)) }
 {
     let mut number = 0;

@@ -6,7 +6,7 @@ ghost use Rattle.c_tree.specs.FileView.{procedure_tree_of};
 ghost use Rattle.c_tree.specs.View.{procedure_of};
 ghost use Rattle.c_typing.specs.Scope.{with_names, variables_of, asserts_in, asserts_in_file};
 ghost use Rattle.c_typing.specs.Lowering.{lowered_procedure, lowered_procedures, assert_places};
-ghost use Rattle.c_typing.specs.Quiet.{ProcedureFits, ProceduresFit, placed};
+ghost use Rattle.c_typing.specs.LoweringSteps.{ProcedureFits, ProceduresFit, placed};
 ghost use Rattle.c_typing.specs.Tables.{scopes_of, procedures_in};
 
 use crate::blocks::statements;
@@ -40,7 +40,8 @@ fn procedure(
 ) -> Result<Procedure, AllocError>
     requires few { length (procedures_in table.now.items.now) ≤ 64 }
     requires fits { ProcedureFits id.old (procedure_tree_of tree.now) }
-    ensures made { IfOk result (λ made. procedure_of made ≡ lowered_procedure (procedures_in table.now.items.now) id.old (procedure_tree_of tree.now)) }
+    ensures made { IfOk result (λ made. procedure_of made ≡ lowered_procedure (procedures_in table.now.items.now) id.old
+        (procedure_tree_of tree.now)) }
     ensures id { OnOk result (id.new ≡ id.old + length (asserts_in (procedure_tree_of tree.now).body)) }
 {
     let mut scopes = Scopes::new(alloc);
@@ -85,9 +86,12 @@ fn item(
     requires fits { ProceduresFit id.old (procedures_in (tree.now ∷ [])) }
     requires room { length procedures.old.items ≤ 64 }
     requires within { id.old + length (asserts_in_file (procedures_in (tree.now ∷ []))) ≤ length asserts.now }
-    requires own { take (length (asserts_in_file (procedures_in (tree.now ∷ [])))) (drop id.old asserts.now) ≡ asserts_in_file (procedures_in (tree.now ∷ [])) }
-    ensures procedures { OnOk result (map procedure_of procedures.new.items ≡ map procedure_of procedures.old.items ++ lowered_procedures (procedures_in table.now.items.now) id.old (procedures_in (tree.now ∷ []))) }
-    ensures places { OnOk result (places.new.items ≡ places.old.items ++ assert_places (length procedures.old.items) (procedures_in (tree.now ∷ []))) }
+    requires own { take (length (asserts_in_file (procedures_in (tree.now ∷ [])))) (drop id.old asserts.now) ≡ asserts_in_file
+        (procedures_in (tree.now ∷ [])) }
+    ensures procedures { OnOk result (map procedure_of procedures.new.items ≡ map procedure_of procedures.old.items ++ lowered_procedures
+        (procedures_in table.now.items.now) id.old (procedures_in (tree.now ∷ []))) }
+    ensures places { OnOk result (places.new.items ≡ places.old.items ++ assert_places (length procedures.old.items)
+        (procedures_in (tree.now ∷ []))) }
     ensures id { OnOk result (id.new ≡ id.old + length (asserts_in_file (procedures_in (tree.now ∷ [])))) }
     ensures count { OnOk result (length procedures.new.items ≡ length procedures.old.items + length (procedures_in (tree.now ∷ []))) }
 {
@@ -116,7 +120,8 @@ pub fn parts(alloc: Global, table: &Table<'_>, asserts: &[Pos]) -> Result<Made, 
     requires few { length (procedures_in table.now.items.now) ≤ 64 }
     requires fits { ProceduresFit 0 (procedures_in table.now.items.now) }
     requires asserts { asserts.now ≡ asserts_in_file (procedures_in table.now.items.now) }
-    ensures procedures { IfOk result (λ made. map procedure_of made.procedures.items ≡ lowered_procedures (procedures_in table.now.items.now) 0 (procedures_in table.now.items.now)) }
+    ensures procedures { IfOk result (λ made. map procedure_of made.procedures.items ≡ lowered_procedures
+        (procedures_in table.now.items.now) 0 (procedures_in table.now.items.now)) }
     ensures places { IfOk result (λ made. made.places.items ≡ assert_places 0 (procedures_in table.now.items.now)) }
 {
     let mut id = 0u32;

@@ -1,47 +1,55 @@
 //! The scopes of variables.
 
-ghost use Rattle.std.specs.Prelude.{◌≡◌};
-ghost use Rattle.c_typing.specs.Tables.{slot_after, declared_after};
+ghost use Rattle.std.specs.Prelude.{◌≡◌, ℕ, List, bytes_eq, if◌then◌else◌, IsSome};
+ghost use Rattle.c_typing.specs.Meanings.{depth_onto, found_in, IsLinked, IsLinked-prop};
 
+use indexmap::IndexMap;
 use std::alloc::{AllocError, Global};
 
-/// A scope opens, or a variable is declared.
+/// What a name means: a slot, and how many scopes were open where it was declared.
+#[derive(Clone, Copy)]
+pub struct Meaning {
+    pub slot: u32,
+    pub depth: usize,
+}
+
+/// A scope opens, or a variable is declared. A declaration keeps what its name meant before.
 #[derive(Clone, Copy)]
 pub enum Entry<'a> {
     Opens,
-    Declares(&'a str, u32),
+    Declares(&'a str, u32, Option<Meaning>),
 }
 
-/// The open scopes and their variables, in the order in which they came.
+/// The open scopes and their variables, in the order in which they came, and what each name means.
 #[derive(Drop)]
 pub struct Scopes<'a> {
     pub entries: Vec<Entry<'a>>,
+    depth: usize,
+    meanings: IndexMap<&'a str, Meaning>,
+    ghost depth_is: { depth ≡ depth_onto 0 entries.items },
+    ghost linked: { IsLinked entries.items meanings } by { IsLinked-prop entries.items meanings },
 }
 
-/// The slot that a name means behind one more entry.
-fn slot_after(entry: Entry<'_>, name: &str, before: Option<u32>) -> Option<u32>
-    ensures { result ≡ slot_after entry.entry name.now before }
+/// A name means again what it meant before.
+fn restore<'a>(meanings: &mut IndexMap<&'a str, Meaning>, name: &'a str, before: Option<Meaning>)
+    requires { IsSome (found_in meanings.old name.now) }
+    ensures { (x : List ℕ) → found_in meanings.new x ≡ (if bytes_eq name.now x then before else found_in meanings.old x) }
 {
-    match entry {
-        Entry::Opens => before,
-        Entry::Declares(declared, slot) => { if declared == name { Some(slot) } else { before } }
-    }
-}
-
-/// Whether the innermost scope declares a name behind one more entry.
-fn declared_after(entry: Entry<'_>, name: &str, before: bool) -> bool
-    ensures { result ≡ declared_after entry.entry name.now before }
-{
-    match entry {
-        Entry::Opens => false,
-        Entry::Declares(declared, _) => declared == name || before,
+    match before {
+        Some(meaning) => {
+            let _ = meanings.insert(name, meaning);
+        }
+        None => {
+            meanings.swap_remove(name);
+        }
     }
 }
 
 impl<'a> Scopes<'a> {
-    ghost use Rattle.std.specs.Prelude.{◌≡◌, [], ◌∷◌, OnOk, IfOk};
+    ghost use Rattle.std.specs.Prelude.{◌++◌, [], ◌∷◌, OnOk, IfOk, MatchOption, length, take};
+    ghost use Rattle.c_typing.specs.Meanings.{meaning_in};
     ghost use Rattle.c_typing.specs.Scope.{slot_of, is_declared_here, with_variable};
-    ghost use Rattle.c_typing.specs.Tables.{scopes_of, outer_of};
+    ghost use Rattle.c_typing.specs.Tables.{scopes_of, outer_of, IsLonger};
 
     /// No scope.
     pub fn new(alloc: Global) -> Scopes<'a>
@@ -49,16 +57,9 @@ impl<'a> Scopes<'a> {
     {
         Scopes {
             entries: Vec::new(alloc),
+            depth: 0,
+            meanings: IndexMap::new(alloc),
         }
-    }
-
-    /// The same scopes once more.
-    pub fn copy(&self) -> Result<Scopes<'a>, AllocError>
-        ensures { IfOk result (λ copy. scopes_of copy ≡ scopes_of self.now) }
-    {
-        let mut entries = Vec::new(*self.entries.allocator());
-        entries.extend_from_slice(&self.entries)?;
-        Ok(Scopes { entries })
     }
 
     /// Opens a scope.
@@ -66,47 +67,90 @@ impl<'a> Scopes<'a> {
         ensures { OnOk result (scopes_of self.new ≡ [] ∷ scopes_of self.old) }
     {
         self.entries.push(Entry::Opens)?;
+        self.depth += 1;
         Ok(())
+    }
+
+    /// Takes the last entry back, as if it had never come.
+    fn take_back(&mut self) -> Option<Entry<'a>>
+        ensures { MatchOption result ((self.old.entries.items ≡ []) × (self.new.entries.items ≡ []))
+            (λ entry. self.old.entries.items ≡ self.new.entries.items ++ entry ∷ []) }
+    {
+        let entry = self.entries.pop()?;
+        match entry {
+            Entry::Opens => self.depth -= 1,
+            Entry::Declares(name, _, before) => restore(&mut self.meanings, name, before),
+        }
+        Some(entry)
     }
 
     /// Leaves the innermost scope.
     pub fn close(&mut self)
         ensures { scopes_of self.new ≡ outer_of (scopes_of self.old) }
     {
-        while let Some(entry) = self.entries.pop() {
+        while let Some(entry) = self.take_back() {
             if let Entry::Opens = entry {
                 return;
             }
         }
     }
 
+    /// How many entries there are.
+    pub fn mark(&self) -> usize
+        ensures { result ≡ length self.now.entries.items }
+    {
+        self.entries.len()
+    }
+
+    /// Takes back all that came behind a mark.
+    pub fn back_to(&mut self, mark: usize)
+        ensures { self.new.entries.items ≡ take mark self.old.entries.items }
+    {
+        while self.entries.len() > mark {
+            self.take_back();
+        }
+    }
+
     /// Declares a variable in the innermost scope.
     pub fn declare(&mut self, name: &'a str, slot: u32) -> Result<(), AllocError>
-        ensures { OnOk result (scopes_of self.new ≡ with_variable (scopes_of self.old) name.now slot) }
+        ensures scopes { OnOk result (scopes_of self.new ≡ with_variable (scopes_of self.old) name.now slot) }
+        ensures longer { OnOk result (IsLonger self.old self.new) }
     {
-        self.entries.push(Entry::Declares(name, slot))?;
+        let before = self.meaning_of(name);
+        let meaning = Meaning {
+            slot,
+            depth: self.depth,
+        };
+        self.meanings.reserve(1)?;
+        self.entries.push(Entry::Declares(name, slot, before))?;
+        self.meanings.insert(name, meaning)?;
         Ok(())
+    }
+
+    /// What a name means.
+    fn meaning_of(&self, name: &str) -> Option<Meaning>
+        ensures { result ≡ meaning_in self.now.entries.items name.now }
+    {
+        self.meanings.get(name).copied()
     }
 
     /// The slot that a name means.
     pub fn slot_of(&self, name: &str) -> Option<u32>
         ensures { result ≡ slot_of (scopes_of self.now) name.now }
     {
-        let mut found = None;
-        for entry in &self.entries {
-            found = slot_after(*entry, name, found);
+        match self.meaning_of(name) {
+            Some(meaning) => Some(meaning.slot),
+            None => None,
         }
-        found
     }
 
     /// Whether the innermost scope declares a name.
     pub fn is_declared_here(&self, name: &str) -> bool
         ensures { result ≡ is_declared_here (scopes_of self.now) name.now }
     {
-        let mut found = false;
-        for entry in &self.entries {
-            found = declared_after(*entry, name, found);
+        match self.meaning_of(name) {
+            Some(meaning) => meaning.depth == self.depth,
+            None => false,
         }
-        found
     }
 }

@@ -26,14 +26,18 @@ pub struct Place {
 /// A declaration that stands alone is in scope nowhere behind it.
 fn alone<'a>(
     table: &Table<'_>,
-    scopes: &Scopes<'a>,
+    scopes: &mut Scopes<'a>,
     notes: &mut Notes,
     trees: &'a [Declared],
 ) -> Result<(), AllocError>
-    ensures { OnOk result (notes_of notes.new ≡ noted (notes_of notes.old) (declarators_faults (procedures_in table.now.items.now) (scopes_of scopes.now) (map declarator_of trees.now)) (names_of (map declarator_of trees.now)) (asserts_by_declarators (map declarator_of trees.now))) }
+    ensures notes { OnOk result (notes_of notes.new ≡ noted (notes_of notes.old)
+        (declarators_faults (procedures_in table.now.items.now) (scopes_of scopes.old) (map declarator_of trees.now))
+        (names_of (map declarator_of trees.now)) (asserts_by_declarators (map declarator_of trees.now))) }
+    ensures scopes { OnOk result (scopes_of scopes.new ≡ scopes_of scopes.old) }
 {
-    let mut inner = scopes.copy()?;
-    declarators(table, &mut inner, notes, trees)?;
+    let mark = scopes.mark();
+    declarators(table, scopes, notes, trees)?;
+    scopes.back_to(mark);
     Ok(())
 }
 
@@ -69,7 +73,10 @@ fn returned(
     at: Pos,
     value: &Option<ExprTree>,
 ) -> Result<(), AllocError>
-    ensures { OnOk result (notes_of notes.new ≡ noted (notes_of notes.old) (return_faults (procedures_in table.now.items.now) void at (optional_tree value.now) ++ optional_faults (procedures_in table.now.items.now) (scopes_of scopes.now) (optional_tree value.now)) [] (asserts_of_optional (optional_tree value.now))) }
+    ensures { OnOk result (notes_of notes.new ≡ noted (notes_of notes.old)
+        (return_faults (procedures_in table.now.items.now) void at (optional_tree value.now) ++ optional_faults
+        (procedures_in table.now.items.now) (scopes_of scopes.now) (optional_tree value.now)) []
+        (asserts_of_optional (optional_tree value.now))) }
 {
     if let Some(value) = value {
         notes.found_if(void, TypeFault::VoidValue, at);
@@ -87,7 +94,9 @@ fn statement<'a>(
     notes: &mut Notes,
     tree: &'a StmtTree,
 ) -> Result<(), AllocError>
-    ensures notes { OnOk result (notes_of notes.new ≡ noted (notes_of notes.old) (statement_faults (procedures_in table.now.items.now) place.void place.in_loop (scopes_of scopes.old) (statement_tree_of tree.now)) (declared_by (statement_tree_of tree.now)) (asserts_by (statement_tree_of tree.now))) }
+    ensures notes { OnOk result (notes_of notes.new ≡ noted (notes_of notes.old)
+        (statement_faults (procedures_in table.now.items.now) place.void place.in_loop (scopes_of scopes.old) (statement_tree_of tree.now))
+        (declared_by (statement_tree_of tree.now)) (asserts_by (statement_tree_of tree.now))) }
     ensures scopes { OnOk result (scopes_of scopes.new ≡ scopes_of scopes.old) }
 {
     let inside = Place {
@@ -144,7 +153,9 @@ pub fn statements<'a>(
     notes: &mut Notes,
     trees: &'a [StmtTree],
 ) -> Result<(), AllocError>
-    ensures notes { OnOk result (notes_of notes.new ≡ noted (notes_of notes.old) (statements_faults (procedures_in table.now.items.now) place.void place.in_loop (scopes_of scopes.old) (statement_trees_of trees.now)) (declared_in (statement_trees_of trees.now)) (asserts_in (statement_trees_of trees.now))) }
+    ensures notes { OnOk result (notes_of notes.new ≡ noted (notes_of notes.old)
+        (statements_faults (procedures_in table.now.items.now) place.void place.in_loop (scopes_of scopes.old)
+        (statement_trees_of trees.now)) (declared_in (statement_trees_of trees.now)) (asserts_in (statement_trees_of trees.now))) }
     ensures outer { OnOk result (outer_of (scopes_of scopes.new) ≡ outer_of (scopes_of scopes.old)) }
 {
     for tree in trees {
@@ -162,7 +173,9 @@ fn in_block<'a>(
     notes: &mut Notes,
     tree: &'a StmtTree,
 ) -> Result<(), AllocError>
-    ensures notes { OnOk result (notes_of notes.new ≡ noted (notes_of notes.old) (statement_faults (procedures_in table.now.items.now) place.void place.in_loop (scopes_of scopes.old) (statement_tree_of tree.now)) (declared_by (statement_tree_of tree.now)) (asserts_by (statement_tree_of tree.now))) }
+    ensures notes { OnOk result (notes_of notes.new ≡ noted (notes_of notes.old)
+        (statement_faults (procedures_in table.now.items.now) place.void place.in_loop (scopes_of scopes.old) (statement_tree_of tree.now))
+        (declared_by (statement_tree_of tree.now)) (asserts_by (statement_tree_of tree.now))) }
     ensures scopes { OnOk result (scopes_of scopes.new ≡ zeros_after (scopes_of scopes.old) (statement_tree_of tree.now)) }
 {
     match tree {

@@ -1,6 +1,14 @@
 //! The procedures of a file by their names.
 
-use c_tree::syntax_tree::Item;
+ghost use Rattle.std.specs.Prelude.{◌≡◌, ℕ, List, OnOk, IfOk};
+ghost use Rattle.c_tree.specs.FileView.{procedure_tree_of};
+ghost use Rattle.c_typing.specs.Scope.{is_main, is_built_in, callee_of, defined_from};
+ghost use Rattle.c_typing.specs.Meanings.{found_in};
+ghost use Rattle.c_typing.specs.Tables.{procedures_in, callee_from, number_in, is_defined, kept_or, AreDefined, AreDefined-prop};
+
+use c_tree::syntax_tree::{Item, ProcTree};
+use indexmap::IndexMap;
+use std::alloc::{AllocError, Global};
 
 /// What is called by a name: a procedure by its number, how many parameters it has and whether it is `void`.
 #[derive(Clone, Copy)]
@@ -12,15 +20,21 @@ pub enum Called {
     Unknown,
 }
 
+/// The first procedure of a name.
+#[derive(Clone, Copy)]
+pub struct Definition {
+    pub number: usize,
+    pub params: usize,
+    pub void: bool,
+}
+
 /// The procedures of a file.
 #[derive(Drop)]
 pub struct Table<'a> {
     pub items: &'a [Item],
+    definitions: IndexMap<&'a str, Definition>,
+    ghost linked: { AreDefined definitions items.now } by { AreDefined-prop definitions items.now },
 }
-
-ghost use Rattle.std.specs.Prelude.{◌≡◌};
-ghost use Rattle.c_typing.specs.Scope.{is_main, is_built_in, callee_of, defined_from};
-ghost use Rattle.c_typing.specs.Tables.{procedures_in, callee_from, number_in, is_defined};
 
 /// Whether a name is `main`.
 pub fn is_main(name: &str) -> bool
@@ -36,7 +50,43 @@ pub fn is_built_in(name: &str) -> bool
     name == "input" || name == "assume" || name == "assert"
 }
 
+/// Keeps a procedure of a number, where none has its name yet.
+fn add<'a>(
+    definitions: &mut IndexMap<&'a str, Definition>,
+    number: usize,
+    procedure: &'a ProcTree,
+) -> Result<(), AllocError>
+    ensures { OnOk result ((x : List ℕ) → found_in definitions.new x ≡ kept_or (found_in definitions.old x)
+        (procedure_tree_of procedure.now) number x) }
+{
+    let name = procedure.named.name.as_str();
+    if !definitions.contains_key(name) {
+        let definition = Definition {
+            number,
+            params: procedure.params.len(),
+            void: procedure.void,
+        };
+        definitions.insert(name, definition)?;
+    }
+    Ok(())
+}
+
 impl<'a> Table<'a> {
+    /// The table of the items of a file.
+    pub fn new(alloc: Global, items: &'a [Item]) -> Result<Table<'a>, AllocError>
+        ensures { IfOk result (λ table. table.items.now ≡ items.now) }
+    {
+        let mut definitions = IndexMap::new(alloc);
+        let mut number = 0;
+        for item in items {
+            if let Item::Proc(procedure) = item {
+                add(&mut definitions, number, procedure)?;
+                number += 1;
+            }
+        }
+        Ok(Table { items, definitions })
+    }
+
     /// What is called by a name.
     pub fn callee_of(&self, name: &str) -> Called
         ensures { callee_from result ≡ callee_of (procedures_in self.now.items.now) name.now }
@@ -77,15 +127,9 @@ impl<'a> Table<'a> {
     fn defined(&self, name: &str) -> Called
         ensures { callee_from result ≡ defined_from 0 (procedures_in self.now.items.now) name.now }
     {
-        let mut number = 0;
-        for item in self.items {
-            if let Item::Proc(procedure) = item {
-                if procedure.named.name.as_str() == name {
-                    return Called::Defined(number, procedure.params.len(), procedure.void);
-                }
-                number += 1;
-            }
+        match self.definitions.get(name) {
+            Some(first) => Called::Defined(first.number, first.params, first.void),
+            None => Called::Unknown,
         }
-        Called::Unknown
     }
 }

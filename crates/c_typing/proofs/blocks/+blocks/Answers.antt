@@ -1,12 +1,12 @@
-use Rattle.std.proofs.Common.{◌≡◌, ◌∙◌, ap, sym, [], ◌∷◌, ◌++◌, Some, get_or, refl, arith, rules}
-use Rattle.c_tree.specs.SourceView.{tree_of, init_of, optional_tree, optional_simple, statement_tree_of, statement_trees_of, if_of}
+use Rattle.std.proofs.Common.{◌≡◌, ◌∙◌, ap, sym, get_or, refl, arith}
+use Rattle.c_tree.specs.SourceView.{init_of, optional_tree, optional_simple, statement_tree_of, statement_trees_of}
 use Rattle.c_tree.specs.declared.syntax_tree.StmtTree.{Block}
-use Rattle.c_tree.specs.SourceTree.{block, if_else, for_loop}
+use Rattle.c_tree.specs.SourceTree.{block, for_loop}
 use Rattle.c_tree.specs.View.{expression_of, statement_of, statements_of}
-use Rattle.c_tree.proofs.SourceRows.{source_block_of, source_if_of, other_of}
+use Rattle.c_tree.proofs.SourceRows.{source_block_of}
 use Rattle.c_typing.specs.Tables.{scopes_of, procedures_in, outer_of}
 use Rattle.c_typing.proofs.Building.{set_pushed}
-use Rattle.c_typing.proofs.Fitting.{fits_at, fits_block, same_lowered, block_lowered, if_else_lowered, for_lowered, plain_placed, plain_tree, placed_at, lowered_turn, lowered_end, left_end, declared_left, asserts_left, declared_turn, asserts_turn, quiet_turn, outer-after}
+use Rattle.c_typing.proofs.Fitting.{fits_at, same_lowered, block_lowered, for_lowered, plain_placed, plain_tree, placed_at, lowered_turn, lowered_end, left_end, declared_left, asserts_left, declared_turn, asserts_turn, quiet_turn, outer-after}
 use Rattle.c_typing.proofs.blocks.+blocks.Goals as goal
 
 pub in_block-returns-in_ok-push-in_default : goal.in_block-returns-in_ok-push-in_default

@@ -2,7 +2,7 @@ use Rattle.std.proofs.Common.{◌≡◌, ◌+◌, drop}
 use Rattle.c_tree.specs.SourceView.{statement_trees_of}
 use Rattle.c_tree.specs.View.{statements_of}
 use Rattle.c_typing.specs.Lowering.{lowered_statements}
-use Rattle.c_typing.specs.Quiet.{AreQuiet}
+use Rattle.c_typing.specs.LoweringSteps.{AreQuiet}
 use Rattle.c_typing.specs.Tables.{scopes_of, procedures_in, outer_of}
 use Rattle.c_typing.proofs.Fitting.{lowered_left, declared_left, asserts_left}
 use Rattle.c_typing.proofs.blocks.+blocks.Given as goal

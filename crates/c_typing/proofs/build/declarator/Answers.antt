@@ -1,4 +1,4 @@
-use Rattle.std.proofs.Common.{◌≡◌, ◌∙◌, ap}
+use Rattle.std.proofs.Common.{ap}
 use Rattle.c_tree.specs.Syntax as program
 use Rattle.c_tree.specs.declared.tree.Stmt.{Set}
 use Rattle.c_typing.proofs.Building.{set_pushed}

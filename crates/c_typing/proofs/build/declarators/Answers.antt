@@ -1,4 +1,4 @@
-use Rattle.std.proofs.Common.{◌≡◌, ◌∙◌, ◌+◌, ap, sym, arith}
+use Rattle.std.proofs.Common.{◌∙◌, ap, arith}
 use Rattle.c_tree.specs.Syntax as program
 use Rattle.c_tree.specs.View.{statements_of}
 use Rattle.c_tree.specs.SourceView.{declarator_of}
@@ -6,6 +6,7 @@ use Rattle.c_typing.specs.Scope.{with_variable}
 use Rattle.c_typing.specs.Lowering.{joined, lowered_value}
 use Rattle.c_typing.specs.Tables.{scopes_of, procedures_in}
 use Rattle.c_typing.proofs.Building.{sets_turn, sets_end, scopes_turn, scopes_end, names_turn, names_end}
+use Rattle.c_typing.proofs.Tabled.{longer-still}
 use Rattle.c_typing.proofs.build.declarators.Goals as goal
 
 pub declarator-requires-clause-room : goal.declarator-requires-clause-room
@@ -24,6 +25,7 @@ loop-tree-preserved c =
       scopes = scopes_turn ps c.args.trees.now c.loop-tree.tree-index c.tree-item.result ss (scopes_of c.declarator.new.scopes) _ next c.declarator.new.counts.next c.loop-tree-test.true scopes more.next c.loop-tree.invariant.scopes;
       next = omega (arith, names_turn ps c.args.trees.now c.loop-tree.tree-index c.tree-item.result c.loop-tree-test.true, more.next, c.loop-tree.invariant.next);
       id = more.id ∙ c.loop-tree.invariant.id;
+      longer = longer-still c.args.scopes.now.entries.items c.loop-tree.scopes.entries.items c.declarator.new.scopes.entries.items c.loop-tree.invariant.longer c.in_ok-declarator.ensures.longer;
     }
 
 pub returns-clause-out : goal.returns-clause-out

@@ -1,5 +1,5 @@
 use Rattle.std.proofs.Common.{◌≡◌, ◌+◌, drop}
-use Rattle.c_typing.specs.Tables.{scopes_of, procedures_in}
+use Rattle.c_typing.specs.Tables.{scopes_of, IsLonger, procedures_in}
 use Rattle.c_typing.proofs.Building.{sets_left, scopes_left, names_left}
 use Rattle.c_typing.proofs.build.declarators.Given as goal
 
@@ -11,4 +11,5 @@ invariant-loop-tree l =
       scopes : scopes_left ps (scopes_of l.scopes) l.counts.next (drop l.tree-index l.trees) ≡ scopes_left ps (scopes_of l.fn.scopes) l.fn.counts.next l.trees;
       next : l.counts.next + names_left ps (drop l.tree-index l.trees) ≡ l.fn.counts.next + names_left ps l.trees;
       id : l.counts.id ≡ l.fn.counts.id;
+      longer : IsLonger l.fn.scopes l.scopes;
     }

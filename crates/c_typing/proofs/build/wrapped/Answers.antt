@@ -1,5 +1,3 @@
-use Rattle.std.proofs.Common.{◌≡◌, ap}
-use Rattle.c_tree.specs.SourceView.{init_of}
 use Rattle.c_tree.specs.View.{statement_of}
 use Rattle.c_typing.proofs.Building.{wrapped_said}
 use Rattle.c_typing.proofs.build.wrapped.Goals as goal

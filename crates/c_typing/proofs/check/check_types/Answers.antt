@@ -1,6 +1,5 @@
-use Rattle.std.proofs.Common.{◌≡◌, ◌∙◌, ap, sym, None, Some, map, codes, inl, false, Err, Result, arith, rules}
+use Rattle.std.proofs.Common.{◌≡◌, ◌∙◌, ap, sym, None, map, codes, inl, arith, rules}
 use Rattle.c_tree.specs.FileView.{file_of, item_of}
-use Rattle.c_typing.specs.declared.fault.TypeError.{TypeError}
 use Rattle.c_typing.specs.declared.fault.TypeError.TheVariants.{Refused}
 use Rattle.c_typing.specs.declared.fault.TypeFault.TheVariants.{NoMain}
 use Rattle.c_typing.specs.Answer.{start}
@@ -20,64 +19,64 @@ use Rattle.c_typing.proofs.check.check_types.Goals as goal
 pub returns-in-Some-clause-refused : goal.returns-in-Some-clause-refused
 returns-in-Some-clause-refused c f p e =
     let is = file_of c.args.tree.now in
-    let least = ap (λ r. least_from None (all_faults (map item_of r))) (sym c.deref.ensures.value) ∙ sym c.in_ok-notes.ensures.best ∙ ap best_of c.in-Some.is in
+    let least = ap (λ r. least_from None (all_faults (map item_of r))) (sym (c.in_ok-table.ensures ∙ c.deref.ensures.value)) ∙ sym c.in_ok-notes.ensures.best ∙ ap best_of c.in-Some.is in
     let same : Refused c.in-Some.found.fault c.in-Some.found.at ≡ Refused f p = cc in
     told_as is c.in-Some.found.fault f c.in-Some.found.at p (fault_told is c.in-Some.found.fault c.in-Some.found.at least) same
 
 pub returns-in-Some-clause-if_fault : goal.returns-in-Some-clause-if_fault
 returns-in-Some-clause-if_fault c f p h =
     let is = file_of c.args.tree.now in
-    let least = ap (λ r. least_from None (all_faults (map item_of r))) (sym c.deref.ensures.value) ∙ sym c.in_ok-notes.ensures.best ∙ ap best_of c.in-Some.is in
+    let least = ap (λ r. least_from None (all_faults (map item_of r))) (sym (c.in_ok-table.ensures ∙ c.deref.ensures.value)) ∙ sym c.in_ok-notes.ensures.best ∙ ap best_of c.in-Some.is in
     inl (fault_only is c.in-Some.found.fault f c.in-Some.found.at p least h)
 
 pub returns-in-Some-clause-only : goal.returns-in-Some-clause-only
 returns-in-Some-clause-only c P h =
     let is = file_of c.args.tree.now in
-    let least = ap (λ r. least_from None (all_faults (map item_of r))) (sym c.deref.ensures.value) ∙ sym c.in_ok-notes.ensures.best ∙ ap best_of c.in-Some.is in
+    let least = ap (λ r. least_from None (all_faults (map item_of r))) (sym (c.in_ok-table.ensures ∙ c.deref.ensures.value)) ∙ sym c.in_ok-notes.ensures.best ∙ ap best_of c.in-Some.is in
     absurd (fault_no_program is _ P least h)
 
 pub returns-then-not-is_defined-clause-only : goal.returns-then-not-is_defined-clause-only
 returns-then-not-is_defined-clause-only c P h =
     let is = file_of c.args.tree.now in
-    let none = ap (λ r. is_defined (defined_from 0 (procedures_in r) (codes "main"))) (sym c.deref.ensures.value) ∙ sym c.is_defined.ensures ∙ c.if-not-is_defined.true in
+    let none = ap (λ r. is_defined (defined_from 0 (procedures_in r) (codes "main"))) (sym (c.in_ok-table.ensures ∙ c.deref.ensures.value)) ∙ sym c.is_defined.ensures ∙ c.if-not-is_defined.true in
     absurd (lacks_program is P none h)
 
 pub returns-then-not-is_defined-clause-refused : goal.returns-then-not-is_defined-clause-refused
 returns-then-not-is_defined-clause-refused c f p e =
     let is = file_of c.args.tree.now in
-    let least = ap (λ r. least_from None (all_faults (map item_of r))) (sym c.deref.ensures.value) ∙ sym c.in_ok-notes.ensures.best ∙ ap best_of c.in_default.is in
-    let none = ap (λ r. is_defined (defined_from 0 (procedures_in r) (codes "main"))) (sym c.deref.ensures.value) ∙ sym c.is_defined.ensures ∙ c.if-not-is_defined.true in
+    let least = ap (λ r. least_from None (all_faults (map item_of r))) (sym (c.in_ok-table.ensures ∙ c.deref.ensures.value)) ∙ sym c.in_ok-notes.ensures.best ∙ ap best_of c.in_default.is in
+    let none = ap (λ r. is_defined (defined_from 0 (procedures_in r) (codes "main"))) (sym (c.in_ok-table.ensures ∙ c.deref.ensures.value)) ∙ sym c.is_defined.ensures ∙ c.if-not-is_defined.true in
     let same : Refused NoMain start ≡ Refused f p = cc in
     told_as is NoMain f start p (lacks_main is least none) same
 
 pub returns-then-not-is_defined-clause-if_fault : goal.returns-then-not-is_defined-clause-if_fault
 returns-then-not-is_defined-clause-if_fault c f p h =
     let is = file_of c.args.tree.now in
-    let least = ap (λ r. least_from None (all_faults (map item_of r))) (sym c.deref.ensures.value) ∙ sym c.in_ok-notes.ensures.best ∙ ap best_of c.in_default.is in
+    let least = ap (λ r. least_from None (all_faults (map item_of r))) (sym (c.in_ok-table.ensures ∙ c.deref.ensures.value)) ∙ sym c.in_ok-notes.ensures.best ∙ ap best_of c.in_default.is in
     inl (lacks_only is f p least h)
 
 pub parts-requires-clause-few : goal.parts-requires-clause-few
 parts-requires-clause-few c =
-    let is = map item_of c.deref.result.now in
+    let is = map item_of c.in_ok-table.table.items.now in
     (faultless_keeps is (least-none (all_faults is) (sym c.in_ok-notes.ensures.best ∙ ap best_of c.in_default.is))).few_procedures
 
 pub parts-requires-clause-fits : goal.parts-requires-clause-fits
 parts-requires-clause-fits c =
-    let is = map item_of c.deref.result.now in
+    let is = map item_of c.in_ok-table.table.items.now in
     let keeps = faultless_keeps is (least-none (all_faults is) (sym c.in_ok-notes.ensures.best ∙ ap best_of c.in_default.is)) in
     let few = keeps.few_asserts in
     procedures_fit (procedures_of is) (procedures_of is) 0 keeps.each (omega arith)
 
 pub overflow_cast-main : goal.overflow_cast-main
 overflow_cast-main c =
-    let is = map item_of c.deref.result.now in
+    let is = map item_of c.in_ok-table.table.items.now in
     let few = (faultless_keeps is (least-none (all_faults is) (sym c.in_ok-notes.ensures.best ∙ ap best_of c.in_default.is))).few_procedures in
     let small = main_small (procedures_of is) (codes "main") c.number_of-main.result few c.number_of-main.ensures in
     search (rules, small)
 
-pub new-requires : goal.new-requires
-new-requires c =
-    let r = c.deref.result.now in
+pub new-requires-2 : goal.new-requires-2
+new-requires-2 c =
+    let r = c.in_ok-table.table.items.now in
     let is = map item_of r in
     let faultless = least-none (all_faults is) (sym c.in_ok-notes.ensures.best ∙ ap best_of c.in_default.is) in
     let main = defines_main is (sym c.is_defined.ensures ∙ c.if-not-is_defined.false) in
@@ -86,26 +85,26 @@ new-requires c =
 
 pub returns-clause-ok : goal.returns-clause-ok
 returns-clause-ok c =
-    let r = c.deref.result.now in
+    let r = c.in_ok-table.table.items.now in
     let items = c.args.tree.now.items.items in
-    let least = ap (λ x. least_from None (all_faults (map item_of x))) (sym c.deref.ensures.value) ∙ sym c.in_ok-notes.ensures.best ∙ ap best_of c.in_default.is in
+    let least = ap (λ x. least_from None (all_faults (map item_of x))) (sym (c.in_ok-table.ensures ∙ c.deref.ensures.value)) ∙ sym c.in_ok-notes.ensures.best ∙ ap best_of c.in_default.is in
     let same = whole r c.in_ok-made.made.procedures.items c.number_of-main.result c.in_ok-made.made.places.items c.in_ok-made.ensures.procedures c.number_of-main.ensures c.in_ok-made.ensures.places in
     record {
       faultless = least-none (all_faults (map item_of items)) least;
-      main = defines_main (map item_of items) (ap (λ x. is_defined (defined_from 0 (procedures_in x) (codes "main"))) (sym c.deref.ensures.value) ∙ sym c.is_defined.ensures ∙ c.if-not-is_defined.false);
-      lowered = made_program items r c.new.result.procedures.items c.in_ok-made.made.procedures.items c.new.result.main c.number_of-main.result c.new.result.asserts.items c.in_ok-made.made.places.items c.deref.ensures.value c.new.ensures.procedures c.new.ensures.main c.new.ensures.asserts same;
+      main = defines_main (map item_of items) (ap (λ x. is_defined (defined_from 0 (procedures_in x) (codes "main"))) (sym (c.in_ok-table.ensures ∙ c.deref.ensures.value)) ∙ sym c.is_defined.ensures ∙ c.if-not-is_defined.false);
+      lowered = made_program items r c.new-2.result.procedures.items c.in_ok-made.made.procedures.items c.new-2.result.main c.number_of-main.result c.new-2.result.asserts.items c.in_ok-made.made.places.items (c.in_ok-table.ensures ∙ c.deref.ensures.value) c.new-2.ensures.procedures c.new-2.ensures.main c.new-2.ensures.asserts same;
     }
 
 pub returns-clause-only : goal.returns-clause-only
 returns-clause-only c P h =
-    let r = c.deref.result.now in
+    let r = c.in_ok-table.table.items.now in
     let items = c.args.tree.now.items.items in
     let same = whole r c.in_ok-made.made.procedures.items c.number_of-main.result c.in_ok-made.made.places.items c.in_ok-made.ensures.procedures c.number_of-main.ensures c.in_ok-made.ensures.places in
-    made_program items r c.new.result.procedures.items c.in_ok-made.made.procedures.items c.new.result.main c.number_of-main.result c.new.result.asserts.items c.in_ok-made.made.places.items c.deref.ensures.value c.new.ensures.procedures c.new.ensures.main c.new.ensures.asserts same ∙ sym h.lowered
+    made_program items r c.new-2.result.procedures.items c.in_ok-made.made.procedures.items c.new-2.result.main c.number_of-main.result c.new-2.result.asserts.items c.in_ok-made.made.places.items (c.in_ok-table.ensures ∙ c.deref.ensures.value) c.new-2.ensures.procedures c.new-2.ensures.main c.new-2.ensures.asserts same ∙ sym h.lowered
 
 pub returns-clause-if_fault : goal.returns-clause-if_fault
 returns-clause-if_fault c f p h =
     let items = c.args.tree.now.items.items in
-    let least = ap (λ x. least_from None (all_faults (map item_of x))) (sym c.deref.ensures.value) ∙ sym c.in_ok-notes.ensures.best ∙ ap best_of c.in_default.is in
-    let main = defines_main (map item_of items) (ap (λ x. is_defined (defined_from 0 (procedures_in x) (codes "main"))) (sym c.deref.ensures.value) ∙ sym c.is_defined.ensures ∙ c.if-not-is_defined.false) in
+    let least = ap (λ x. least_from None (all_faults (map item_of x))) (sym (c.in_ok-table.ensures ∙ c.deref.ensures.value)) ∙ sym c.in_ok-notes.ensures.best ∙ ap best_of c.in_default.is in
+    let main = defines_main (map item_of items) (ap (λ x. is_defined (defined_from 0 (procedures_in x) (codes "main"))) (sym (c.in_ok-table.ensures ∙ c.deref.ensures.value)) ∙ sym c.is_defined.ensures ∙ c.if-not-is_defined.false) in
     main_first (map item_of items) f p least main h

@@ -1,12 +1,10 @@
-use Rattle.std.proofs.Common.{◌≡◌, ◌∙◌, ap, sym, [], ◌++◌, true, get_or, length, arith, ◌≤◌, ◌&&◌, ◌||◌, not as not_bool}
-use Rattle.c_tree.specs.SourceTree.{call, binary}
-use Rattle.c_tree.specs.SourceView.{tree_of, trees_of, identifier_of}
+use Rattle.std.proofs.Common.{◌≡◌, ◌∙◌, ap, sym, [], true, length, arith}
+use Rattle.c_tree.specs.SourceView.{tree_of, identifier_of}
 use Rattle.c_tree.proofs.SourceRows.{source_call_of}
-use Rattle.c_typing.specs.declared.fault.TypeFault.TheVariants.{NotLinear}
-use Rattle.c_typing.specs.Scope.{asserts_of, asserts_of_all, if_assert, callee_of}
-use Rattle.c_typing.specs.Faults.{fault_if, is_product, is_constant, expression_faults, arguments_faults, callee_faults}
+use Rattle.c_typing.specs.Scope.{asserts_of}
+use Rattle.c_typing.specs.Faults.{expression_faults}
 use Rattle.c_typing.specs.Tables.{scopes_of, procedures_in, notes_of, noted}
-use Rattle.c_typing.proofs.Noting.{call_noted, binary_noted, argument_count-trees_of, arguments_turn, arguments_end}
+use Rattle.c_typing.proofs.Noting.{call_noted, binary_noted, arguments_turn, arguments_end}
 use Rattle.c_typing.proofs.faults.+expressions.Goals as goal
 
 pub expression-returns-in_ok-arguments-in-Call-clause-notes : goal.expression-returns-in_ok-arguments-in-Call-clause-notes

@@ -1,4 +1,4 @@
-use Rattle.std.proofs.Common.{◌≡◌, ◌∙◌, ap, sym, [], ◌∷◌}
+use Rattle.std.proofs.Common.{[], ◌∷◌}
 use Rattle.c_tree.specs.SourceView.{declarator_of}
 use Rattle.c_typing.specs.Scope.{asserts_of_optional}
 use Rattle.c_typing.specs.Faults.{optional_faults, declared_faults}

@@ -1,8 +1,9 @@
-use Rattle.std.proofs.Common.{◌≡◌, ◌∙◌, ap, sym, arith}
+use Rattle.std.proofs.Common.{◌∙◌, ap, arith}
 use Rattle.c_tree.specs.SourceView.{declarator_of}
-use Rattle.c_typing.specs.Scope.{asserts_of_optional, with_variable}
+use Rattle.c_typing.specs.Scope.{with_variable}
 use Rattle.c_typing.specs.Tables.{scopes_of, procedures_in, notes_of}
 use Rattle.c_typing.proofs.Declaring.{declarators_turn, declarators_end, zeros_turn, zeros_end}
+use Rattle.c_typing.proofs.Tabled.{longer-still}
 use Rattle.c_typing.proofs.faults.declarators.Goals as goal
 
 pub loop-tree-preserved : goal.loop-tree-preserved
@@ -13,6 +14,7 @@ loop-tree-preserved c =
     record {
       notes = declarators_turn ps c.args.trees.now c.loop-tree.tree-index c.tree-item.result ss (scopes_of c.declarator.new.scopes) (notes_of c.loop-tree.notes) (notes_of c.declarator.new.notes) _ c.loop-tree-test.true (rw (← c.tree-item.is) c.in_ok-declarator.ensures.notes) scopes c.loop-tree.invariant.notes;
       scopes = zeros_turn ps c.args.trees.now c.loop-tree.tree-index c.tree-item.result ss (scopes_of c.declarator.new.scopes) _ c.loop-tree-test.true scopes c.loop-tree.invariant.scopes;
+      longer = longer-still c.args.scopes.now.entries.items c.loop-tree.scopes.entries.items c.declarator.new.scopes.entries.items c.loop-tree.invariant.longer c.in_ok-declarator.ensures.longer;
     }
 
 pub returns-clause-notes : goal.returns-clause-notes

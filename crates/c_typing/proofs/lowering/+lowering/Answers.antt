@@ -1,9 +1,8 @@
-use Rattle.std.proofs.Common.{◌≡◌, ◌∙◌, ap, sym, [], ◌∷◌, arith}
-use Rattle.c_tree.specs.SourceView.{tree_of, trees_of, identifier_of}
+use Rattle.std.proofs.Common.{◌∙◌, ap, sym, arith}
+use Rattle.c_tree.specs.SourceView.{tree_of, identifier_of}
 use Rattle.c_tree.specs.View.{expression_of, expressions_of}
 use Rattle.c_tree.proofs.SourceRows.{source_call_of}
-use Rattle.c_typing.specs.Scope.{callee_of}
-use Rattle.c_typing.specs.Lowering.{lowered, lowered_all, lowered_call}
+use Rattle.c_typing.specs.Lowering.{lowered}
 use Rattle.c_typing.specs.Tables.{scopes_of, procedures_in, callee_from}
 use Rattle.c_typing.proofs.Lowered.{values_turn, values_end, callee_fits, lowered_call_said}
 use Rattle.c_typing.proofs.lowering.+lowering.Goals as goal

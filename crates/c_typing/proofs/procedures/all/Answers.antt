@@ -1,6 +1,6 @@
 use Rattle.std.proofs.Common.{map}
 use Rattle.c_tree.specs.FileView.{item_of}
-use Rattle.c_typing.specs.Tables.{procedures_in, notes_of, best_of}
+use Rattle.c_typing.specs.Tables.{notes_of}
 use Rattle.c_typing.proofs.Procedural.{all_said}
 use Rattle.c_typing.proofs.procedures.all.Goals as goal
 

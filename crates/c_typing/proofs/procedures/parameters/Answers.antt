@@ -1,4 +1,4 @@
-use Rattle.std.proofs.Common.{◌≡◌, ◌∙◌, ap, sym, arith}
+use Rattle.std.proofs.Common.{◌∙◌, ap, arith}
 use Rattle.c_tree.specs.SourceView.{identifier_of}
 use Rattle.c_typing.specs.Scope.{with_variable}
 use Rattle.c_typing.specs.Tables.{scopes_of, notes_of}

@@ -1,4 +1,4 @@
-use Rattle.std.proofs.Common.{◌≡◌, ◌≤◌, drop, slice_get}
+use Rattle.std.proofs.Common.{◌≡◌, drop, slice_get}
 use Rattle.c_typing.specs.Tables.{procedures_in}
 use Rattle.c_typing.proofs.procedures.place_past.Given as goal
 

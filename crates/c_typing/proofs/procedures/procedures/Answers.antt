@@ -1,8 +1,7 @@
-use Rattle.std.proofs.Common.{◌≡◌, ◌∙◌, ap, sym, [], ◌∷◌, ◌+◌, ◌≤◌, ◌++◌, length, get_or, List, ℕ, arith}
-use Rattle.c_tree.specs.declared.syntax_tree.Item.{Item}
+use Rattle.std.proofs.Common.{◌∙◌, ap, [], ◌∷◌, ◌+◌, ◌++◌, length}
 use Rattle.c_typing.specs.Scope.{asserts_in_file}
 use Rattle.c_typing.specs.Least.{least_from}
-use Rattle.c_typing.specs.Tables.{procedures_in, notes_of, best_of, procedures_found}
+use Rattle.c_typing.specs.Tables.{procedures_in, best_of, procedures_found}
 use Rattle.c_typing.proofs.Filed.{items-best, items-asserts, items-few}
 use Rattle.c_typing.proofs.procedures.procedures.Goals as goal
 

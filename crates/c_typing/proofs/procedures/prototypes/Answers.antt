@@ -1,4 +1,4 @@
-use Rattle.std.proofs.Common.{◌≡◌, ◌∙◌, ap, sym, [], ◌∷◌, arith}
+use Rattle.std.proofs.Common.{◌∙◌, ap, [], ◌∷◌, arith}
 use Rattle.c_tree.specs.FileView.{item_of}
 use Rattle.c_typing.specs.Faults.{prototypes_faults}
 use Rattle.c_typing.specs.Tables.{procedures_in, notes_of, noted}

@@ -1,11 +1,9 @@
-use Rattle.std.proofs.Common.{◌≡◌, ◌∙◌, ◌+◌, ◌++◌, ◌≤◌, [], ◌∷◌, ap, sym, map, length, subst, arith, ℕ, List}
+use Rattle.std.proofs.Common.{◌≡◌, ◌∙◌, ◌+◌, ◌++◌, [], ◌∷◌, ap, sym, map, length, arith}
 use Rattle.std.proofs.lemmas.List.{length-map}
-use Rattle.c_tree.specs.declared.tree.AssertPlace.{AssertPlace}
-use Rattle.c_tree.specs.Syntax.{PureProcedure}
 use Rattle.c_tree.specs.View.{procedure_of}
 use Rattle.c_typing.specs.Lowering.{assert_places}
 use Rattle.c_typing.specs.Tables.{procedures_in}
-use Rattle.c_typing.proofs.Programmed.{Built, Next, next_item, built_item, built_from, built_end}
+use Rattle.c_typing.proofs.Programmed.{next_item, built_item, built_from, built_end}
 use Rattle.c_typing.proofs.program.parts.Goals as goal
 
 pub loop-tree-init : goal.loop-tree-init

@@ -1,5 +1,5 @@
 use Rattle.std.proofs.Common.{◌≡◌, ◌++◌, drop}
-use Rattle.c_typing.specs.Quiet.{placed}
+use Rattle.c_typing.specs.LoweringSteps.{placed}
 use Rattle.c_typing.proofs.program.place.Given as goal
 
 abbrev pub invariant-loop-at : goal.invariant-loop-at

@@ -1,10 +1,8 @@
-use Rattle.std.proofs.Common.{◌≡◌, ◌∙◌, ap, sym, [], ◌∷◌, ◌++◌, List, true, Some, None, arith}
-use Rattle.c_tree.specs.declared.syntax_tree.StmtTree.{StmtTree}
-use Rattle.c_tree.specs.SourceTree.{StatementTree}
-use Rattle.c_tree.specs.SourceView.{tree_of, init_of, optional_tree, optional_simple, statement_tree_of, statement_trees_of, if_of}
+use Rattle.std.proofs.Common.{◌∙◌, ap, sym, [], ◌∷◌, arith}
+use Rattle.c_tree.specs.SourceView.{tree_of, init_of, optional_tree, optional_simple, statement_tree_of, if_of}
 use Rattle.c_tree.proofs.SourceRows.{source_block_of, source_if_of, other_of}
-use Rattle.c_typing.specs.Scope.{Scope, declared_by_init}
-use Rattle.c_typing.specs.Tables.{scopes_of, procedures_in, notes_of, outer_of, zeros_after, with_zeros}
+use Rattle.c_typing.specs.Scope.{declared_by_init}
+use Rattle.c_typing.specs.Tables.{scopes_of, procedures_in, notes_of, outer_of, zeros_after}
 use Rattle.c_typing.proofs.Declaring.{statements_turn, statements_end, outer-after, outer-zeros}
 use Rattle.c_typing.proofs.Saying.{said, block_said, if_then_said, if_else_said, while_said, do_while_said, for_said}
 use Rattle.c_typing.proofs.statements.+statements.Goals as goal

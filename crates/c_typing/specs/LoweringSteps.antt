@@ -1,6 +1,6 @@
--- No assertion stands in an expression: so it is in a tree without faults.
+-- The steps from a tree without faults to its program: what each takes, and what it makes. (No assertion stands in an expression there.)
 use Rattle.std.specs.Prelude.{◌≡◌, ℕ, ◌+◌, ◌≤◌, length, List, [], ◌∷◌, Option, Some, None}
-use Rattle.c_tree.specs.SourceTree.{ExpressionTree, SimpleStatement, set, change, add_one, subtract_one, call_statement, ForInit, no_init, declaring, starting, StatementTree, block, empty, declare, simple, if_then, if_else, while_loop, do_while, for_loop, break, continue, return, StatementTrees, no_statements, statement, ProcedureTree}
+use Rattle.c_tree.specs.SourceTree.{SimpleStatement, set, change, add_one, subtract_one, call_statement, ForInit, no_init, declaring, starting, StatementTree, block, empty, declare, simple, if_then, if_else, while_loop, do_while, for_loop, break, continue, return, StatementTrees, no_statements, statement, ProcedureTree}
 use Rattle.c_tree.specs.declared.tree.Pos.{Pos}
 use Rattle.c_tree.specs.declared.tree.AssertPlace.{AssertPlace}
 use Rattle.c_tree.specs.Syntax as program
