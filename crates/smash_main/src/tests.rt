@@ -140,6 +140,19 @@ fn answers_replays(rt: HostRuntime) -> Result<(), Fail> {
             2,
             "fuel 3 spent\n",
         ),
+        // a statement and a literal
+        (
+            "replay|--fuel=2|[]",
+            "int main(){ return 5; }",
+            0,
+            "returned 5, inputs used 0\n",
+        ),
+        (
+            "replay|[]|--fuel=1",
+            "int main(){ return 5; }",
+            2,
+            "fuel 1 spent\n",
+        ),
         (
             "replay|[]",
             "int main(){ return }",
