@@ -4,7 +4,7 @@ ghost use Rattle.std.specs.Prelude.{◌≡◌, ◌+◌, ◌<◌, ◌≤◌, true
 ghost use Rattle.std.proofs.Common.{drop};
 ghost use Rattle.c_lexer.specs.declared.token.TokenKind.TheVariants as kind;
 ghost use Rattle.c_lexer.specs.declared.token.Punct.TheVariants as punct;
-ghost use Rattle.c_lexer.specs.Pure.{pure_token};
+ghost use Rattle.c_lexer.specs.Pure.{PureToken, pure_token};
 ghost use Rattle.c_tree.specs.SourceView.{statement_tree_of, statement_trees_of, init_of, optional_tree, optional_simple};
 ghost use Rattle.c_parser.specs.Grammar as grammar;
 ghost use Rattle.c_parser.specs.Machine as machine;
@@ -130,7 +130,7 @@ fn opened(
     match opening {
         Opening::Block => block(source, next, nesting),
         Opening::Empty => Ok((StmtTree::Empty, next)),
-        Opening::Simple => simple_statement(source, at, token),
+        Opening::Simple => simple_statement(source, at),
         Opening::If => if_statement(source, next, nesting),
         Opening::While => while_statement(source, next, nesting),
         Opening::Do => do_statement(source, next, nesting),
@@ -142,12 +142,10 @@ fn opened(
 }
 
 /// A simple statement and its semicolon.
-fn simple_statement(source: &Source, at: usize, token: Token) -> Result<(StmtTree, usize), Fault>
-    requires { Stands (text_of source.now) at (pure_token source.now.bytes.now token) }
-    ensures ok { IfOk result (λ r. ReadsAlone (text_of source.now) at (pure_token source.now.bytes.now token) (statement_tree_of r.0) r.1) }
-    ensures err { IfErr result (FailsAlone (text_of source.now) at (pure_token source.now.bytes.now token)) }
+fn simple_statement(source: &Source, at: usize) -> Result<(StmtTree, usize), Fault>
+    ensures ok { (t : PureToken) → Stands (text_of source.now) at t → IfOk result (λ r. ReadsAlone (text_of source.now) at t (statement_tree_of r.0) r.1) }
+    ensures err { (t : PureToken) → Stands (text_of source.now) at t → IfErr result (FailsAlone (text_of source.now) at t) }
 {
-    let _ = token;
     let (inner, end) = simple(source, at)?;
     let next = expect(source, end, Punct::Semicolon)?;
     Ok((made::simple(inner), next))

@@ -1,4 +1,4 @@
-use Rattle.c_parser.proofs.SourceRows.{source_block_of}
+use Rattle.c_tree.proofs.SourceRows.{source_block_of}
 use Rattle.c_parser.proofs.made.block.Goals as goal
 
 pub returns : goal.returns

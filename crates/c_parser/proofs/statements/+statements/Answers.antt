@@ -1,4 +1,4 @@
-use Rattle.std.proofs.Common.{◌≡◌, ◌∙◌, ap, sym, subst, drop, map, ◌+◌, ◌<◌, ◌≤◌, refl, Some, arith}
+use Rattle.std.proofs.Common.{true, false, ◌≡◌, ◌∙◌, ap, sym, subst, drop, map, ◌+◌, ◌<◌, ◌≤◌, refl, Some, arith}
 use Rattle.std.proofs.lemmas.Result.{err_from_is_err_and}
 use Rattle.c_lexer.specs.Pure.{pure_token}
 use Rattle.c_tree.specs.SourceTree as tree
@@ -8,7 +8,7 @@ use Rattle.c_parser.specs.Grammar.{takes_else}
 use Rattle.c_parser.specs.Machine.{Returning, ForTesting, ForTest, ForStep, ForBody, Start, Done, Doing, DoTest, First, Step, Alone, InFor, InBlock, Within, Room, room, inner, also_statement, limited}
 use Rattle.c_parser.specs.Parsing.{text_of, Tells}
 use Rattle.c_parser.proofs.StepsStatements.{limited-returned, limited-for_test, ends_returning, ends_for_testing, simple_first, simple_step, simple_ends, simple_misses, first_turn, alone_turn, ending_misses, do_turn, block_end, declaration_turn, declaration_end, statements_of-push, opened_turn, opened_deep, not_opened}
-use Rattle.c_parser.specs.ParsingStatements.{ReadsOpened, FailsOpened, ReadsStatement, FailsStatement}
+use Rattle.c_parser.specs.ParsingStatements.{ReadsAlone, FailsAlone, ReadsOpened, FailsOpened, ReadsStatement, FailsStatement}
 use Rattle.c_parser.proofs.Steps.{if_ok, if_err}
 use Rattle.c_parser.proofs.StepsStatements.{statement_reads, statement_fails}
 use Rattle.c_parser.proofs.statements.+statements.Goals as goal
@@ -89,3 +89,24 @@ statement-returns-clause-err t c =
     if_err (FailsOpened ts c.args.at c.args.nesting x o) (FailsStatement ts c.args.at c.args.nesting) c.opened.result
     (λ f h. statement_fails ts c.args.at c.args.nesting x o f c.in-Some.ensures.some (sym c.opening_of.ensures ∙ c.in-Some-opening_of.is) (sym c.is_deep.ensures ∙ c.if-is_deep.false) h)
     c.opened.ensures.err
+
+pub opened-returns-in-Simple-clause-ok : goal.opened-returns-in-Simple-clause-ok
+opened-returns-in-Simple-clause-ok t c =
+    let ts = text_of c.args.source.now in
+    let x = pure_token c.args.source.now.bytes.now c.args.token in
+    if_ok (λ r. ReadsAlone ts c.args.at x (statement_tree_of r.0) r.1) (λ r. ReadsOpened ts c.args.at c.args.nesting x c.args.opening (statement_tree_of r.0) r.1) c.simple_statement.result
+    (λ r h. subst (λ o. ReadsOpened ts c.args.at c.args.nesting x o (statement_tree_of r.0) r.1) (sym c.in-Simple.is) record {
+      later = h.later;
+      within = h.within;
+      leads = λ fs q. h.leads fs;
+      ends = λ z. absurd (let e : true ≡ false = sym z ∙ h.ends in cc);
+    })
+    (c.simple_statement.ensures.ok x c.requires.stands)
+
+pub opened-returns-in-Simple-clause-err : goal.opened-returns-in-Simple-clause-err
+opened-returns-in-Simple-clause-err t c =
+    let ts = text_of c.args.source.now in
+    let x = pure_token c.args.source.now.bytes.now c.args.token in
+    if_err (FailsAlone ts c.args.at x) (FailsOpened ts c.args.at c.args.nesting x c.args.opening) c.simple_statement.result
+    (λ f h. subst (λ o. FailsOpened ts c.args.at c.args.nesting x o f) (sym c.in-Simple.is) (λ fs q. h fs))
+    (c.simple_statement.ensures.err x c.requires.stands)
