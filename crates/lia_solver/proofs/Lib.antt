@@ -1,0 +1,14 @@
+pub mod NamedColumns
+pub mod Listed
+pub mod Bounding
+pub mod Bests
+pub mod Meets
+pub mod Splitting
+pub mod Choosing
+pub mod Starting
+pub mod Closing
+pub mod Sides
+pub mod Solving
+pub mod Asking
+pub mod Branching
+pub mod Settling

@@ -1,0 +1,16 @@
+-- What the question of one atom comes to.
+use Rattle.std.specs.Prelude.{List}
+use Rattle.linear_formula.specs.LinearSum.{valuation}
+use Rattle.linear_formula.specs.Formula.{HoldsAll}
+use Rattle.linear_formula.specs.declared.formula.Atom.{Atom}
+use Rattle.infeasible_cert.specs.Refutation.{refutation_of}
+use Rattle.infeasible_cert.specs.Right.{Refutes}
+use Rattle.lia_solver.specs.declared.entails.Answer.{Answer}
+use Rattle.lia_solver.specs.declared.entails.Answer.TheVariants.{Never, Point, Limit}
+use Rattle.lia_solver.specs.Entailment.{with_negation, IsEntailed, IsPointOf, IsLimitOf}
+
+abbrev pub IsAnswerTo : List Atom → Atom → Answer → Type 0
+IsAnswerTo left atom (Never certificate) =
+    IsEntailed left atom × Refutes (with_negation left atom) (refutation_of certificate)
+IsAnswerTo left atom (Point at) = IsPointOf left at atom × HoldsAll (valuation at) (with_negation left atom)
+IsAnswerTo left atom (Limit kept) = IsLimitOf left kept atom

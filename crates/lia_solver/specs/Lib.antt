@@ -1,0 +1,9 @@
+pub mod Answers
+pub mod Branches
+pub mod Choices
+pub mod Entailment
+pub mod Numbers
+pub mod Searches
+pub mod Asked
+pub mod Further
+pub mod Settling

@@ -1,0 +1,99 @@
+//! Whether one cube entails another.
+
+ghost use Rattle.std.specs.Prelude.{◌≡◌, ◌++◌, ◌∷◌, [], List, IfOk, IsTrue};
+ghost use Rattle.linear_formula.specs.LinearSum.{Valuation, Is64, valuation, is_within};
+ghost use Rattle.linear_formula.specs.Formula.{HoldsAll};
+ghost use Rattle.linear_formula.specs.Results.{negated};
+ghost use Rattle.linear_formula.specs.declared.formula.Atom.{Atom};
+ghost use Rattle.lia_solver.specs.Asked.{IsAnswerTo};
+ghost use Rattle.lia_solver.specs.Further.{IsMeant};
+ghost use Rattle.lia_solver.specs.Entailment.{AreEntailed, RefuteEach, StopsAt, IsPointOf, IsLimitOf, IfYes, IfNo, IfLimit};
+
+use crate::solve::solve;
+use crate::solved::{Certificates, Entailed, Solved};
+use infeasible_cert::certificate::Certificate;
+use linear_formula::assignment::Assignment;
+use linear_formula::error::{LinError, OutOfMemory};
+use linear_formula::formula::{Atom, Atoms, Cube};
+use linear_formula::question::{Question, Summands};
+use shadow_elim::limit::{Kept, Limit};
+use std::alloc::{AllocError, Global};
+
+/// What an atom's question comes to.
+enum Answer {
+    Never(Certificate),
+    Point(Assignment),
+    Limit(Kept),
+}
+
+/// The left cube's atoms and the negated atom.
+fn question(alloc: Global, left: &Cube, negated: Atom) -> Result<Cube, OutOfMemory>
+    ensures { IfOk result (λ cube. cube.atoms ≡ left.now.atoms ++ negated ∷ []) }
+{
+    let old = left.atoms.as_slice();
+    let mut atoms = Vec::with_capacity(alloc, old.len() + 1)?;
+    for atom in old {
+        atoms.push(atom.copy(alloc)?)?;
+    }
+    atoms.push(negated)?;
+    Ok(Cube {
+        atoms: Atoms::from_vec(atoms),
+    })
+}
+
+/// The sum that negates the atom, which is too wide.
+fn wide(alloc: Global, atom: &Atom) -> Result<Kept, OutOfMemory>
+    requires { ¬ IsTrue (is_within (negated atom.now.term)) }
+    ensures { IfOk result (λ kept. (left : List Atom) → IsLimitOf left kept atom.now) }
+{
+    let summands = vec![in alloc; (-1, atom.term.copy(alloc)?)]?;
+    let question = Question::Combine(Summands::from_vec(summands), 1);
+    let branch = question.copy(alloc)?;
+    Ok(Kept {
+        question,
+        limit: Limit::Wide { branch },
+    })
+}
+
+fn ask(alloc: Global, left: &Cube, atom: &Atom) -> Result<Answer, OutOfMemory>
+    ensures answer { IfOk result (λ a. IsAnswerTo left.now.atoms atom.now a) }
+    ensures meant { IfOk result (λ a. IsMeant left.now.atoms atom.now a) }
+{
+    let mut negated = atom.copy(alloc)?;
+    if negated.negate().is_err() {
+        return Ok(Answer::Limit(wide(alloc, atom)?));
+    }
+    let cube = question(alloc, left, negated)?;
+    match solve(alloc, &cube)? {
+        Solved::Never(certificate) => Ok(Answer::Never(certificate)),
+        Solved::Point(at) => Ok(Answer::Point(at)),
+        Solved::Limit(limit) => Ok(Answer::Limit(Kept {
+            question: Question::Cube(cube),
+            limit,
+        })),
+    }
+}
+
+/// Whether each assignment that meets the left cube meets the right one. The atoms of the right cube are asked in
+/// order, until one isn't entailed or meets a limit.
+pub fn entails(alloc: Global, left: &Cube, right: &Cube) -> Result<Entailed, OutOfMemory>
+    ensures yes { IfOk result (λ e. IfYes e (λ certificates. RefuteEach left.now.atoms right.now.atoms certificates)) }
+    ensures plan { IfOk result (λ e. IfYes e (λ certificates. AreEntailed left.now.atoms right.now.atoms)) }
+    ensures entailed { IfOk result (λ e. IfYes e (λ certificates. (v : Valuation) → Is64 v → HoldsAll v left.now.atoms →
+        HoldsAll v right.now.atoms)) }
+    ensures left { IfOk result (λ e. IfNo e (λ at. HoldsAll (valuation at) left.now.atoms)) }
+    ensures right { IfOk result (λ e. IfNo e (λ at. ¬ HoldsAll (valuation at) right.now.atoms)) }
+    ensures first_no { IfOk result (λ e. IfNo e (λ at. StopsAt left.now.atoms right.now.atoms (IsPointOf left.now.atoms at))) }
+    ensures first_limit { IfOk result
+        (λ e. IfLimit e (λ kept. StopsAt left.now.atoms right.now.atoms (IsLimitOf left.now.atoms kept))) }
+{
+    let mut certificates = Vec::new(alloc);
+    for atom in right.atoms.as_slice() {
+        match ask(alloc, left, atom)? {
+            Answer::Never(certificate) => certificates.push(certificate)?,
+            Answer::Point(at) => return Ok(Entailed::No(at)),
+            Answer::Limit(kept) => return Ok(Entailed::Limit(kept)),
+        }
+    }
+    Ok(Entailed::Yes(Certificates::from_vec(certificates)))
+}

@@ -1,0 +1,159 @@
+//! The search of branches.
+
+ghost use Rattle.std.specs.Prelude.{◌≡◌, [], ◌<ℤ◌, pos, take, drop, Contains, IfOk};
+ghost use Rattle.shadow_elim.specs.Points.{split};
+ghost use Rattle.shadow_elim.specs.Plan.{search, with_row, outcome_of};
+ghost use Rattle.lia_solver.specs.Branches.{planned, IsRightOutcome, IsSearched};
+ghost use Rattle.lia_solver.specs.declared.search.Searched.TheVariants as searched;
+ghost use Rattle.lia_solver.specs.declared.solved.Solved.TheVariants as solved;
+ghost use Rattle.lia_solver.specs.Further.{AreOutcomeTerms, AreSearchedTerms, IsAnswered};
+ghost use Rattle.lia_solver.specs.Searches.{IsSearchable};
+
+use crate::branch::{BranchOutcome, solve_branch};
+use crate::solved::Solved;
+use infeasible_cert::certificate::Certificate;
+use linear_formula::error::OutOfMemory;
+use linear_formula::formula::{Atom, Atoms, Cube};
+use linear_formula::question::Question;
+use linear_formula::term::Term;
+use shadow_elim::limit::{Cubes, Limit};
+use shadow_elim::row::single_term;
+use std::alloc::Global;
+use std::mem;
+
+/// How many splits a question may have.
+pub const MAX_SPLITS: u32 = 512;
+
+/// A branch is over with an answer to the question, or nothing is in it.
+#[derive(Drop)]
+pub enum Searched {
+    Answer(Solved),
+    Nothing(Certificate),
+}
+
+/// The search of one question: how many atoms it has, its columns, and the cubes that were split so far.
+#[derive(Drop)]
+pub struct Search {
+    alloc: Global,
+    atoms: usize,
+    columns: Vec<u32>,
+    splits: Vec<Cube>,
+}
+
+/// The cube with one more row.
+fn with_row(alloc: Global, cube: &Cube, term: Term) -> Result<Cube, OutOfMemory>
+    ensures { IfOk result (λ branch. branch.atoms ≡ with_row cube.now.atoms term) }
+{
+    let old = cube.atoms.as_slice();
+    let mut atoms = Vec::with_capacity(alloc, old.len() + 1)?;
+    for atom in old {
+        atoms.push(atom.copy(alloc)?)?;
+    }
+    atoms.push(Atom { term })?;
+    Ok(Cube {
+        atoms: Atoms::from_vec(atoms),
+    })
+}
+
+impl Search {
+    pub fn new(alloc: Global, atoms: usize, columns: Vec<u32>) -> Search
+        ensures atoms { result.atoms ≡ atoms }
+        ensures columns { result.columns.items ≡ columns.items }
+        ensures splits { result.splits.items ≡ [] }
+    {
+        Search {
+            alloc,
+            atoms,
+            columns,
+            splits: Vec::new(alloc),
+        }
+    }
+
+    fn outcome(&self, cube: &Cube) -> Result<BranchOutcome, OutOfMemory>
+        requires branch { IsSearchable self.now cube.now.atoms }
+        ensures plan { IfOk result (λ o. outcome_of cube.now.atoms ≡ planned o) }
+        ensures right { IfOk result
+            (λ o. IsRightOutcome (take self.now.atoms cube.now.atoms) (drop self.now.atoms cube.now.atoms) o) }
+        ensures terms { IfOk result (λ o. AreOutcomeTerms o) }
+    {
+        let (question, splits) = cube.atoms.as_slice().split_at(self.atoms);
+        solve_branch(self.alloc, question, splits, &self.columns)
+    }
+
+    /// Searches a branch whose splits may nest so deep.
+    #[cycle(search)]
+    pub fn branch(&mut self, cube: Cube, depth: u32) -> Result<Searched, OutOfMemory>
+        requires { IsSearchable self.old cube.atoms }
+        ensures searched { IfOk result
+            (λ s. IsSearched (take self.old.atoms cube.atoms) (drop self.old.atoms cube.atoms) depth self.new.splits.items
+            (search depth self.old.splits.items cube.atoms) s) }
+        ensures terms { IfOk result (λ s. AreSearchedTerms s) }
+        ensures answered { IfOk result (λ s. IsAnswered s) }
+        ensures atoms { self.new.atoms ≡ self.old.atoms }
+        ensures columns { self.new.columns.items ≡ self.old.columns.items }
+    {
+        match self.outcome(&cube)? {
+            BranchOutcome::Point(at) => Ok(Searched::Answer(Solved::Point(at))),
+            BranchOutcome::Refuted(rows) => Ok(Searched::Nothing(Certificate::Close(rows))),
+            BranchOutcome::Wide => Ok(limited(Limit::Wide {
+                branch: Question::Cube(cube),
+            })),
+            BranchOutcome::Rows => Ok(limited(Limit::Rows { branch: cube })),
+            BranchOutcome::Split { column, at } => self.split(cube, depth, column, at),
+        }
+    }
+
+    /// Searches the side at most `at`, and then the side at least `at + 1`.
+    #[cycle(search)]
+    fn split(
+        &mut self,
+        cube: Cube,
+        depth: u32,
+        column: u32,
+        at: i64,
+    ) -> Result<Searched, OutOfMemory>
+        requires branch { IsSearchable self.old cube.atoms }
+        requires plan { outcome_of cube.atoms ≡ split column at }
+        requires sides { at <ℤ pos 9223372036854775807 }
+        requires column { Contains self.old.columns.items column }
+        ensures searched { IfOk result
+            (λ s. IsSearched (take self.old.atoms cube.atoms) (drop self.old.atoms cube.atoms) depth self.new.splits.items
+            (search depth self.old.splits.items cube.atoms) s) }
+        ensures terms { IfOk result (λ s. AreSearchedTerms s) }
+        ensures answered { IfOk result (λ s. IsAnswered s) }
+        ensures atoms { self.new.atoms ≡ self.old.atoms }
+        ensures columns { self.new.columns.items ≡ self.old.columns.items }
+    {
+        if depth == 0 || self.splits.len() >= MAX_SPLITS as usize {
+            let branches = mem::replace(&mut self.splits, Vec::new(self.alloc));
+            return Ok(limited(Limit::Branches {
+                branches: Cubes::from_vec(branches),
+            }));
+        }
+        let below = single_term(self.alloc, column, 1, -i128::from(at))?;
+        let beyond = single_term(self.alloc, column, -1, i128::from(at) + 1)?;
+        let low = with_row(self.alloc, &cube, below)?;
+        let high = with_row(self.alloc, &cube, beyond)?;
+        self.splits.push(cube)?;
+        let low = match self.branch(low, depth - 1)? {
+            Searched::Nothing(certificate) => certificate,
+            answer => return Ok(answer),
+        };
+        match self.branch(high, depth - 1)? {
+            Searched::Nothing(high) => Ok(Searched::Nothing(Certificate::Branch {
+                rows: Vec::new(self.alloc),
+                column,
+                at,
+                low: Box::new(self.alloc, low)?,
+                high: Box::new(self.alloc, high)?,
+            })),
+            answer => Ok(answer),
+        }
+    }
+}
+
+fn limited(limit: Limit) -> Searched
+    ensures { result ≡ searched.Answer (solved.Limit limit) }
+{
+    Searched::Answer(Solved::Limit(limit))
+}

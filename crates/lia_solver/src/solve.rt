@@ -1,0 +1,49 @@
+//! Whether a cube has a point.
+
+ghost use Rattle.std.specs.Prelude.{IfOk, IsTrue};
+ghost use Rattle.linear_formula.specs.LinearSum.{Valuation, Is64, valuation};
+ghost use Rattle.linear_formula.specs.Formula.{HoldsAll, are_terms};
+ghost use Rattle.infeasible_cert.specs.Refutation.{refutation_of};
+ghost use Rattle.infeasible_cert.specs.Right.{Refutes};
+ghost use Rattle.shadow_elim.specs.Plan.{solution};
+ghost use Rattle.lia_solver.specs.Answers.{IsAnswer, IfPoint, IfNever};
+
+use crate::columns::columns_of;
+use crate::search::{MAX_SPLITS, Search, Searched};
+use crate::solved::Solved;
+use linear_formula::error::OutOfMemory;
+use linear_formula::formula::{Atom, Cube};
+use shadow_elim::limit::Limit;
+use std::alloc::Global;
+
+/// How many columns a cube may name.
+const MAX_COLUMNS: usize = 256;
+
+/// What is known of a cube's atoms, for the proof.
+fn know_terms(atoms: &[Atom])
+    ensures { IsTrue (are_terms atoms.now) }
+{
+    for atom in atoms {
+        let _ = atom.term.parts();
+    }
+}
+
+/// A point of the cube, a certificate that it has none, or the limit that was met.
+pub fn solve(alloc: Global, cube: &Cube) -> Result<Solved, OutOfMemory>
+    ensures plan { IfOk result (λ s. IsAnswer (solution cube.now.atoms) s) }
+    ensures point { IfOk result (λ s. IfPoint s (λ at. HoldsAll (valuation at) cube.now.atoms)) }
+    ensures never { IfOk result (λ s. IfNever s (λ c. Refutes cube.now.atoms (refutation_of c))) }
+    ensures sound { IfOk result (λ s. IfNever s (λ c. (v : Valuation) → Is64 v → HoldsAll v cube.now.atoms → ⊥)) }
+{
+    let atoms = cube.atoms.as_slice();
+    know_terms(atoms);
+    let columns = columns_of(alloc, atoms)?;
+    if columns.len() > MAX_COLUMNS {
+        return Ok(Solved::Limit(Limit::Columns));
+    }
+    let mut search = Search::new(alloc, atoms.len(), columns);
+    match search.branch(cube.copy(alloc)?, MAX_SPLITS)? {
+        Searched::Answer(solved) => Ok(solved),
+        Searched::Nothing(certificate) => Ok(Solved::Never(certificate)),
+    }
+}
