@@ -9,6 +9,7 @@ use linear_formula::assignment::{Assignment, Values};
 use linear_formula::error::LinError;
 use linear_formula::formula::{Atom, Atoms, Cube};
 use linear_formula::term::{Parts, Term};
+use shadow_elim::eliminate::eliminate;
 use shadow_elim::limit::Limit;
 use std::alloc::Global;
 use std::test::Fail;
@@ -179,6 +180,35 @@ fn agrees_with_small_boxes(rt: HostRuntime) -> Result<(), Fail> {
                 assert!(rt; !expected && refutes(&cube, &certificate));
             }
             Solved::Limit(_) => return Err(Fail::from("a limit")),
+        }
+    }
+    Ok(())
+}
+
+/// Whether the cube holds with this value of column 1 and some value of column 0.
+fn has_point_at(alloc: Global, cube: &Cube, y: i64) -> Result<bool, LinError> {
+    for x in -3..4 {
+        let values = vec![in alloc; (0, x), (1, y)]?;
+        if cube.holds(&Assignment::new(Values::from_vec(values))) {
+            return Ok(true);
+        }
+    }
+    Ok(false)
+}
+
+#[test]
+fn shadows_agree_with_small_boxes(rt: HostRuntime) -> Result<(), Fail> {
+    let alloc = rt.alloc();
+    let mut seed = 2;
+    for _ in 0..40 {
+        let cube = small_cube(alloc, &mut seed)?;
+        let pre = eliminate(alloc, &cube, &[0])?.pre;
+        for y in -4..5 {
+            let expected = has_point_at(alloc, &cube, y)?;
+            let values = vec![in alloc; (1, y)]?;
+            let holds = pre.cube.holds(&Assignment::new(Values::from_vec(values)));
+            assert!(rt; holds || !expected);
+            assert!(rt; expected || !holds || pre.inexact.is_some());
         }
     }
     Ok(())
