@@ -40,7 +40,11 @@ fn is_closed(certificate: &Certificate) -> bool {
     match certificate {
         Certificate::Close(rows) => {
             match rows.last() {
-                Some(last) => last.row.term.parts().is_empty() && last.row.term.constant() == 1,
+                Some(last) => {
+                    rows.len() == 1
+                        && last.row.term.parts().is_empty()
+                        && last.row.term.constant() == 1
+                }
                 None => false,
             }
         }
