@@ -1,5 +1,5 @@
 -- Steps with new numbers, where only some of the steps are kept.
-use Rattle.std.specs.Prelude.{◌≡◌, ℕ, ◌+◌, ◌-◌, ◌<◌, nat_lt, Option, Some, None, List, [], ◌∷◌, length, get_or, ℤ, if◌then◌else◌}
+use Rattle.std.specs.Prelude.{◌≡◌, ℕ, ◌-◌, ◌<◌, nat_lt, Option, Some, None, List, [], ◌∷◌, length, get_or, ℤ, if◌then◌else◌}
 use Rattle.linear_formula.specs.LinearSum.{LinearSum}
 use Rattle.infeasible_cert.specs.declared.certificate.Derived.{Derived}
 use Rattle.infeasible_cert.specs.Right.{row_at, rows_after, IsRightStep, AreRightSteps}

@@ -1,4 +1,4 @@
-use Rattle.std.proofs.Common.{◌≡◌, ◌+◌, List, [], ◌∷◌, ◌++◌, length, Option, Some, None, arith, sym, ap, subst, ◌∙◌}
+use Rattle.std.proofs.Common.{◌≡◌, ◌+◌, List, [], ◌∷◌, ◌++◌, length, Option, arith, sym, subst}
 use Rattle.infeasible_cert.specs.declared.certificate.Derived.{Derived}
 use Rattle.lia_solver.specs.Pruned.{IsRenamed, IsKept}
 use Rattle.lia_solver.proofs.Pruning.{kept-none, kept-more}

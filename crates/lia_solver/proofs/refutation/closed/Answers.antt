@@ -1,5 +1,4 @@
-use Rattle.std.proofs.Common.{◌≡◌, ◌<◌, List, [], length, arith, sym, ap, subst, ◌∙◌}
-use Rattle.linear_formula.specs.LinearSum.{LinearSum}
+use Rattle.std.proofs.Common.{◌≡◌, ◌<◌, List, [], length, arith, sym, subst, ◌∙◌}
 use Rattle.infeasible_cert.specs.declared.certificate.Derived.{Derived}
 use Rattle.infeasible_cert.specs.Right.{row_at, rows_after, AreRightSteps}
 use Rattle.lia_solver.proofs.Pruning.{given-row}

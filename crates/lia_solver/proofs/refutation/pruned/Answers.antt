@@ -1,11 +1,11 @@
-use Rattle.std.proofs.Common.{◌≡◌, ℕ, ◌+◌, ◌<◌, List, [], ◌∷◌, ◌++◌, length, get_or, Option, arith, sym, ap, subst, ◌∙◌}
+use Rattle.std.proofs.Common.{◌≡◌, ℕ, ◌+◌, List, [], ◌∷◌, ◌++◌, length, Option, arith, sym, ap, subst}
 use Rattle.std.proofs.lemmas.Result.{IfOk-weaker}
 use Rattle.std.proofs.lemmas.Option.{IfSome_then}
 use Rattle.linear_formula.specs.LinearSum.{LinearSum}
 use Rattle.infeasible_cert.specs.declared.certificate.Derived.{Derived}
 use Rattle.infeasible_cert.specs.Right.{row_at, rows_after, AreRightSteps, EndsInContradiction}
-use Rattle.lia_solver.specs.Pruned.{IsRenamed, IsStepAt, IsKept}
-use Rattle.lia_solver.proofs.Pruning.{kept-first, kept-last, step-at, placed-step}
+use Rattle.lia_solver.specs.Pruned.{IsRenamed, IsKept}
+use Rattle.lia_solver.proofs.Pruning.{kept-first, kept-last, placed-step}
 use Rattle.lia_solver.proofs.refutation.pruned.Goals as goal
 
 abbrev IsEnded : ℕ → List (Option ℕ) → List Derived → Derived → List Derived → Type 0

@@ -1,4 +1,4 @@
-use Rattle.std.proofs.Common.{◌≡◌, List, [], ◌∷◌, ◌++◌, length, drop, ℕ, ℤ, arith, sym, ap, subst, ◌∙◌}
+use Rattle.std.proofs.Common.{◌≡◌, List, [], drop, ℕ, ℤ, arith, sym, subst}
 use Rattle.std.proofs.lemmas.List.{append-nil, drop_all}
 use Rattle.lia_solver.specs.Pruned.{AreRenumbered}
 use Rattle.lia_solver.proofs.refutation.renumbered.Goals as goal
