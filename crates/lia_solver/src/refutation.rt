@@ -1,6 +1,6 @@
 //! Derived rows that end in a contradiction.
 
-ghost use Rattle.std.specs.Prelude.{◌≡◌, ◌<◌, ◌+◌, ◌++◌, ◌∷◌, [], List, length, find, option_map, IfOk, IfSome, OnOk, IsTrue};
+ghost use Rattle.std.specs.Prelude.{◌≡◌, ◌<◌, ◌+◌, ◌++◌, ◌∷◌, [], List, length, find, option_map, IfOk, IfSome, OnOk, IsTrue, true, false, slice_set, slice_index_or};
 ghost use Rattle.linear_formula.specs.LinearSum.{LinearSum, is_term};
 ghost use Rattle.infeasible_cert.specs.Right.{row_at, rows_after, AreRightSteps, EndsInContradiction};
 ghost use Rattle.infeasible_cert.specs.Terms.{AreDerivedTerms};
@@ -56,6 +56,21 @@ fn repeated(alloc: Global, steps: Vec<Derived>, row: &Row) -> Result<Vec<Derived
     Ok(steps)
 }
 
+/// Marks the step at `place`, if there is one.
+fn mark_one(marks: &mut [bool], place: usize)
+    ensures { marks.new ≡ slice_set marks.old place true }
+{
+    if place < marks.len() {
+        marks[place] = true;
+    }
+}
+
+fn is_marked(marks: &[bool], place: usize) -> bool
+    ensures { result ≡ slice_index_or marks.now place false }
+{
+    place < marks.len() && marks[place]
+}
+
 /// Marks the steps that parts name.
 fn mark(marks: &mut [bool], parts: &[(u32, i64)], first: u32) {
     for (number, _) in parts {
@@ -63,16 +78,6 @@ fn mark(marks: &mut [bool], parts: &[(u32, i64)], first: u32) {
             mark_one(marks, (*number - first) as usize);
         }
     }
-}
-
-fn mark_one(marks: &mut [bool], place: usize) {
-    if place < marks.len() {
-        marks[place] = true;
-    }
-}
-
-fn is_marked(marks: &[bool], place: usize) -> bool {
-    place < marks.len() && marks[place]
 }
 
 /// Which steps the one at `last` needs, itself and those that needed steps name.

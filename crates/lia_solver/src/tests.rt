@@ -77,6 +77,27 @@ fn splits_at_the_floor(rt: HostRuntime) -> Result<(), Fail> {
 }
 
 #[test]
+fn keeps_only_needed_rows(rt: HostRuntime) -> Result<(), Fail> {
+    let alloc = rt.alloc();
+    let rows: [Row; 4] = [
+        (&[(1, 0), (-1, 1)], 0),
+        (&[(1, 1), (-1, 2)], 0),
+        (&[(1, 2), (-1, 0)], 1),
+        (&[(1, 0), (1, 1), (1, 2)], 0),
+    ];
+    let cube = cube_of(alloc, &rows)?;
+    let Solved::Never(certificate) = solve(alloc, &cube)? else {
+        return Err(Fail::from("not refuted"));
+    };
+    assert!(rt; refutes(&cube, &certificate));
+    let Certificate::Close(rows) = &certificate else {
+        return Err(Fail::from("not closed"));
+    };
+    assert_eq!(rt; rows.len(), 2);
+    Ok(())
+}
+
+#[test]
 fn finds_points(rt: HostRuntime) -> Result<(), Fail> {
     let alloc = rt.alloc();
     let rows: [Row; 2] = [(&[(1, 0)], -3), (&[(-1, 0)], 3)];
