@@ -10,7 +10,6 @@ use Rattle.linear_formula.proofs.Ring.{one-mul}
 use Rattle.linear_formula.proofs.Values.{chosen_of_two}
 use Rattle.infeasible_cert.specs.declared.certificate.Derived.{Derived}
 use Rattle.infeasible_cert.specs.Right.{row_at, rows_after, Is128, FitsAlong, IsRightStep, AreRightSteps, EndsInContradiction}
-use Rattle.infeasible_cert.specs.Terms.{AreDerivedTerms}
 use Rattle.shadow_elim.specs.Reduction.{has_no_parts, is_contradiction}
 use Rattle.shadow_elim.proofs.Staying.{same_parts-decides}
 
@@ -108,11 +107,11 @@ once-right rows n t h e term never =
       rounded = (omega (arith, ints, same, one-mul t.constant), omega (arith, ints, same, one-mul t.constant));
     }
 
-right-more : (base : List LinearSum) (ds : List Derived) (d : Derived) → AreRightSteps base ds → IsRightStep (rows_after base ds) d → AreRightSteps base (ds ++ d ∷ [])
+pub right-more : (base : List LinearSum) (ds : List Derived) (d : Derived) → AreRightSteps base ds → IsRightStep (rows_after base ds) d → AreRightSteps base (ds ++ d ∷ [])
 right-more base [] d h k = (k, tt)
 right-more base (e ∷ ds) d h k = (h.0, right-more (base ++ e.row.term ∷ []) ds d h.1 k)
 
-ends-last : (ds : List Derived) (d : Derived) → (d.row.term.parts ≡ []) × (pos 1 ≤ℤ d.row.term.constant) → EndsInContradiction (ds ++ d ∷ [])
+pub ends-last : (ds : List Derived) (d : Derived) → (d.row.term.parts ≡ []) × (pos 1 ≤ℤ d.row.term.constant) → EndsInContradiction (ds ++ d ∷ [])
 ends-last [] d h = h
 ends-last (e ∷ []) d h = h
 ends-last (e ∷ f ∷ ds) d h = ends-last (f ∷ ds) d h
@@ -122,7 +121,3 @@ pub closed-right : (base : List LinearSum) (ds : List Derived) (n : ℕ) (t : Li
 closed-right base ds n t term c h k e =
     let never = contradiction-is t c in
     (right-more base ds (once n t) h (once-right (rows_after base ds) n t k e term never), ends-last ds (once n t) (never.parts, never.constant))
-
-pub terms-more : (ds : List Derived) (d : Derived) → AreDerivedTerms ds → IsTrue (is_term d.row.term) → AreDerivedTerms (ds ++ d ∷ [])
-terms-more [] d h k = (k, tt)
-terms-more (e ∷ ds) d h k = (h.0, terms-more ds d h.1 k)

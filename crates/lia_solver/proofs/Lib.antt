@@ -12,3 +12,4 @@ pub mod Solving
 pub mod Asking
 pub mod Branching
 pub mod Settling
+pub mod Pruning

@@ -7,3 +7,4 @@ pub mod Searches
 pub mod Asked
 pub mod Further
 pub mod Settling
+pub mod Pruned

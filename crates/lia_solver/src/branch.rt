@@ -102,11 +102,15 @@ fn numbered_rows(
 }
 
 /// What the rows that are left and the stages say.
-fn settled(alloc: Global, elimination: Elimination) -> Result<BranchOutcome, OutOfMemory>
+fn settled(
+    alloc: Global,
+    elimination: Elimination,
+    first: u32,
+) -> Result<BranchOutcome, OutOfMemory>
     requires { (atoms : List Atom) × IsEliminated atoms elimination }
     ensures plan { IfOk result (λ o. (atoms : List Atom) → IsEliminated atoms elimination → outcome_of atoms ≡ planned o) }
     ensures right { IfOk result (λ o. (atoms : List Atom) (base : List LinearSum) → IsEliminated atoms elimination →
-        IsDerived base elimination → IsSettled atoms base o) }
+        length base ≡ first → IsDerived base elimination → IsSettled atoms base o) }
     ensures terms { IfOk result (λ o. AreOutcomeTerms o) }
 {
     let Elimination {
@@ -115,7 +119,7 @@ fn settled(alloc: Global, elimination: Elimination) -> Result<BranchOutcome, Out
         steps,
     } = elimination;
     if let Some(row) = contradiction(&rows) {
-        return Ok(BranchOutcome::Refuted(closed(alloc, steps, row)?));
+        return Ok(BranchOutcome::Refuted(closed(alloc, steps, row, first)?));
     }
     match choose(alloc, &stages)? {
         Choice::Values(values) => Ok(BranchOutcome::Point(Assignment::new(values))),
@@ -152,7 +156,7 @@ pub fn solve_branch(
         return Err(AllocError);
     };
     match eliminate_columns(alloc, columns, rows, first) {
-        Ok(elimination) => settled(alloc, elimination),
+        Ok(elimination) => settled(alloc, elimination, first),
         Err(ShadowError::Wide) => Ok(BranchOutcome::Wide),
         Err(ShadowError::Rows) => Ok(BranchOutcome::Rows),
         Err(ShadowError::Memory) => Err(AllocError),

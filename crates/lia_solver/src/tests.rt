@@ -41,7 +41,11 @@ fn is_closed(certificate: &Certificate) -> bool {
     match certificate {
         Certificate::Close(rows) => {
             match rows.last() {
-                Some(last) => last.row.term.parts().is_empty() && last.row.term.constant() == 1,
+                Some(last) => {
+                    rows.len() == 1
+                        && last.row.term.parts().is_empty()
+                        && last.row.term.constant() == 1
+                }
                 None => false,
             }
         }
@@ -70,6 +74,27 @@ fn splits_at_the_floor(rt: HostRuntime) -> Result<(), Fail> {
     };
     assert!(rt; rows.is_empty() && *column == 0 && *at == 3);
     assert!(rt; is_closed(low) && is_closed(high));
+    Ok(())
+}
+
+#[test]
+fn keeps_only_needed_rows(rt: HostRuntime) -> Result<(), Fail> {
+    let alloc = rt.alloc();
+    let rows: [Row; 4] = [
+        (&[(1, 0), (-1, 1)], 0),
+        (&[(1, 1), (-1, 2)], 0),
+        (&[(1, 2), (-1, 0)], 1),
+        (&[(1, 0), (1, 1), (1, 2)], 0),
+    ];
+    let cube = cube_of(alloc, &rows)?;
+    let Solved::Never(certificate) = solve(alloc, &cube)? else {
+        return Err(Fail::from("not refuted"));
+    };
+    assert!(rt; refutes(&cube, &certificate));
+    let Certificate::Close(rows) = &certificate else {
+        return Err(Fail::from("not closed"));
+    };
+    assert_eq!(rt; rows.len(), 2);
     Ok(())
 }
 

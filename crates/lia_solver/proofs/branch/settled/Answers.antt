@@ -20,10 +20,10 @@ returns-in-Some-clause-plan c = λ atoms h.
     settled-refuted atoms c.args.elimination c.in-Some.row.now h (found-row c.args.elimination.rows.items c.in-Some.row.now (c.in-Some.ensures ∙ ap (find (λ (q : Row). is_contradiction q.term)) c.deref.ensures.value))
 
 pub returns-in-Some-clause-right : goal.returns-in-Some-clause-right
-returns-in-Some-clause-right c = λ atoms base h d.
+returns-in-Some-clause-right c = λ atoms base h size d.
     let f = found-row c.args.elimination.rows.items c.in-Some.row.now (c.in-Some.ensures ∙ ap (find (λ (q : Row). is_contradiction q.term)) c.deref.ensures.value) in
     let at = f.numbered (rows_after base c.args.elimination.steps.items) d.numbers in
-    c.in_ok-closed.ensures.right base d.steps at.0 at.1
+    c.in_ok-closed.ensures.right base size d.steps at.0 at.1
 
 pub choose-requires : goal.choose-requires
 choose-requires c =
@@ -45,7 +45,7 @@ returns-in-Values-clause-plan c = λ atoms h.
     settled-plan atoms e (choice.Values c.in-Values.values) h now ∙ ap chosen (sym c.new.ensures.value)
 
 pub returns-in-Values-clause-right : goal.returns-in-Values-clause-right
-returns-in-Values-clause-right c = λ atoms base h d.
+returns-in-Values-clause-right c = λ atoms base h size d.
     let e = c.args.elimination in
     let none = nothing-found e c.deref.result.now c.deref.ensures.value c.in_default.ensures in
     let now = is-chosen e c.deref-2.result.now c.in_ok-values.field-0 (choice.Values c.in-Values.values) none c.deref-2.ensures.value c.in-Values.is c.in_ok-values.ensures.plan c.in_ok-values.ensures.values c.in_ok-values.ensures.sides in
@@ -60,7 +60,7 @@ returns-clause-plan c = λ atoms h.
     settled-plan atoms e (choice.Split c.in-Split.column c.in-Split.at) h now ∙ ap (split c.in-Split.column) (sym (to_z-of_z fits))
 
 pub returns-clause-right : goal.returns-clause-right
-returns-clause-right c = λ atoms base h d.
+returns-clause-right c = λ atoms base h size d.
     let e = c.args.elimination in
     let none = nothing-found e c.deref.result.now c.deref.ensures.value c.in_default.ensures in
     let now = is-chosen e c.deref-2.result.now c.in_ok-values.field-0 (choice.Split c.in-Split.column c.in-Split.at) none c.deref-2.ensures.value c.in-Split.is c.in_ok-values.ensures.plan c.in_ok-values.ensures.values c.in_ok-values.ensures.sides in

@@ -31,7 +31,7 @@ returns-in-Ok-eliminate_columns-clause-right c =
     let count : length base ≡ c.in-Ok.first = omega (arith, c.in_ok-rows.ensures.count, rows.ok.0, c.in-Ok.ensures, c.len.ensures) in
     let d = c.in-Ok-eliminate_columns.ensures.steps base count c.in_ok-rows.ensures.numbers in
     let derived : IsDerived base e = record { steps = d.0; numbers = d.1 } in
-    IfOk-weaker c.settled.result (λ o. (as_ : List Atom) (ts : List LinearSum) → IsEliminated as_ e → IsDerived ts e → IsSettled as_ ts o) (IsRightOutcome question splits) (λ o h. right-settled question splits o c.requires.branch (h (question ++ splits) base done derived)) c.settled.ensures.right
+    IfOk-weaker c.settled.result (λ o. (as_ : List Atom) (ts : List LinearSum) → IsEliminated as_ e → length ts ≡ c.in-Ok.first → IsDerived ts e → IsSettled as_ ts o) (IsRightOutcome question splits) (λ o h. right-settled question splits o c.requires.branch (h (question ++ splits) base done count derived)) c.settled.ensures.right
 
 pub returns-in-Err-Wide-clause-plan : goal.returns-in-Err-Wide-clause-plan
 returns-in-Err-Wide-clause-plan c =

@@ -1,18 +1,12 @@
-use Rattle.std.proofs.Common.{◌≡◌, List, [], ◌∷◌, ◌++◌, sym, subst}
+use Rattle.std.proofs.Common.{◌≡◌, ◌<◌, List, [], length, arith, sym, subst, ◌∙◌}
 use Rattle.infeasible_cert.specs.declared.certificate.Derived.{Derived}
-use Rattle.infeasible_cert.specs.Right.{AreRightSteps, EndsInContradiction}
-use Rattle.infeasible_cert.specs.Terms.{AreDerivedTerms}
-use Rattle.lia_solver.proofs.Closing.{once, closed-right, terms-more}
+use Rattle.infeasible_cert.specs.Right.{row_at, rows_after, AreRightSteps}
+use Rattle.lia_solver.proofs.Pruning.{given-row}
 use Rattle.lia_solver.proofs.refutation.closed.Goals as goal
 
-pub returns-clause-right : goal.returns-clause-right
-returns-clause-right c = λ base h k e.
-    let row = c.args.row.now in
-    let all : c.push.new.self.items ≡ c.args.steps.items ++ once row.number row.term ∷ [] = cc (c.in_ok-push.ensures.items, c.in_ok-copy.ensures, c.in_ok-parts.ensures.items, c.from_vec.ensures) in
-    subst (λ (ds : List Derived). AreRightSteps base ds × EndsInContradiction ds) (sym all) (closed-right base c.args.steps.items row.number row.term c.parts.ensures.kept c.requires h k e)
-
-pub returns-clause-terms : goal.returns-clause-terms
-returns-clause-terms c =
-    let row = c.args.row.now in
-    let all : c.push.new.self.items ≡ c.args.steps.items ++ once row.number row.term ∷ [] = cc (c.in_ok-push.ensures.items, c.in_ok-copy.ensures, c.in_ok-parts.ensures.items, c.from_vec.ensures) in
-    subst AreDerivedTerms (sym all) (terms-more c.args.steps.items (once row.number row.term) (subst AreDerivedTerms c.deref.ensures.value c.know_terms.ensures) c.parts.ensures.kept)
+pub returns-then-row-first-clause-right : goal.returns-then-row-first-clause-right
+returns-then-row-first-clause-right c = λ base size right within here.
+    let n = c.args.row.now.number in
+    let given : n < length base = omega (arith, c.if-row-first.true, size) in
+    let none : c.new.result.items ≡ [] = c.new.ensures.items in
+    c.in_ok-rows.ensures base (subst (AreRightSteps base) (sym none) tt) (subst (λ (ds : List Derived). n < length (rows_after base ds)) (sym none) given) (subst (λ (ds : List Derived). row_at (rows_after base ds) n ≡ c.args.row.now.term) (sym none) (sym (given-row base c.args.steps.items n given) ∙ here))
