@@ -9,7 +9,7 @@ work=$(mktemp -d) || exit 70
 trap 'rm -rf "$work"' EXIT
 
 # procedures of one shape each, of about 1,200 bytes: deep expressions, chains of else if, or statements; or long ones
-# of 400 statements
+# of 470 statements
 source_of() {
     awk -v shape="$1" -v size="$2" '
         function chain(n, i, t) { t = "return 0;"; for (i = 0; i < n; i++) t = "if (a == " i ") a = a + 1; else " t; return t }
@@ -19,7 +19,7 @@ source_of() {
             if (shape == "chain") body = chain(40)
             if (shape == "deep") body = "a = " deep(90) "; return " deep(90) ";"
             if (shape == "many") body = many(70)
-            if (shape == "long") body = many(400)
+            if (shape == "long") body = many(470)
             head = 0; total = 0
             while (total < size - length(body) - 200 && head < 62) {
                 line = "int f" head "(int a) { " body " }"
