@@ -1,7 +1,7 @@
 -- Steps with new numbers follow from the rows that are kept.
-use Rattle.std.proofs.Common.{◌≡◌, ℕ, suc, zero, ◌<◌, ◌≤◌, ◌+◌, ◌-◌, Bool, true, false, ◌⊎◌, inl, inr, List, [], ◌∷◌, ◌++◌, length, get_or, Option, Some, None, ℤ, pos, ◌*ℤ◌, ◌≤ℤ◌, arith, refl, sym, ap, subst, ◌∙◌}
+use Rattle.std.proofs.Common.{drop, ◌≡◌, ℕ, suc, zero, ◌<◌, ◌≤◌, ◌+◌, ◌-◌, Bool, true, false, ◌⊎◌, inl, inr, List, [], ◌∷◌, ◌++◌, length, get_or, Option, Some, None, ℤ, pos, ◌*ℤ◌, ◌≤ℤ◌, arith, refl, sym, ap, subst, ◌∙◌}
 use Rattle.std.specs.Prelude.{IsTrue, nat_lt, if◌then◌else◌}
-use Rattle.std.proofs.lemmas.List.{get_or_append_left, get_or_at, get_or_past, get_or_push, length_push}
+use Rattle.std.proofs.lemmas.List.{drop_more, get_or_append_left, get_or_at, get_or_past, get_or_push, length_push}
 use Rattle.linear_formula.specs.LinearSum.{LinearSum, coefficient}
 use Rattle.linear_formula.specs.Results.{combination}
 use Rattle.infeasible_cert.specs.declared.certificate.Derived.{Derived}
@@ -10,8 +10,8 @@ use Rattle.infeasible_cert.specs.Known.{terms_of}
 use Rattle.infeasible_cert.proofs.Deriving.{after-is}
 use Rattle.shadow_elim.specs.Reduction.{is_contradiction}
 use Rattle.shadow_elim.proofs.MadeRight.{step-grows, rows_after-append, length-rows_after}
-use Rattle.lia_solver.specs.Pruned.{new_number, AreRenumbered, IsRenamed, IsStepAt, IsKept}
-use Rattle.lia_solver.proofs.Closing.{contradiction-is, right-more, ends-last}
+use Rattle.lia_solver.specs.Pruned.{new_number, AreRenumbered, IsRenamed, IsStepAt, IsKept, with_named, with_needed}
+use Rattle.lia_solver.proofs.Closing.{once, contradiction-is, right-more, ends-last}
 
 -- ---- the rows after right steps
 pub given-row : (base : List LinearSum) (ds : List Derived) (n : ℕ) → n < length base → row_at (rows_after base ds) n ≡ row_at base n
@@ -155,3 +155,39 @@ kept-last first base rows kept numbers d new n t at r here c k =
     let never = contradiction-is t c in
     let same : new.row.term ≡ t = r.row ∙ sym at.here ∙ here in
     (right-more base kept new k.right (step-renamed first numbers rows (rows_after base kept) d new k.found at.right r), ends-last kept new (ap (λ (s : LinearSum). s.parts) same ∙ never.parts, subst (λ (s : LinearSum). pos 1 ≤ℤ s.constant) (sym same) never.constant))
+
+-- ---- the marks
+not_chosen : {X : Type 0} (b : Bool) (x y : X) → b ≡ false → (if b then x else y) ≡ y
+not_chosen true x y h = absurd (apart h) where
+  apart : true ≡ false → ⊥
+  apart k = cc
+not_chosen false x y h = refl
+
+chosen : {X : Type 0} (b : Bool) (x y : X) → b ≡ true → (if b then x else y) ≡ x
+chosen true x y h = refl
+chosen false x y h = absurd (apart h) where
+  apart : false ≡ true → ⊥
+  apart k = cc
+
+needed-one : (first : ℕ) (marks : List Bool) (k : ℕ) (ds : List Derived) (last : Derived) → k < length ds → with_needed first marks k (drop k ds) ≡ with_needed first marks k (get_or ds k last ∷ drop (k + 1) ds)
+needed-one first marks k ds last h = ap (with_needed first marks k) (drop_more ds k last h)
+
+needed-here : (first : ℕ) (marks : List Bool) (k p : ℕ) (ds : List Derived) (now : List Bool) → p ≡ k + 1 → now ≡ with_needed first marks p (drop p ds) → now ≡ with_needed first marks (k + 1) (drop (k + 1) ds)
+needed-here first marks k p ds now e is = subst (λ (q : ℕ). now ≡ with_needed first marks q (drop q ds)) e is
+
+-- a step that is not marked needs nothing
+pub needed-past : (first : ℕ) (marks : List Bool) (k p : ℕ) (ds : List Derived) (now : List Bool) → k < length ds → p ≡ k + 1 → now ≡ with_needed first marks p (drop p ds) → get_or now k false ≡ false → now ≡ with_needed first marks k (drop k ds)
+needed-past first marks k p ds now h e is f =
+    let last : Derived = once 0 (record { parts = []; constant = pos 0 }) in
+    let later : List Bool = with_needed first marks (k + 1) (drop (k + 1) ds) in
+    let same : now ≡ later = needed-here first marks k p ds now e is in
+    let none : with_needed first marks k (get_or ds k last ∷ drop (k + 1) ds) ≡ later = not_chosen (get_or later k false) (with_named first later (get_or ds k last).parts) later (ap (λ (ms : List Bool). get_or ms k false) (sym same) ∙ f) in
+    same ∙ sym none ∙ sym (needed-one first marks k ds last h)
+
+-- a marked step needs the steps that it names
+pub needed-more : (first : ℕ) (marks : List Bool) (k p : ℕ) (ds : List Derived) (d : Derived) (now : List Bool) → k < length ds → p ≡ k + 1 → now ≡ with_needed first marks p (drop p ds) → get_or now k false ≡ true → with_named first now (get_or ds k d).parts ≡ with_needed first marks k (drop k ds)
+needed-more first marks k p ds d now h e is f =
+    let later : List Bool = with_needed first marks (k + 1) (drop (k + 1) ds) in
+    let same : now ≡ later = needed-here first marks k p ds now e is in
+    let some : with_needed first marks k (get_or ds k d ∷ drop (k + 1) ds) ≡ with_named first later (get_or ds k d).parts = chosen (get_or later k false) (with_named first later (get_or ds k d).parts) later (ap (λ (ms : List Bool). get_or ms k false) (sym same) ∙ f) in
+    ap (λ (ms : List Bool). with_named first ms (get_or ds k d).parts) same ∙ sym some ∙ sym (needed-one first marks k ds d h)

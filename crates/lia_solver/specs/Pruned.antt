@@ -1,5 +1,5 @@
 -- Steps with new numbers, where only some of the steps are kept.
-use Rattle.std.specs.Prelude.{◌≡◌, ℕ, ◌-◌, ◌<◌, nat_lt, Option, Some, None, List, [], ◌∷◌, length, get_or, ℤ, if◌then◌else◌}
+use Rattle.std.specs.Prelude.{◌+◌, Bool, true, false, slice_set, slice_index_or, ◌≡◌, ℕ, ◌-◌, ◌<◌, nat_lt, Option, Some, None, List, [], ◌∷◌, length, get_or, ℤ, if◌then◌else◌}
 use Rattle.linear_formula.specs.LinearSum.{LinearSum}
 use Rattle.infeasible_cert.specs.declared.certificate.Derived.{Derived}
 use Rattle.infeasible_cert.specs.Right.{row_at, rows_after, IsRightStep, AreRightSteps}
@@ -30,3 +30,15 @@ pub record IsStepAt (rows : List LinearSum) (d : Derived) (n : ℕ) : Type 0 whe
 pub record IsKept (first : ℕ) (base rows : List LinearSum) (kept : List Derived) (numbers : List (Option ℕ)) : Type 0 where
   pub right : AreRightSteps base kept
   pub found : (n m : ℕ) → new_number first numbers n ≡ Some m → (m < length (rows_after base kept)) × (row_at (rows_after base kept) m ≡ row_at rows n)
+
+-- the marks of steps, with those of the steps that parts name
+abbrev pub with_named : ℕ → List Bool → List (ℕ × ℤ) → List Bool
+with_named first marks [] = marks
+with_named first marks (p ∷ ps) =
+    with_named first (if nat_lt p.0 first then marks else slice_set marks (p.0 - first) true) ps
+
+-- the same, with those of the steps that these steps need, from the last to the one at `place`
+abbrev pub with_needed : ℕ → List Bool → ℕ → List Derived → List Bool
+with_needed first marks place [] = marks
+with_needed first marks place (d ∷ ds) =
+    if slice_index_or (with_needed first marks (place + 1) ds) place false then with_named first (with_needed first marks (place + 1) ds) d.parts else with_needed first marks (place + 1) ds

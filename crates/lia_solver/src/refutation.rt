@@ -1,12 +1,12 @@
 //! Derived rows that end in a contradiction.
 
-ghost use Rattle.std.specs.Prelude.{◌≡◌, ◌<◌, ◌+◌, ◌++◌, ◌∷◌, [], List, length, find, option_map, IfOk, IfSome, OnOk, IsTrue, true, false, slice_set, slice_index_or};
+ghost use Rattle.std.specs.Prelude.{◌≡◌, ◌<◌, ◌+◌, ◌++◌, ◌∷◌, [], List, length, find, option_map, IfOk, IfSome, OnOk, IsTrue, true, false, slice_set, slice_index_or, replicate};
 ghost use Rattle.linear_formula.specs.LinearSum.{LinearSum, is_term};
 ghost use Rattle.infeasible_cert.specs.Right.{row_at, rows_after, AreRightSteps, EndsInContradiction};
 ghost use Rattle.infeasible_cert.specs.Terms.{AreDerivedTerms};
 ghost use Rattle.shadow_elim.specs.Reduction.{is_contradiction};
 ghost use Rattle.infeasible_cert.specs.declared.certificate.Derived.{Derived};
-ghost use Rattle.lia_solver.specs.Pruned.{new_number, AreRenumbered, IsRenamed, IsStepAt, IsKept};
+ghost use Rattle.lia_solver.specs.Pruned.{with_named, with_needed, new_number, AreRenumbered, IsRenamed, IsStepAt, IsKept};
 
 use infeasible_cert::certificate::{Derived, Multiples};
 use linear_formula::error::OutOfMemory;
@@ -65,6 +65,7 @@ fn mark_one(marks: &mut [bool], place: usize)
     }
 }
 
+/// Whether the step at `place` is marked.
 fn is_marked(marks: &[bool], place: usize) -> bool
     ensures { result ≡ slice_index_or marks.now place false }
 {
@@ -72,7 +73,9 @@ fn is_marked(marks: &[bool], place: usize) -> bool
 }
 
 /// Marks the steps that parts name.
-fn mark(marks: &mut [bool], parts: &[(u32, i64)], first: u32) {
+fn mark(marks: &mut [bool], parts: &[(u32, i64)], first: u32)
+    ensures { marks.new ≡ with_named first marks.old parts.now }
+{
     for (number, _) in parts {
         if *number >= first {
             mark_one(marks, (*number - first) as usize);
@@ -80,20 +83,24 @@ fn mark(marks: &mut [bool], parts: &[(u32, i64)], first: u32) {
     }
 }
 
-/// Which steps the one at `last` needs, itself and those that needed steps name.
-fn marked(
-    alloc: Global,
-    steps: &[Derived],
-    last: u32,
-    first: u32,
-) -> Result<Vec<bool>, OutOfMemory> {
-    let mut marks = vec![in alloc; false; steps.len()]?;
-    mark_one(&mut marks, last as usize);
-    for (place, step) in steps.iter().enumerate().rev() {
-        if is_marked(&marks, place) {
-            mark(&mut marks, step.parts.as_slice(), first);
+/// Marks what marked steps need, from the last step on.
+fn mark_needed(marks: &mut [bool], steps: &[Derived], first: u32)
+    ensures { marks.new ≡ with_needed first marks.old 0 steps.now }
+{
+    for place in (0..steps.len()).rev() {
+        if is_marked(marks, place) {
+            mark(marks, steps[place].parts.as_slice(), first);
         }
     }
+}
+
+/// Which steps the one at `last` needs, itself and those that needed steps name.
+fn marked(alloc: Global, steps: &[Derived], last: u32, first: u32) -> Result<Vec<bool>, OutOfMemory>
+    ensures { IfOk result (λ marks. marks.items ≡ with_needed first (slice_set (replicate (length steps.now) false) last true) 0 steps.now) }
+{
+    let mut marks = vec![in alloc; false; steps.len()]?;
+    mark_one(&mut marks, last as usize);
+    mark_needed(&mut marks, steps, first);
     Ok(marks)
 }
 
@@ -198,7 +205,7 @@ fn with_last(
     Ok(Some(rows))
 }
 
-/// The marked steps up to the contradiction, if each names only marked ones.
+/// The marked steps up to the contradiction, with new numbers; `None` where one of them names a step that is not marked.
 fn pruned(
     alloc: Global,
     steps: &[Derived],
@@ -223,7 +230,8 @@ fn pruned(
     Ok(None)
 }
 
-/// Steps that end in the contradiction: those that it needs.
+/// The steps that the contradiction needs, the last of them the contradiction itself. Steps that name later ones, which no
+/// elimination gives, are all kept.
 pub fn closed(
     alloc: Global,
     steps: Vec<Derived>,

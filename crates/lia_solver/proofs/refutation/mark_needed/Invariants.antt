@@ -1,0 +1,7 @@
+use Rattle.std.proofs.Common.{◌≡◌, drop}
+use Rattle.lia_solver.specs.Pruned.{with_needed}
+use Rattle.lia_solver.proofs.refutation.mark_needed.Given as goal
+
+abbrev pub invariant-loop-place : goal.invariant-loop-place
+invariant-loop-place l =
+    l.marks ≡ with_needed l.first l.initial.marks l.place (drop l.place l.steps)
