@@ -136,45 +136,53 @@ fn splits(alloc: Global) -> Result<Cube, LinError> {
     cube_of(alloc, &rows)
 }
 
-fn told(solved: &Solved) -> &'static str {
+#[derive(Clone, Copy)]
+enum Answer {
+    Point,
+    Never,
+    Shadow,
+    Limit,
+    Memory,
+}
+
+fn told(solved: &Solved) -> Answer {
     match solved {
-        Solved::Point(_) => "point",
-        Solved::Never(_) => "never",
-        Solved::Limit(_) => "limit",
+        Solved::Point(_) => Answer::Point,
+        Solved::Never(_) => Answer::Never,
+        Solved::Limit(_) => Answer::Limit,
     }
 }
 
-fn ask(alloc: Global, cube: &Cube, count: u64) -> &'static str {
-    let mut last = "none";
+fn ask(alloc: Global, cube: &Cube, count: u64) -> Answer {
+    let mut last = Answer::Memory;
     for _ in 0..count {
         last = match solve(alloc, cube) {
             Ok(solved) => told(&solved),
-            Err(_) => "memory",
+            Err(_) => Answer::Memory,
         };
     }
     last
 }
 
-fn shadows(alloc: Global, cube: &Cube, count: u64) -> &'static str {
-    let mut last = "none";
+fn shadows(alloc: Global, cube: &Cube, count: u64) -> Answer {
+    let mut last = Answer::Memory;
     for _ in 0..count {
         last = match eliminate(alloc, cube, &[0]) {
-            Ok(_) => "shadow",
-            Err(ShadowError::Memory) => "memory",
-            Err(_) => "limit",
+            Ok(_) => Answer::Shadow,
+            Err(ShadowError::Memory) => Answer::Memory,
+            Err(_) => Answer::Limit,
         };
     }
     last
 }
 
-fn answer(alloc: Global, word: &str, count: u64) -> Result<&'static str, LinError> {
+fn asked(alloc: Global, word: &str, count: u64) -> Result<Answer, LinError> {
     match word {
-        "lock" => Ok(ask(alloc, &lock(alloc)?, count)),
         "counters" => Ok(ask(alloc, &counters(alloc)?, count)),
         "random" => Ok(ask(alloc, &random(alloc)?, count)),
         "shadow" => Ok(shadows(alloc, &fan(alloc)?, count)),
         "splits" => Ok(ask(alloc, &splits(alloc)?, count)),
-        _ => Ok("unknown word"),
+        _ => Ok(ask(alloc, &lock(alloc)?, count)),
     }
 }
 
@@ -190,8 +198,15 @@ fn main(rt: HostRuntime) -> ExitCode {
             }
         }
     }
-    match answer(rt.alloc(), word.as_str(), count) {
-        Ok(text) => {
+    match asked(rt.alloc(), word.as_str(), count) {
+        Ok(answer) => {
+            let text = match answer {
+                Answer::Point => "point",
+                Answer::Never => "never",
+                Answer::Shadow => "shadow",
+                Answer::Limit => "limit",
+                Answer::Memory => "memory",
+            };
             let _ = println!(rt; "{text}");
             ExitCode::from(0)
         }
