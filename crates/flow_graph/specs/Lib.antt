@@ -2,3 +2,4 @@ pub mod Shapes
 pub mod WellFormed
 pub mod Linked
 pub mod Runs
+pub mod Columns

@@ -4,3 +4,4 @@ pub mod Formula
 pub mod Order
 pub mod Exact
 pub mod Gathered
+pub mod Replaced

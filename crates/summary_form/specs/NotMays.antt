@@ -2,8 +2,7 @@
 use Rattle.std.specs.Prelude.{◌≡◌, ℕ, ◌++◌, IsTrue, List, length, ℤ}
 use Rattle.linear_formula.specs.Formula.{HoldsAll}
 use Rattle.summary_form.specs.declared.query.Query.{Query}
-use Rattle.summary_form.specs.Columns.{valuation_of}
-use Rattle.summary_form.specs.Symbols.{rows_name_only, is_entry_column, is_value_column}
+use Rattle.flow_graph.specs.Columns.{valuation_of, rows_name_only, is_entry_column, is_value_column}
 use Rattle.summary_form.specs.Runs.{RunRelation, Arity, end_with, exits_of}
 
 -- the query is of this procedure, and names only values that the procedure's runs have

@@ -1,0 +1,3 @@
+pub mod Preimage
+pub mod Predecessors
+pub mod Refusals

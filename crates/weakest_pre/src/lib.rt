@@ -1,0 +1,5 @@
+//! Preimages of cubes over the edges of control-flow graphs (Dijkstra's weakest preconditions over linear rows).
+#![tactic(auto)]
+
+pub mod error;
+pub mod preimage;
