@@ -1,6 +1,8 @@
 -- The facts that every program keeps.
-use Rattle.std.specs.Prelude.{◌≡◌, ℕ, ◌+◌, ◌<◌, ◌≤◌, List, [], ◌∷◌, ◌++◌, Bool, true, false, ◌&&◌, not as not_bool, ◌==◌, if◌then◌else◌, Option, Some, None, slice_get, length, nat_lt, nat_le, count_by, IsTrue}
+use Rattle.std.specs.Prelude.{◌≡◌, ℕ, ◌+◌, ◌<◌, ◌≤◌, List, [], ◌∷◌, ◌++◌, Bool, true, false, ◌&&◌, ◌||◌, not as not_bool, ◌==◌, if◌then◌else◌, Option, Some, None, slice_get, length, nat_lt, nat_le, count_by, IsTrue}
 use Rattle.c_tree.specs.declared.tree.AssertPlace.{AssertPlace}
+use Rattle.c_tree.specs.declared.tree.Op.{Op}
+use Rattle.c_tree.specs.declared.tree.Op.TheVariants.{Add, Subtract, Multiply, Less, LessEqual, Greater, GreaterEqual, Equal, Unequal, And, Or}
 use Rattle.c_tree.specs.Syntax.{Expression, literal, read, input, call, negate, not as not_of, binary, Expressions, no_expressions, expression, Statement, block, set, ignore, assume, assert, if_else, loop, do_while, break, continue, return, Statements, no_statements, statement, PureProcedure, PureProgram}
 
 abbrev pub count : Expressions → ℕ
@@ -50,6 +52,63 @@ module _ (P : PureProgram) (slots : ℕ) where
     pub all_sound : (in_loop : Bool) → Statements → Bool
     all_sound l no_statements = true
     all_sound l (statement s ss) = runs_sound l s && all_sound l ss
+
+abbrev pub is_arithmetic : Op → Bool
+is_arithmetic Add = true
+is_arithmetic Subtract = true
+is_arithmetic Multiply = true
+is_arithmetic _ = false
+
+abbrev pub is_product : Op → Bool
+is_product Multiply = true
+is_product _ = false
+
+-- built of literals by negations, sums, differences and products
+abbrev pub is_constant : Expression → Bool
+is_constant (literal n) = true
+is_constant (read x) = false
+is_constant input = false
+is_constant (call p es) = false
+is_constant (negate e) = is_constant e
+is_constant (not_of e) = false
+is_constant (binary op a b) = is_arithmetic op && is_constant a && is_constant b
+
+-- a side of each product is constant
+abbrev mutual
+  pub is_linear : Expression → Bool
+  is_linear (literal n) = true
+  is_linear (read x) = true
+  is_linear input = true
+  is_linear (call p es) = are_linear es
+  is_linear (negate e) = is_linear e
+  is_linear (not_of e) = is_linear e
+  is_linear (binary op a b) = (not_bool (is_product op) || is_constant a || is_constant b) && is_linear a && is_linear b
+
+  pub are_linear : Expressions → Bool
+  are_linear no_expressions = true
+  are_linear (expression e es) = is_linear e && are_linear es
+
+abbrev pub returns_linear : Option Expression → Bool
+returns_linear None = true
+returns_linear (Some e) = is_linear e
+
+abbrev mutual
+  pub runs_linear : Statement → Bool
+  runs_linear (block ss) = all_linear ss
+  runs_linear (set x e) = is_linear e
+  runs_linear (ignore e) = is_linear e
+  runs_linear (assume e) = is_linear e
+  runs_linear (assert id e) = is_linear e
+  runs_linear (if_else e a b) = is_linear e && runs_linear a && runs_linear b
+  runs_linear (loop e s b) = is_linear e && runs_linear s && runs_linear b
+  runs_linear (do_while s e) = runs_linear s && is_linear e
+  runs_linear break = true
+  runs_linear continue = true
+  runs_linear (return o) = returns_linear o
+
+  pub all_linear : Statements → Bool
+  all_linear no_statements = true
+  all_linear (statement s ss) = runs_linear s && all_linear ss
 
 -- how many statement and expression nodes there are
 abbrev mutual
@@ -121,6 +180,7 @@ pub record IsWellFormed (P : PureProgram) : Type 0 where
   pub main_takes_none : IsTrue (takes (slice_get P.procedures P.main) 0)
   pub names_apart : (i j : ℕ) (p q : PureProcedure) → i < j → slice_get P.procedures i ≡ Some p → slice_get P.procedures j ≡ Some q → p.name ≡ q.name → ⊥
   pub procedures_sound : (i : ℕ) (p : PureProcedure) → slice_get P.procedures i ≡ Some p → IsTrue (is_sound_procedure P p)
+  pub products_linear : (i : ℕ) (p : PureProcedure) → slice_get P.procedures i ≡ Some p → IsTrue (all_linear p.body)
   pub few_asserts : length P.asserts ≤ 64
   -- each assertion stands in exactly one `Assert`, which is in the body of its procedure
   pub asserts_placed : (k : ℕ) (a : AssertPlace) → slice_get P.asserts k ≡ Some a → a.proc < length P.procedures
