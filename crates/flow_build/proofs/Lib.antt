@@ -1,0 +1,6 @@
+pub mod FormMeaning
+pub mod Translated
+pub mod Outgoing
+pub mod Moves
+pub mod Slots
+pub mod Comparing

@@ -1,0 +1,6 @@
+pub mod Forms
+pub mod Translation
+pub mod Operands
+pub mod Blocks
+pub mod Lowering
+pub mod Procedures
