@@ -4,3 +4,4 @@ pub mod Operands
 pub mod Blocks
 pub mod Lowering
 pub mod Procedures
+pub mod Outcomes
