@@ -6,3 +6,4 @@ pub mod Slots
 pub mod Comparing
 pub mod Good
 pub mod Reaching
+pub mod ForwardValues

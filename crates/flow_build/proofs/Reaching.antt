@@ -99,6 +99,10 @@ module _ (C : Called) (g : List Edge) (rest : List ℤ) (end : End) where
   then_covers Q K L o f (goes w v) h cov = f w v h
   then_covers Q K L o f (ends w e) h cov = same_end K L w e (subst (Covers K) h cov)
 
+  pub covers_on : {A : Type 0} (K L : World → A → Type 0) → ((w : World) (v : A) → K w v → L w v) → (r : Progress A) → Covers K r → Covers L r
+  covers_on K L f (goes w v) cov = f w v cov
+  covers_on K L f (ends w e) cov = same_end K L w e cov
+
   pub goes_on : {A : Type 0} (K : World → A → Type 0) (w : World) (v : A) (r : Progress A) → r ≡ goes w v → Covers K r → K w v
   goes_on K w v r h cov = subst (Covers K) h cov
 
