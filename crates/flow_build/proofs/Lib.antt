@@ -8,3 +8,4 @@ pub mod Comparing
 pub mod Good
 pub mod Reaching
 pub mod ForwardValues
+pub mod ForwardStatements
