@@ -9,3 +9,4 @@ pub mod Good
 pub mod Reaching
 pub mod ForwardValues
 pub mod ForwardStatements
+pub mod ForwardRuns
