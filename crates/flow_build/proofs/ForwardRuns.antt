@@ -1,10 +1,8 @@
 -- Each run of a program is one of its graphs.
-use Rattle.std.proofs.Common.{◌≡◌, ℕ, zero, suc, ◌+◌, List, [], ◌∷◌, Bool, false, Option, Some, None, ℤ, pos, IsTrue, refl, sym, ap, ◌∙◌, subst}
+use Rattle.std.proofs.Common.{◌≡◌, ℕ, zero, suc, List, [], ◌∷◌, Bool, false, Option, Some, None, ℤ, refl, sym, ap, subst}
 use Rattle.std.specs.Prelude.{slice_get}
 use Rattle.c_tree.specs.Syntax.{block, PureProcedure, PureProgram}
-use Rattle.c_tree.specs.Meaning.{State, World, Progress, goes, ends, stopped as source_stopped, failed as source_failed, starved, spent, Flow, normal, broken, continued, returned, Gives, Then, Callee, Execs, entered, returned_value, Enters, Run, Outcome, Returned, Stopped, Failed, ComesOut, uncounted, Runs}
-use Rattle.flow_graph.specs.declared.graph.Edge.{Edge}
-use Rattle.flow_graph.specs.declared.graph.Edge.TheVariants.{Entry}
+use Rattle.c_tree.specs.Meaning.{World, Progress, goes, ends, stopped as source_stopped, failed as source_failed, starved, spent, Flow, normal, broken, continued, returned, Gives, Then, Callee, Execs, entered, returned_value, Enters, Run, Outcome, ComesOut, uncounted, Runs}
 use Rattle.flow_graph.specs.declared.graph.Graph.{Graph}
 use Rattle.flow_graph.specs.Runs.{End, came, stopped, failed, inside, Called, Ends, Enters as GraphEnters, GraphRun, GraphRuns}
 use Rattle.flow_build.specs.Blocks.{end_node, entry_node, body_node, first_free}
@@ -12,7 +10,7 @@ use Rattle.flow_build.specs.Procedures.{procedure_blocks, procedure_edges, IsGra
 use Rattle.flow_build.specs.Outcomes.{end_of}
 use Rattle.flow_build.proofs.Translated.{AllPlain}
 use Rattle.flow_build.proofs.Outgoing.{At}
-use Rattle.flow_build.proofs.Slots.{HasValues, IsArguments, Matches}
+use Rattle.flow_build.proofs.Slots.{IsArguments}
 use Rattle.flow_build.proofs.Reaching.{Told, Reach, Covers, then_covers, passed}
 use Rattle.flow_build.proofs.ForwardStatements.{AfterFlow, zero_returned, exec_reaches}
 use Rattle.flow_build.proofs.Good.{runs_good}

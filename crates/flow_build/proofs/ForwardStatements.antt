@@ -1,7 +1,7 @@
 -- From what the source's step comes to, to an end of the graph: statements.
-use Rattle.std.proofs.Common.{◌≡◌, ℕ, zero, suc, ◌+◌, ◌≤◌, List, [], ◌∷◌, ◌++◌, Bool, true, false, cond, Option, Some, None, ℤ, pos, IsTrue, refl, sym, ap, ◌∙◌, subst, arith}
+use Rattle.std.proofs.Common.{◌≡◌, ℕ, zero, suc, ◌+◌, List, [], ◌∷◌, Bool, true, false, cond, Some, None, ℤ, pos, IsTrue, refl, sym, ◌∙◌, subst, arith}
 use Rattle.c_tree.specs.Syntax.{Expression, Statement, block, set, ignore, assume, assert, if_else, loop, do_while, break, continue, return, Statements, no_statements, statement}
-use Rattle.c_tree.specs.Meaning.{State, with_slot, World, Progress, goes, ends, Ending, stopped as source_stopped, failed as source_failed, Flow, normal, broken, continued, returned, Relation, Gives, Ends as SourceEnds, Then, Choice, is_value, is_zero, Callee, Eval, AfterNormal, AfterBody, Turns, DoTurns, Exec, Execs}
+use Rattle.c_tree.specs.Meaning.{State, with_slot, World, Progress, ends, Ending, stopped as source_stopped, failed as source_failed, Flow, normal, broken, continued, returned, Relation, Gives, Ends as SourceEnds, Then, Choice, is_value, is_zero, Callee, Eval, AfterNormal, AfterBody, Turns, DoTurns, Exec, Execs}
 use Rattle.flow_graph.specs.declared.graph.Edge.{Edge}
 use Rattle.flow_graph.specs.declared.graph.Edge.TheVariants.{Assign, Guard, Return}
 use Rattle.flow_graph.specs.Runs.{lin_value, End, came, inside, Called}
@@ -11,7 +11,6 @@ use Rattle.flow_build.specs.Translation.{value_of, test_of}
 use Rattle.flow_build.specs.Operands.{constant_lin, operand_lin}
 use Rattle.flow_build.specs.Blocks.{one, exit_node, return_node}
 use Rattle.flow_build.specs.Lowering.{operand_at, landing, nodes_of_test, argument_slot, value_blocks, test_blocks, between, nodes_between, result_of, nodes_of_statement, return_edge, statement_blocks, statements_blocks}
-use Rattle.flow_build.proofs.FormMeaning.{Yields, Decides, FitsValue}
 use Rattle.flow_build.proofs.Translated.{IsPlain, RunsPlain, AllPlain, value_fits, result_fits, result_in_slot, test_fits, by_test, by_value, by_result}
 use Rattle.flow_build.proofs.Outgoing.{out, At}
 use Rattle.flow_build.proofs.Slots.{slot_there, HasValues, values_with, IsArguments, Matches, matches_on, matches_with, operand_is, operand_has, constant_is, argument_is}

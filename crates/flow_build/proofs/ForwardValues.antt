@@ -5,7 +5,7 @@ use Rattle.flow_graph.specs.declared.graph.Edge.{Edge}
 use Rattle.flow_graph.specs.declared.graph.Edge.TheVariants.{Assign, Call}
 use Rattle.flow_graph.specs.Runs.{End, inside, Called}
 use Rattle.flow_build.specs.declared.target.Target.{Target}
-use Rattle.flow_build.specs.declared.target.Target.TheVariants.{Node, Fails, Nowhere}
+use Rattle.flow_build.specs.declared.target.Target.TheVariants.{Node}
 use Rattle.flow_build.specs.declared.operand.Operand.TheVariants.{Variable}
 use Rattle.flow_build.specs.Forms.{Value, literal, read, input, call, scale, sum, difference, truth, Values, no_values, value, Test, compare, opposite, both, either}
 use Rattle.flow_build.specs.Operands.{constant_lin, scaled_lin, operand_lin, sum_lin, difference_lin, rows_where, opposite_op}

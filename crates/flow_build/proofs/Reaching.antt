@@ -1,7 +1,7 @@
 -- From what the source's step comes to, to an end of the graph: what holds of single nodes.
-use Rattle.std.proofs.Common.{◌≡◌, ℕ, suc, ◌≤◌, List, [], ◌∷◌, ◌++◌, Bool, true, false, not, cond, ℤ, pos, IsTrue, flat_map, refl, sym, ap, ◌∙◌, subst, ◌⊎◌, inl, inr, ⊎_elim, true≢false, arith, map}
+use Rattle.std.proofs.Common.{◌≡◌, ℕ, suc, List, [], ◌∷◌, ◌++◌, Bool, true, false, not, cond, ℤ, IsTrue, refl, sym, ap, ◌∙◌, subst, ◌⊎◌, inl, inr, ⊎_elim, true≢false, arith, map}
 use Rattle.c_tree.specs.declared.tree.Op.{Op}
-use Rattle.c_tree.specs.Meaning.{State, with_slot, World, Progress, goes, ends, Ending, stopped as source_stopped, failed as source_failed, starved, spent, Relation, Gives, Onward, Choice, is_value, ExactOrStopped, TakesInput, Callee}
+use Rattle.c_tree.specs.Meaning.{State, with_slot, World, Progress, goes, ends, Ending, stopped as source_stopped, failed as source_failed, starved, spent, Relation, Gives, Onward, Choice, is_value, ExactOrStopped, TakesInput}
 use Rattle.linear_formula.specs.Formula.{HoldsAll}
 use Rattle.linear_formula.specs.declared.formula.Atom.{Atom}
 use Rattle.flow_graph.specs.declared.graph.Edge.{Edge}
