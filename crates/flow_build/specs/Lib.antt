@@ -4,3 +4,5 @@ pub mod Operands
 pub mod Blocks
 pub mod Lowering
 pub mod Procedures
+pub mod Outcomes
+pub mod Promises
