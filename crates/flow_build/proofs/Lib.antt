@@ -5,6 +5,7 @@ pub mod Outgoing
 pub mod Moves
 pub mod Slots
 pub mod Comparing
+pub mod SmallRows
 pub mod Good
 pub mod Reaching
 pub mod ForwardValues
