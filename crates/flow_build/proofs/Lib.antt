@@ -5,3 +5,4 @@ pub mod Moves
 pub mod Slots
 pub mod Comparing
 pub mod Good
+pub mod Coming
