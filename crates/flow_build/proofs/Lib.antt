@@ -1,4 +1,5 @@
 pub mod FormMeaning
+pub mod Sameness
 pub mod Translated
 pub mod Outgoing
 pub mod Moves
