@@ -71,6 +71,10 @@ module _ (C : Called) (g : List Edge) (rest : List ℤ) (end : End) where
       on (goes w1 v) p cov = let d = f w1 v cov in (d.0, (goes w1 v, p, d.1), d.2)
       on (ends w1 e) p cov = (ends w1 e, (ends w1 e, p, refl), covers_end L K w1 e cov)
 
+  pub covers_map : {A : Type 0} (K L : World → A → Type 0) → ((w : World) (v : A) → K w v → L w v) → (r : Progress A) → Covers K r → Covers L r
+  covers_map K L f (goes w v) c = f w v c
+  covers_map K L f (ends w e) c = covers_end K L w e c
+
   -- fewer than K edges from a place, and at most K
   abbrev pub Before : ℕ → Place → List ℤ → Type 0
   Before K a ins = (j : ℕ) × (j < K) × Ends C g j a ins rest end

@@ -7,3 +7,4 @@ pub mod Slots
 pub mod Comparing
 pub mod Good
 pub mod Coming
+pub mod BackwardValues
