@@ -67,7 +67,7 @@ module _ (C : Called) (g : List Edge) (rest : List ℤ) (end : End) where
       let σ1 = with_slot σ t v in
       (goes w1 v, subst (λ is. TakesInput is w (goes w1 v)) (sym c.3) (c.2, refl), (σ1, keeps_with t t σ v (le_self t), values_with σ t v vals c.2, slot_there σ t v, within C g rest end K (inside to σ1) c.1 c.4))
 
-  module _ (D : Callee) (hears : Hears C D) (vars : ℕ) where
+  module _ (D : Callee) (vars : ℕ) where
     -- what is proved of values, arguments and tests
     abbrev pub ValueComes : Value → (from t lo : ℕ) → Type 0
     ValueComes v from t lo =
@@ -168,18 +168,6 @@ module _ (C : Called) (g : List Edge) (rest : List ℤ) (end : End) where
         let same : comparison op (operand_value σ2 a) (operand_value σ2 b) ≡ comparison op x y = ap (λ z. comparison op z (operand_value σ2 b)) x_is ∙ ap (λ z. comparison op x z) y_is in
         (goes w2 (comparison op x y), refl, (σ2, keep, vals2, subst (λ z. Led C g rest end K (cond z met unmet) σ2 w2.inputs) same led)))
 
-    call_comes : (p : ℕ) (vs : Values) (from t lo : ℕ) → out (landing_of_all vs from (lo + 1)) g ≡ Call (landing_of_all vs from (lo + 1)) lo p (argument_slots vs (t + 1)) t ∷ [] → ValuesCome vs from (t + 1) (lo + 1) → ValueComes (call p vs) from t lo
-    call_comes p vs from t lo node comes s σ m vals w K k le h =
-        let n = landing_of_all vs from (lo + 1) in
-        then_comes C g rest end (YieldsAll D vs s) (D p) w (BehindAll K n (t + 1) vs σ) (Behind K lo (Variable t) t σ) (comes s σ m vals w K k le h)
-        (λ w1 xs c.
-        let σ1 = c.0 in
-        let slots = argument_slots vs (t + 1) in
-        let keep = fewer_kept t (t + 1) σ σ1 (le_plus t t 1 (le_self t)) c.1 in
-        let r = over_call C g rest end D hears K c.4.0 n lo t p slots σ1 w1 node (arguments_map σ1 c.2 slots) c.4.1 c.4.2 in
-        (r.0, subst (λ ys. D p ys w1 r.0) c.3 r.1, covers_map C g rest end (CameBack C g rest end K lo t σ1) (Behind K lo (Variable t) t σ)
-        (λ w2 v b. (with_slot σ1 t v, keeps_on t t σ σ1 (with_slot σ1 t v) (le_self t) keep (keeps_with t t σ1 v (le_self t)), values_with σ1 t v c.2 b.0, slot_there σ1 t v, within C g rest end K (inside lo (with_slot σ1 t v)) w2.inputs b.1)) r.0 r.2))
-
     -- a value and those behind it
     values_come_first : (v : Value) (vs : Values) (from t lo : ℕ) → vars ≤ t → IsInSlot v → FitsValue vars v → ValueComes v from t lo → ValuesCome vs (landing v from lo) (t + slots_of v) (lo + nodes_of v) → ValuesCome (value v vs) from t lo
     values_come_first v vs from t lo low in_slot fits first others s σ m vals w K k le h =
@@ -194,75 +182,88 @@ module _ (C : Called) (g : List Edge) (rest : List ℤ) (end : End) where
         let is : σ2 (argument_slot v t) ≡ x = argument_is t v σ2 in_slot ∙ operand_kept vars t v σ1 σ2 low fits c.1 ∙ x_is in
         (goes w2 (x ∷ xs), refl, (σ2, keeps_on t t2 σ σ1 σ2 (le_plus t t (slots_of v) (le_self t)) keep1 c.1, c.2, ap (λ y. y ∷ map σ2 (argument_slots vs t2)) is ∙ ap (λ l. x ∷ l) c.3, c.4))))
 
-    mutual
-      pub value_comes : (v : Value) (from t lo : ℕ) → FitsValue vars v → vars ≤ t → At g (value_blocks v from t lo) → ValueComes v from t lo
-      value_comes (literal false n) from t lo fits low at s σ m vals w K k le h = (goes w n, refl, (σ, keeps_all t σ, vals, refl, (k, le, h)))
-      value_comes (literal true n) from t lo fits low at s σ m vals w K k le h =
-          gives_comes K k from lo t (constant_lin n) n σ σ w at.0 (constant_is σ n) fits (keeps_all t σ) vals le h
-      value_comes (read false x) from t lo fits low at s σ m vals w K k le h = (goes w (s x), refl, (σ, keeps_all t σ, vals, m.each x fits, (k, le, h)))
-      value_comes (read true x) from t lo fits low at s σ m vals w K k le h =
-          gives_comes K k from lo t (operand_lin (Variable x)) (s x) σ σ w at.0 (operand_is σ (Variable x) ∙ m.each x fits) (subst (λ z. IsTrue (is_value z)) (m.each x fits) (vals.each x)) (keeps_all t σ) vals le h
-      value_comes input from t lo fits low at s σ m vals w K k le h = input_comes K k from lo t σ w at.0 vals le h
-      value_comes (call p vs) from t lo fits low at s σ m vals w K k le h =
-          call_comes p vs from t lo (at_right g (values_blocks vs from (t + 1) (lo + 1)) _ at).0 (values_come vs from (t + 1) (lo + 1) fits (le_plus vars t 1 low) (at_left g (values_blocks vs from (t + 1) (lo + 1)) _ at)) s σ m vals w K k le h
-      value_comes (scale c v) from t lo fits low at s σ m vals w K k le h =
-          let n = landing v from (lo + 1) in
-          let a = operand_at v (t + 1) in
-          one_comes v from (t + 1) (lo + 1) (λ x. ExactOrStopped (c *ℤ x)) (Behind K lo (Variable t) t σ) (value_comes v from (t + 1) (lo + 1) fits (le_plus vars t 1 low) (at_left g (value_blocks v from (t + 1) (lo + 1)) _ at)) s σ m vals w K k le h
-          (λ w1 σ1 x j keep vals1 x_is le1 h1.
-          exact_comes K j n lo t (scaled_lin c a) (c *ℤ x) σ1 σ w1 (at_right g (value_blocks v from (t + 1) (lo + 1)) _ at).0 (scaled_is σ1 c a ∙ ap (λ z. c *ℤ z) x_is) (fewer_kept t (t + 1) σ σ1 (le_plus t t 1 (le_self t)) keep) vals1 le1 h1)
-      value_comes (sum v u) from t lo fits low at s σ m vals w K k le h =
-          let m1 = landing v from (lo + 1) in
-          let t2 = t + 1 + slots_of v in
-          let lo2 = lo + 1 + nodes_of v in
-          let a = operand_at v (t + 1) in
-          let b = operand_at u t2 in
-          let behind = at_right g (value_blocks v from (t + 1) (lo + 1)) _ at in
-          let low1 = le_plus vars t 1 low in
-          both_come v u from (t + 1) (lo + 1) (λ x y. ExactOrStopped (x +ℤ y)) (Behind K lo (Variable t) t σ) low1 fits.0
-          (value_comes v from (t + 1) (lo + 1) fits.0 low1 (at_left g (value_blocks v from (t + 1) (lo + 1)) _ at))
-          (value_comes u m1 t2 lo2 fits.1 (le_plus vars (t + 1) (slots_of v) low1) (at_left g (value_blocks u m1 t2 lo2) _ behind))
-          s σ m vals w K k le h
-          (λ w2 σ2 x y j keep vals2 x_is y_is le2 h2.
-          exact_comes K j (landing u m1 lo2) lo t (sum_lin a b) (x +ℤ y) σ2 σ w2 (at_right g (value_blocks u m1 t2 lo2) _ behind).0 (sum_is σ2 a b ∙ ap (λ z. z +ℤ operand_value σ2 b) x_is ∙ ap (λ z. x +ℤ z) y_is) (fewer_kept t (t + 1) σ σ2 (le_plus t t 1 (le_self t)) keep) vals2 le2 h2)
-      value_comes (difference v u) from t lo fits low at s σ m vals w K k le h =
-          let m1 = landing v from (lo + 1) in
-          let t2 = t + 1 + slots_of v in
-          let lo2 = lo + 1 + nodes_of v in
-          let a = operand_at v (t + 1) in
-          let b = operand_at u t2 in
-          let behind = at_right g (value_blocks v from (t + 1) (lo + 1)) _ at in
-          let low1 = le_plus vars t 1 low in
-          both_come v u from (t + 1) (lo + 1) (λ x y. ExactOrStopped (x -ℤ y)) (Behind K lo (Variable t) t σ) low1 fits.0
-          (value_comes v from (t + 1) (lo + 1) fits.0 low1 (at_left g (value_blocks v from (t + 1) (lo + 1)) _ at))
-          (value_comes u m1 t2 lo2 fits.1 (le_plus vars (t + 1) (slots_of v) low1) (at_left g (value_blocks u m1 t2 lo2) _ behind))
-          s σ m vals w K k le h
-          (λ w2 σ2 x y j keep vals2 x_is y_is le2 h2.
-          exact_comes K j (landing u m1 lo2) lo t (difference_lin a b) (x -ℤ y) σ2 σ w2 (at_right g (value_blocks u m1 t2 lo2) _ behind).0 (difference_is σ2 a b ∙ ap (λ z. z -ℤ operand_value σ2 b) x_is ∙ ap (λ z. x -ℤ z) y_is) (fewer_kept t (t + 1) σ σ2 (le_plus t t 1 (le_self t)) keep) vals2 le2 h2)
-      value_comes (truth c) from t lo fits low at s σ m vals w K k le h =
-          let blocks = test_blocks c from (Node (lo + 1)) (Node (lo + 2)) (t + 1) (lo + 3) in
-          let behind = at_right g blocks _ at in
-          truth_comes c from t lo behind.0 behind.1.0 (test_comes c from (Node (lo + 1)) (Node (lo + 2)) (t + 1) (lo + 3) fits (le_plus vars t 1 low) (at_left g blocks _ at)) s σ m vals w K k le h
+    module _ (hears : Hears C D) where
+      call_comes : (p : ℕ) (vs : Values) (from t lo : ℕ) → out (landing_of_all vs from (lo + 1)) g ≡ Call (landing_of_all vs from (lo + 1)) lo p (argument_slots vs (t + 1)) t ∷ [] → ValuesCome vs from (t + 1) (lo + 1) → ValueComes (call p vs) from t lo
+      call_comes p vs from t lo node comes s σ m vals w K k le h =
+          let n = landing_of_all vs from (lo + 1) in
+          then_comes C g rest end (YieldsAll D vs s) (D p) w (BehindAll K n (t + 1) vs σ) (Behind K lo (Variable t) t σ) (comes s σ m vals w K k le h)
+          (λ w1 xs c.
+          let σ1 = c.0 in
+          let slots = argument_slots vs (t + 1) in
+          let keep = fewer_kept t (t + 1) σ σ1 (le_plus t t 1 (le_self t)) c.1 in
+          let r = over_call C g rest end D hears K c.4.0 n lo t p slots σ1 w1 node (arguments_map σ1 c.2 slots) c.4.1 c.4.2 in
+          (r.0, subst (λ ys. D p ys w1 r.0) c.3 r.1, covers_map C g rest end (CameBack C g rest end K lo t σ1) (Behind K lo (Variable t) t σ)
+          (λ w2 v b. (with_slot σ1 t v, keeps_on t t σ σ1 (with_slot σ1 t v) (le_self t) keep (keeps_with t t σ1 v (le_self t)), values_with σ1 t v c.2 b.0, slot_there σ1 t v, within C g rest end K (inside lo (with_slot σ1 t v)) w2.inputs b.1)) r.0 r.2))
 
-      pub values_come : (vs : Values) (from t lo : ℕ) → FitsValues vars vs → vars ≤ t → At g (values_blocks vs from t lo) → ValuesCome vs from t lo
-      values_come no_values from t lo fits low at s σ m vals w K k le h = (goes w [], refl, (σ, keeps_all t σ, vals, refl, (k, le, h)))
-      values_come (value v vs) from t lo fits low at s σ m vals w K k le h =
-          values_come_first v vs from t lo low fits.0 fits.1 (value_comes v from t lo fits.1 low (at_left g (value_blocks v from t lo) _ at))
-          (values_come vs (landing v from lo) (t + slots_of v) (lo + nodes_of v) fits.2 (le_plus vars t (slots_of v) low) (at_right g (value_blocks v from t lo) _ at)) s σ m vals w K k le h
+      mutual
+        pub value_comes : (v : Value) (from t lo : ℕ) → FitsValue vars v → vars ≤ t → At g (value_blocks v from t lo) → ValueComes v from t lo
+        value_comes (literal false n) from t lo fits low at s σ m vals w K k le h = (goes w n, refl, (σ, keeps_all t σ, vals, refl, (k, le, h)))
+        value_comes (literal true n) from t lo fits low at s σ m vals w K k le h =
+            gives_comes K k from lo t (constant_lin n) n σ σ w at.0 (constant_is σ n) fits (keeps_all t σ) vals le h
+        value_comes (read false x) from t lo fits low at s σ m vals w K k le h = (goes w (s x), refl, (σ, keeps_all t σ, vals, m.each x fits, (k, le, h)))
+        value_comes (read true x) from t lo fits low at s σ m vals w K k le h =
+            gives_comes K k from lo t (operand_lin (Variable x)) (s x) σ σ w at.0 (operand_is σ (Variable x) ∙ m.each x fits) (subst (λ z. IsTrue (is_value z)) (m.each x fits) (vals.each x)) (keeps_all t σ) vals le h
+        value_comes input from t lo fits low at s σ m vals w K k le h = input_comes K k from lo t σ w at.0 vals le h
+        value_comes (call p vs) from t lo fits low at s σ m vals w K k le h =
+            call_comes p vs from t lo (at_right g (values_blocks vs from (t + 1) (lo + 1)) _ at).0 (values_come vs from (t + 1) (lo + 1) fits (le_plus vars t 1 low) (at_left g (values_blocks vs from (t + 1) (lo + 1)) _ at)) s σ m vals w K k le h
+        value_comes (scale c v) from t lo fits low at s σ m vals w K k le h =
+            let n = landing v from (lo + 1) in
+            let a = operand_at v (t + 1) in
+            one_comes v from (t + 1) (lo + 1) (λ x. ExactOrStopped (c *ℤ x)) (Behind K lo (Variable t) t σ) (value_comes v from (t + 1) (lo + 1) fits (le_plus vars t 1 low) (at_left g (value_blocks v from (t + 1) (lo + 1)) _ at)) s σ m vals w K k le h
+            (λ w1 σ1 x j keep vals1 x_is le1 h1.
+            exact_comes K j n lo t (scaled_lin c a) (c *ℤ x) σ1 σ w1 (at_right g (value_blocks v from (t + 1) (lo + 1)) _ at).0 (scaled_is σ1 c a ∙ ap (λ z. c *ℤ z) x_is) (fewer_kept t (t + 1) σ σ1 (le_plus t t 1 (le_self t)) keep) vals1 le1 h1)
+        value_comes (sum v u) from t lo fits low at s σ m vals w K k le h =
+            let m1 = landing v from (lo + 1) in
+            let t2 = t + 1 + slots_of v in
+            let lo2 = lo + 1 + nodes_of v in
+            let a = operand_at v (t + 1) in
+            let b = operand_at u t2 in
+            let behind = at_right g (value_blocks v from (t + 1) (lo + 1)) _ at in
+            let low1 = le_plus vars t 1 low in
+            both_come v u from (t + 1) (lo + 1) (λ x y. ExactOrStopped (x +ℤ y)) (Behind K lo (Variable t) t σ) low1 fits.0
+            (value_comes v from (t + 1) (lo + 1) fits.0 low1 (at_left g (value_blocks v from (t + 1) (lo + 1)) _ at))
+            (value_comes u m1 t2 lo2 fits.1 (le_plus vars (t + 1) (slots_of v) low1) (at_left g (value_blocks u m1 t2 lo2) _ behind))
+            s σ m vals w K k le h
+            (λ w2 σ2 x y j keep vals2 x_is y_is le2 h2.
+            exact_comes K j (landing u m1 lo2) lo t (sum_lin a b) (x +ℤ y) σ2 σ w2 (at_right g (value_blocks u m1 t2 lo2) _ behind).0 (sum_is σ2 a b ∙ ap (λ z. z +ℤ operand_value σ2 b) x_is ∙ ap (λ z. x +ℤ z) y_is) (fewer_kept t (t + 1) σ σ2 (le_plus t t 1 (le_self t)) keep) vals2 le2 h2)
+        value_comes (difference v u) from t lo fits low at s σ m vals w K k le h =
+            let m1 = landing v from (lo + 1) in
+            let t2 = t + 1 + slots_of v in
+            let lo2 = lo + 1 + nodes_of v in
+            let a = operand_at v (t + 1) in
+            let b = operand_at u t2 in
+            let behind = at_right g (value_blocks v from (t + 1) (lo + 1)) _ at in
+            let low1 = le_plus vars t 1 low in
+            both_come v u from (t + 1) (lo + 1) (λ x y. ExactOrStopped (x -ℤ y)) (Behind K lo (Variable t) t σ) low1 fits.0
+            (value_comes v from (t + 1) (lo + 1) fits.0 low1 (at_left g (value_blocks v from (t + 1) (lo + 1)) _ at))
+            (value_comes u m1 t2 lo2 fits.1 (le_plus vars (t + 1) (slots_of v) low1) (at_left g (value_blocks u m1 t2 lo2) _ behind))
+            s σ m vals w K k le h
+            (λ w2 σ2 x y j keep vals2 x_is y_is le2 h2.
+            exact_comes K j (landing u m1 lo2) lo t (difference_lin a b) (x -ℤ y) σ2 σ w2 (at_right g (value_blocks u m1 t2 lo2) _ behind).0 (difference_is σ2 a b ∙ ap (λ z. z -ℤ operand_value σ2 b) x_is ∙ ap (λ z. x -ℤ z) y_is) (fewer_kept t (t + 1) σ σ2 (le_plus t t 1 (le_self t)) keep) vals2 le2 h2)
+        value_comes (truth c) from t lo fits low at s σ m vals w K k le h =
+            let blocks = test_blocks c from (Node (lo + 1)) (Node (lo + 2)) (t + 1) (lo + 3) in
+            let behind = at_right g blocks _ at in
+            truth_comes c from t lo behind.0 behind.1.0 (test_comes c from (Node (lo + 1)) (Node (lo + 2)) (t + 1) (lo + 3) fits (le_plus vars t 1 low) (at_left g blocks _ at)) s σ m vals w K k le h
 
-      pub test_comes : (c : Test) (from : ℕ) (met unmet : Target) (t lo : ℕ) → FitsTest vars c → vars ≤ t → At g (test_blocks c from met unmet t lo) → TestComes c from met unmet t lo
-      test_comes (compare op v u) from met unmet t lo fits low at s σ m vals w K k le h =
-          let behind = at_right g (value_blocks v from t lo) _ at in
-          let t2 = t + slots_of v in
-          let lo2 = lo + nodes_of v in
-          compare_comes op v u from met unmet t lo low fits at (value_comes v from t lo fits.1 low (at_left g (value_blocks v from t lo) _ at))
-          (value_comes u (landing v from lo) t2 lo2 fits.2 (le_plus vars t (slots_of v) low) (at_left g (value_blocks u (landing v from lo) t2 lo2) _ behind)) s σ m vals w K k le h
-      test_comes (opposite c) from met unmet t lo fits low at s σ m vals w K k le h = opposite_comes c from met unmet t lo (test_comes c from unmet met t lo fits low at) s σ m vals w K k le h
-      test_comes (both c d) from met unmet t lo fits low at s σ m vals w K k le h =
-          let blocks = test_blocks c from (Node lo) unmet t (lo + 1) in
-          both_tests_come c d from lo met unmet t (slots_of_test c) (lo + 1) (lo + 1 + nodes_of_test c) low (test_comes c from (Node lo) unmet t (lo + 1) fits.0 low (at_left g blocks _ at))
-          (test_comes d lo met unmet (t + slots_of_test c) (lo + 1 + nodes_of_test c) fits.1 (le_plus vars t (slots_of_test c) low) (at_right g blocks _ at)) s σ m vals w K k le h
-      test_comes (either c d) from met unmet t lo fits low at s σ m vals w K k le h =
-          let blocks = test_blocks c from met (Node lo) t (lo + 1) in
-          either_test_comes c d from lo met unmet t (slots_of_test c) (lo + 1) (lo + 1 + nodes_of_test c) low (test_comes c from met (Node lo) t (lo + 1) fits.0 low (at_left g blocks _ at))
-          (test_comes d lo met unmet (t + slots_of_test c) (lo + 1 + nodes_of_test c) fits.1 (le_plus vars t (slots_of_test c) low) (at_right g blocks _ at)) s σ m vals w K k le h
+        pub values_come : (vs : Values) (from t lo : ℕ) → FitsValues vars vs → vars ≤ t → At g (values_blocks vs from t lo) → ValuesCome vs from t lo
+        values_come no_values from t lo fits low at s σ m vals w K k le h = (goes w [], refl, (σ, keeps_all t σ, vals, refl, (k, le, h)))
+        values_come (value v vs) from t lo fits low at s σ m vals w K k le h =
+            values_come_first v vs from t lo low fits.0 fits.1 (value_comes v from t lo fits.1 low (at_left g (value_blocks v from t lo) _ at))
+            (values_come vs (landing v from lo) (t + slots_of v) (lo + nodes_of v) fits.2 (le_plus vars t (slots_of v) low) (at_right g (value_blocks v from t lo) _ at)) s σ m vals w K k le h
+
+        pub test_comes : (c : Test) (from : ℕ) (met unmet : Target) (t lo : ℕ) → FitsTest vars c → vars ≤ t → At g (test_blocks c from met unmet t lo) → TestComes c from met unmet t lo
+        test_comes (compare op v u) from met unmet t lo fits low at s σ m vals w K k le h =
+            let behind = at_right g (value_blocks v from t lo) _ at in
+            let t2 = t + slots_of v in
+            let lo2 = lo + nodes_of v in
+            compare_comes op v u from met unmet t lo low fits at (value_comes v from t lo fits.1 low (at_left g (value_blocks v from t lo) _ at))
+            (value_comes u (landing v from lo) t2 lo2 fits.2 (le_plus vars t (slots_of v) low) (at_left g (value_blocks u (landing v from lo) t2 lo2) _ behind)) s σ m vals w K k le h
+        test_comes (opposite c) from met unmet t lo fits low at s σ m vals w K k le h = opposite_comes c from met unmet t lo (test_comes c from unmet met t lo fits low at) s σ m vals w K k le h
+        test_comes (both c d) from met unmet t lo fits low at s σ m vals w K k le h =
+            let blocks = test_blocks c from (Node lo) unmet t (lo + 1) in
+            both_tests_come c d from lo met unmet t (slots_of_test c) (lo + 1) (lo + 1 + nodes_of_test c) low (test_comes c from (Node lo) unmet t (lo + 1) fits.0 low (at_left g blocks _ at))
+            (test_comes d lo met unmet (t + slots_of_test c) (lo + 1 + nodes_of_test c) fits.1 (le_plus vars t (slots_of_test c) low) (at_right g blocks _ at)) s σ m vals w K k le h
+        test_comes (either c d) from met unmet t lo fits low at s σ m vals w K k le h =
+            let blocks = test_blocks c from met (Node lo) t (lo + 1) in
+            either_test_comes c d from lo met unmet t (slots_of_test c) (lo + 1) (lo + 1 + nodes_of_test c) low (test_comes c from met (Node lo) t (lo + 1) fits.0 low (at_left g blocks _ at))
+            (test_comes d lo met unmet (t + slots_of_test c) (lo + 1 + nodes_of_test c) fits.1 (le_plus vars t (slots_of_test c) low) (at_right g blocks _ at)) s σ m vals w K k le h

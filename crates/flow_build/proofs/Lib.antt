@@ -8,3 +8,4 @@ pub mod Comparing
 pub mod Good
 pub mod Coming
 pub mod BackwardValues
+pub mod BackwardStatements
