@@ -9,3 +9,4 @@ pub mod Good
 pub mod Coming
 pub mod BackwardValues
 pub mod BackwardStatements
+pub mod BackwardRuns
