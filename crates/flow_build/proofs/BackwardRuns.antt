@@ -14,11 +14,8 @@ use Rattle.flow_build.proofs.Translated.{AllPlain}
 use Rattle.flow_build.proofs.Outgoing.{At}
 use Rattle.flow_build.proofs.Slots.{IsArguments, HasValues, Matches}
 use Rattle.flow_build.proofs.Good.{runs_good}
-use Rattle.flow_build.proofs.Coming.{Hears, Heard, Covers, Comes, then_comes, over_skip}
+use Rattle.flow_build.proofs.Coming.{le_self, Hears, Heard, Covers, Comes, then_comes, over_skip}
 use Rattle.flow_build.proofs.BackwardStatements.{BehindFlow, exec_comes, zero_returned}
-
-le_self : (a : ℕ) → a ≤ a
-le_self a = omega arith
 
 -- The graph of a number is its procedure's.
 graph_at : (C : Called) (procedures : List PureProcedure) (gs : List Graph) → AreGraphsOf procedures gs → (i : ℕ) (args ins rest : List ℤ) (e : End) → Enters C (slice_get gs i) args ins rest e

@@ -15,7 +15,7 @@ use Rattle.flow_build.proofs.FormMeaning.{Yields, Decides}
 use Rattle.flow_build.proofs.Translated.{IsPlain, RunsPlain, AllPlain, value_fits, test_fits, result_fits, result_in_slot, by_value, by_result, by_test}
 use Rattle.flow_build.proofs.Outgoing.{out, At, at_left, at_right}
 use Rattle.flow_build.proofs.Slots.{slot_there, HasValues, values_with, Matches, matches_on, matches_with, operand_value, operand_is, operand_has, constant_is, argument_is}
-use Rattle.flow_build.proofs.Coming.{Hears, Comes, then_comes, lt_le, Before, Within, within, over_value, over_skip, over_return, Led}
+use Rattle.flow_build.proofs.Coming.{Hears, Comes, then_comes, le_self, lt_le, Before, Within, within, over_value, over_skip, over_return, Led}
 use Rattle.flow_build.proofs.BackwardValues.{Behind, BehindTest, TestComes, value_comes, test_comes}
 
 -- a number of turns that stands inside comes out
@@ -58,17 +58,8 @@ module _ (D : Callee) (T : State → Relation ℤ) (S B : State → Relation Flo
   abbrev Loops : State → Relation Flow
   Loops s w o = (n : ℕ) × Turns false D n T S B s w o
 
-  abbrev DoLoops : State → Relation Flow
-  DoLoops s w o = (n : ℕ) × DoTurns false D n B T s w o
-
   abbrev Turn : (State → Relation Flow) → State → Relation Flow
   Turn L s = Then (T s) (λ v. Choice (is_zero v) (Gives (normal s)) (Then (B s) (λ f. AfterBody f (λ s1. Then (S s1) (λ g. AfterBody g L)))))
-
-  abbrev TestAgain : (State → Relation Flow) → State → Relation Flow
-  TestAgain L s = Then (T s) (λ v. Choice (is_zero v) (Gives (normal s)) (L s))
-
-  abbrev DoTurn : (State → Relation Flow) → State → Relation Flow
-  DoTurn L s = Then (B s) (λ f. AfterBody f (TestAgain L))
 
   -- one turn more
   loops_fold : (s : State) (w : World) (o : Progress Flow) → Turn Loops s w o → Loops s w o
@@ -81,6 +72,16 @@ module _ (D : Callee) (T : State → Relation ℤ) (S B : State → Relation Flo
       (inside_then (S s1) _ _ w2 o (λ g w3 k5. out_body g _ w3 o k5) k4)) k3)) k2)) k1)) h) in
       (suc a.0, a.1)
 
+module _ (D : Callee) (T : State → Relation ℤ) (B : State → Relation Flow) where
+  abbrev DoLoops : State → Relation Flow
+  DoLoops s w o = (n : ℕ) × DoTurns false D n B T s w o
+
+  abbrev TestAgain : (State → Relation Flow) → State → Relation Flow
+  TestAgain L s = Then (T s) (λ v. Choice (is_zero v) (Gives (normal s)) (L s))
+
+  abbrev DoTurn : (State → Relation Flow) → State → Relation Flow
+  DoTurn L s = Then (B s) (λ f. AfterBody f (TestAgain L))
+
   do_loops_fold : (s : State) (w : World) (o : Progress Flow) → DoTurn DoLoops s w o → DoLoops s w o
   do_loops_fold s w o h =
       let a = out_then (B s) (λ n f. AfterBody f (TestAgain (DoTurns false D n B T))) w o
@@ -88,9 +89,6 @@ module _ (D : Callee) (T : State → Relation ℤ) (S B : State → Relation Flo
       out_then (T s1) (λ n v. Choice (is_zero v) (Gives (normal s1)) (DoTurns false D n B T s1)) w1 o
       (inside_then (T s1) _ _ w1 o (λ v w2 k3. out_choice (is_zero v) _ _ w2 o k3) k2)) k1)) h) in
       (suc a.0, a.1)
-
-le_self : (a : ℕ) → a ≤ a
-le_self a = omega arith
 
 none_below : (k : ℕ) → k < 0 → ⊥
 none_below k lt = omega arith
@@ -178,48 +176,49 @@ module _ (C : Called) (g : List Edge) (rest : List ℤ) (end : End) (gives : Boo
         on w1 false b = otherwise w1 b.0 (matches_on vars t σ b.0 s low b.1 m) b.2 b.3
 
     module _ (e : Expression) (plain : IsPlain vars e) (S B : State → Relation Flow) (to brk con : ℕ) where
-      abbrev L : State → Relation Flow
-      L = Loops D (Eval false D e) S B
+      abbrev Looping : State → Relation Flow
+      Looping = Loops D (Eval false D e) S B
 
-      abbrev Step : State → Relation Flow
-      Step s = Then (S s) (λ f. AfterBody f L)
+      abbrev Stepping : State → Relation Flow
+      Stepping s = Then (S s) (λ f. AfterBody f Looping)
 
       loop_comes : (bound from lo lo2 : ℕ) → TestComes C g rest end D vars (test_of e) from (Node lo) (Node to) t lo2
           → RunComes B lo (lo + 1) to (lo + 1) → RunComes S (lo + 1) from to from
           → (s σ : State) → Matches vars σ s → HasValues σ → (w : World) (K k : ℕ) → k < bound → k ≤ K → Ends C g k (inside from σ) w.inputs rest end
-          → Comes C g rest end (L s) w (BehindFlow K to brk con)
+          → Comes C g rest end (Looping s) w (BehindFlow K to brk con)
       loop_comes zero from lo lo2 test body step s σ m vals w K k lt le h = absurd (none_below k lt)
       loop_comes (suc bound) from lo lo2 test body step s σ m vals w K k lt le h =
-          let c = decided_comes e from (Node lo) (Node to) lo2 plain test (Gives (normal s)) (Then (B s) (λ f. AfterBody f Step)) (BehindFlow K to brk con) s σ m vals w k k (le_self k) h
+          let c = decided_comes e from (Node lo) (Node to) lo2 plain test (Gives (normal s)) (Then (B s) (λ f. AfterBody f Stepping)) (BehindFlow K to brk con) s σ m vals w k k (le_self k) h
           (λ w1 σ1 m1 vals1 led. (goes w1 (normal s), refl, (σ1, m1, vals1, (led.0, le_under led.0 k K led.1 le, led.2))))
           (λ w1 σ1 m1 vals1 led.
           let j = led.0 in
           let le1 = le_under j k K led.1 le in
-          then_comes C g rest end (B s) (λ f. AfterBody f Step) w1 (BehindFlow j (lo + 1) to (lo + 1)) (BehindFlow K to brk con) (body s σ1 m1 vals1 w1 j j (le_self j) led.2)
-          (λ w2 f. after_body j K (lo + 1) to brk con Step w2 le1 (λ s2 d2.
-          then_comes C g rest end (S s2) (λ f. AfterBody f L) w2 (BehindFlow j from to from) (BehindFlow K to brk con) (step s2 d2.0 d2.1 d2.2 w2 j d2.3.0 d2.3.1 d2.3.2)
-          (λ w3 f3. after_body j K from to brk con L w3 le1 (λ s3 d3.
+          then_comes C g rest end (B s) (λ f. AfterBody f Stepping) w1 (BehindFlow j (lo + 1) to (lo + 1)) (BehindFlow K to brk con) (body s σ1 m1 vals1 w1 j j (le_self j) led.2)
+          (λ w2 f. after_body j K (lo + 1) to brk con Stepping w2 le1 (λ s2 d2.
+          then_comes C g rest end (S s2) (λ f. AfterBody f Looping) w2 (BehindFlow j from to from) (BehindFlow K to brk con) (step s2 d2.0 d2.1 d2.2 w2 j d2.3.0 d2.3.1 d2.3.2)
+          (λ w3 f3. after_body j K from to brk con Looping w3 le1 (λ s3 d3.
           loop_comes bound from lo lo2 test body step s3 d3.0 d3.1 d3.2 w3 K d3.3.0 (lt_bound d3.3.0 j k bound d3.3.1 led.1 lt) (le_by d3.3.0 j K d3.3.1 le1) d3.3.2) f3)) f)) in
           (c.0, loops_fold D (Eval false D e) S B s w c.0 c.1, c.2)
 
-      abbrev DoL : State → Relation Flow
-      DoL = DoLoops D (Eval false D e) S B
+    module _ (e : Expression) (plain : IsPlain vars e) (B : State → Relation Flow) (to brk con : ℕ) where
+      abbrev DoLooping : State → Relation Flow
+      DoLooping = DoLoops D (Eval false D e) B
 
       do_comes : (bound from lo lo2 : ℕ) → RunComes B from lo to lo → TestComes C g rest end D vars (test_of e) lo (Node from) (Node to) t lo2
           → (s σ : State) → Matches vars σ s → HasValues σ → (w : World) (K k : ℕ) → k < bound → k ≤ K → Ends C g k (inside from σ) w.inputs rest end
-          → Comes C g rest end (DoL s) w (BehindFlow K to brk con)
+          → Comes C g rest end (DoLooping s) w (BehindFlow K to brk con)
       do_comes zero from lo lo2 body test s σ m vals w K k lt le h = absurd (none_below k lt)
       do_comes (suc bound) from lo lo2 body test s σ m vals w K k lt le h =
-          let again = TestAgain D (Eval false D e) S B DoL in
+          let again = TestAgain D (Eval false D e) B DoLooping in
           let c = then_comes C g rest end (B s) (λ f. AfterBody f again) w (BehindFlow k lo to lo) (BehindFlow K to brk con) (body s σ m vals w k k (le_self k) h)
           (λ w1 f. after_body k K lo to brk con again w1 le (λ s1 d1.
           let j = d1.3.0 in
           let le1 = le_by j k K d1.3.1 le in
-          decided_comes e lo (Node from) (Node to) lo2 plain test (Gives (normal s1)) (DoL s1) (BehindFlow K to brk con) s1 d1.0 d1.1 d1.2 w1 j j (le_self j) d1.3.2
+          decided_comes e lo (Node from) (Node to) lo2 plain test (Gives (normal s1)) (DoLooping s1) (BehindFlow K to brk con) s1 d1.0 d1.1 d1.2 w1 j j (le_self j) d1.3.2
           (λ w2 σ2 m2 vals2 led. (goes w2 (normal s1), refl, (σ2, m2, vals2, (led.0, le_under led.0 j K led.1 le1, led.2))))
           (λ w2 σ2 m2 vals2 led.
           do_comes bound from lo lo2 body test s1 σ2 m2 vals2 w2 K led.0 (lt_bound_do led.0 j k bound led.1 d1.3.1 lt) (le_under led.0 j K led.1 le1) led.2)) f) in
-          (c.0, do_loops_fold D (Eval false D e) S B s w c.0 c.1, c.2)
+          (c.0, do_loops_fold D (Eval false D e) B s w c.0 c.1, c.2)
 
   module _ (D : Callee) (hears : Hears C D) (t : ℕ) (low : vars ≤ t) (returning : out return_node g ≡ Return return_node exit_node t ∷ []) where
     -- 0 is returned
@@ -332,7 +331,7 @@ module _ (C : Called) (g : List Edge) (rest : List ℤ) (end : End) (gives : Boo
       exec_comes (do_while body e) from to brk con lo plain at s σ m vals w K k le h =
           let i = lo + 1 + nodes_of_statement body in
           let blocks = statement_blocks gives t body from lo to lo (lo + 1) in
-          do_comes D t low e plain.1 (Exec false D body) (Exec false D body) to brk con (suc k) from lo i (exec_comes body from lo to lo (lo + 1) plain.0 (at_left g blocks _ at))
+          do_comes D t low e plain.1 (Exec false D body) to brk con (suc k) from lo i (exec_comes body from lo to lo (lo + 1) plain.0 (at_left g blocks _ at))
           (tested e lo (Node from) (Node to) i plain.1 (at_right g blocks _ at)) s σ m vals w K k (lt_self k) le h
       exec_comes break from to brk con lo plain at s σ m vals w K k le h = (goes w (broken s), refl, skip_stands K k from brk s σ w at.0 m vals le h)
       exec_comes continue from to brk con lo plain at s σ m vals w K k le h = (goes w (continued s), refl, skip_stands K k from con s σ w at.0 m vals le h)

@@ -18,13 +18,10 @@ use Rattle.flow_build.specs.Lowering.{operand_at, landing, nodes_of, slots_of, s
 use Rattle.flow_build.proofs.FormMeaning.{comparison, is_comparison, Yields, YieldsAll, Decides, IsInSlot, FitsValue, FitsValues, FitsTest}
 use Rattle.flow_build.proofs.Outgoing.{out, At, at_left, at_right}
 use Rattle.flow_build.proofs.Slots.{slot_there, HasValues, values_with, arguments_map, Matches, Keeps, keeps_all, keeps_with, keeps_on, matches_on, operand_value, operand_is, constant_is, scaled_is, sum_is, difference_is, operand_kept, argument_is}
-use Rattle.flow_build.proofs.Coming.{Hears, Covers, covers_map, Comes, then_comes, lt_le, Before, Within, within, Stops, Assigned, over_assign, over_value, Taken, over_input, CameBack, over_call, Led, over_compare}
+use Rattle.flow_build.proofs.Coming.{Hears, Covers, covers_map, Comes, then_comes, le_self, lt_le, Before, Within, within, Stops, Assigned, over_assign, over_value, Taken, over_input, CameBack, over_call, Led, over_compare}
 
 fewer_kept : (t u : ℕ) (a b : State) → t ≤ u → Keeps u a b → Keeps t a b
 fewer_kept t u a b le k = keeps_on t u a a b le (keeps_all t a) k
-
-le_self : (a : ℕ) → a ≤ a
-le_self a = omega arith
 
 le_plus : (a b c : ℕ) → a ≤ b → a ≤ b + c
 le_plus a b c le = omega arith

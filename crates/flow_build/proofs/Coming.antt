@@ -42,6 +42,9 @@ is_false true h = absurd (h refl)
 at_most_by_one : (j k K : ℕ) → k ≡ suc j → k ≤ K → j < K
 at_most_by_one j k K e le = omega arith
 
+pub le_self : (a : ℕ) → a ≤ a
+le_self a = omega arith
+
 pub lt_le : (j K : ℕ) → j < K → j ≤ K
 lt_le j K lt = omega arith
 
