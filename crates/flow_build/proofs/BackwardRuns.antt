@@ -1,8 +1,8 @@
 -- From a run of the graphs to a run of the program.
-use Rattle.std.proofs.Common.{◌≡◌, ℕ, zero, suc, ◌≤◌, List, [], ◌∷◌, Bool, false, Option, Some, None, ℤ, pos, refl, sym, ap, subst, arith}
+use Rattle.std.proofs.Common.{◌≡◌, ℕ, zero, suc, List, [], ◌∷◌, false, Some, ℤ, refl, sym, subst}
 use Rattle.std.specs.Prelude.{slice_get}
 use Rattle.c_tree.specs.Syntax.{block, PureProcedure, PureProgram}
-use Rattle.c_tree.specs.Meaning.{World, Progress, goes, ends, stopped as source_stopped, failed as source_failed, starved, spent, Flow, normal, broken, continued, returned, Gives, Then, Callee, Exec, Execs, entered, returned_value, Enters as SourceEnters, Run, Outcome, Returned, Stopped, Failed, uncounted, Runs}
+use Rattle.c_tree.specs.Meaning.{World, Progress, goes, ends, stopped as source_stopped, failed as source_failed, starved, spent, Flow, normal, broken, continued, returned, Gives, Then, Callee, Execs, entered, returned_value, Enters as SourceEnters, Run, Outcome, Returned, Stopped, Failed, uncounted, Runs}
 use Rattle.flow_graph.specs.declared.graph.Edge.{Edge}
 use Rattle.flow_graph.specs.declared.graph.Edge.TheVariants.{Entry}
 use Rattle.flow_graph.specs.declared.graph.Graph.{Graph}
@@ -65,7 +65,7 @@ module _ (C : Called) (rest : List ℤ) (end : End) (p : PureProcedure) (at : At
   heard_from (ends w spent) c = c
 
 module _ (P : PureProgram) (gs : List Graph) (graphs : AreGraphsOf P.procedures gs) (at : (p : PureProcedure) → At (procedure_edges p) (procedure_blocks p))
-  (plain : (i : ℕ) (p : PureProcedure) → slice_get P.procedures i ≡ Some p → AllPlain p.slots p.body) where
+    (plain : (i : ℕ) (p : PureProcedure) → slice_get P.procedures i ≡ Some p → AllPlain p.slots p.body) where
   enters_heard : (d : ℕ) → Hears (GraphRun gs d) (Run false P d) → (i : ℕ) (args : List ℤ) (w : World) (mid : List ℤ) (e : End) → IsArguments args → GraphRun gs (suc d) i args w.inputs mid e
       → (r : Progress ℤ) × Run false P (suc d) i args w r × Heard mid e r
   enters_heard d hears i args w mid e ok h =

@@ -1,5 +1,5 @@
 -- From an end of the graph to a result of the source: statements.
-use Rattle.std.proofs.Common.{◌≡◌, ℕ, zero, suc, ◌+◌, ◌<◌, ◌≤◌, List, [], ◌∷◌, Bool, true, false, cond, Option, Some, None, ℤ, pos, IsTrue, refl, sym, ap, ◌∙◌, subst, arith}
+use Rattle.std.proofs.Common.{◌≡◌, ℕ, zero, suc, ◌+◌, ◌<◌, ◌≤◌, List, [], ◌∷◌, Bool, true, false, cond, Some, None, ℤ, pos, IsTrue, refl, sym, ap, ◌∙◌, subst, arith}
 use Rattle.c_tree.specs.Syntax.{Expression, Statement, block, set, ignore, assume, assert, if_else, loop, do_while, break, continue, return, Statements, no_statements, statement}
 use Rattle.c_tree.specs.Meaning.{State, with_slot, World, Progress, goes, ends, stopped as source_stopped, failed as source_failed, Flow, normal, broken, continued, returned, Relation, Gives, Ends as SourceEnds, Onward, Then, Choice, is_value, is_zero, Callee, Eval, AfterNormal, AfterBody, Turns, DoTurns, Exec, Execs}
 use Rattle.flow_graph.specs.declared.graph.Edge.{Edge}
@@ -15,7 +15,7 @@ use Rattle.flow_build.proofs.FormMeaning.{Yields, Decides}
 use Rattle.flow_build.proofs.Translated.{IsPlain, RunsPlain, AllPlain, value_fits, test_fits, result_fits, result_in_slot, by_value, by_result, by_test}
 use Rattle.flow_build.proofs.Outgoing.{out, At, at_left, at_right}
 use Rattle.flow_build.proofs.Slots.{slot_there, HasValues, values_with, Matches, matches_on, matches_with, operand_value, operand_is, operand_has, constant_is, argument_is}
-use Rattle.flow_build.proofs.Coming.{Hears, Comes, then_comes, le_self, lt_le, Before, Within, within, over_value, over_skip, over_return, Led}
+use Rattle.flow_build.proofs.Coming.{Hears, Comes, then_comes, le_self, lt_le, Within, within, over_value, over_skip, over_return, Led}
 use Rattle.flow_build.proofs.BackwardValues.{Behind, BehindTest, TestComes, value_comes, test_comes}
 
 -- a number of turns that stands inside comes out

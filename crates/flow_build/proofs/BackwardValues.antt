@@ -1,6 +1,5 @@
 -- From an end of the graph to a result of the source: values, arguments and tests.
-use Rattle.std.proofs.Common.{◌≡◌, ℕ, ◌+◌, ◌<◌, ◌≤◌, List, [], ◌∷◌, Bool, true, false, not, cond, ℤ, pos, negsuc, ◌+ℤ◌, ◌-ℤ◌, ◌*ℤ◌, IsTrue, refl, sym, ap, ◌∙◌, subst, ◌⊎◌, inl, inr, arith, map}
-use Rattle.std.proofs.lemmas.Bool.{true≢false}
+use Rattle.std.proofs.Common.{◌≡◌, ℕ, ◌+◌, ◌≤◌, List, [], ◌∷◌, Bool, true, false, not, cond, ℤ, pos, ◌+ℤ◌, ◌-ℤ◌, ◌*ℤ◌, IsTrue, refl, sym, ap, ◌∙◌, subst, inl, inr, arith, map}
 use Rattle.c_tree.specs.declared.tree.Op.{Op}
 use Rattle.c_tree.specs.Meaning.{State, with_slot, World, Progress, goes, ends, stopped as source_stopped, Relation, Gives, Ends as SourceEnds, Then, Choice, is_value, ExactOrStopped, TakesInput, bit, Callee}
 use Rattle.flow_graph.specs.declared.graph.Edge.{Edge}
@@ -8,17 +7,16 @@ use Rattle.flow_graph.specs.declared.graph.Edge.TheVariants.{Assign, Call, Input
 use Rattle.flow_graph.specs.declared.graph.Lin.{Lin}
 use Rattle.flow_graph.specs.Runs.{End, inside, Called, Ends, lin_value}
 use Rattle.flow_build.specs.declared.operand.Operand.{Operand}
-use Rattle.flow_build.specs.declared.operand.Operand.TheVariants.{Variable, Constant}
+use Rattle.flow_build.specs.declared.operand.Operand.TheVariants.{Variable}
 use Rattle.flow_build.specs.declared.target.Target.{Target}
 use Rattle.flow_build.specs.declared.target.Target.TheVariants.{Node}
 use Rattle.flow_build.specs.Forms.{Value, literal, read, input, call, scale, sum, difference, truth, Values, no_values, value, Test, compare, opposite, both, either}
 use Rattle.flow_build.specs.Operands.{constant_lin, operand_lin, scaled_lin, sum_lin, difference_lin}
-use Rattle.flow_build.specs.Blocks.{one}
 use Rattle.flow_build.specs.Lowering.{operand_at, landing, nodes_of, slots_of, slots_of_test, nodes_of_test, argument_slot, argument_slots, landing_of_all, value_blocks, values_blocks, test_blocks}
-use Rattle.flow_build.proofs.FormMeaning.{comparison, is_comparison, Yields, YieldsAll, Decides, IsInSlot, FitsValue, FitsValues, FitsTest}
+use Rattle.flow_build.proofs.FormMeaning.{comparison, Yields, YieldsAll, Decides, IsInSlot, FitsValue, FitsValues, FitsTest}
 use Rattle.flow_build.proofs.Outgoing.{out, At, at_left, at_right}
 use Rattle.flow_build.proofs.Slots.{slot_there, HasValues, values_with, arguments_map, Matches, Keeps, keeps_all, keeps_with, keeps_on, matches_on, operand_value, operand_is, constant_is, scaled_is, sum_is, difference_is, operand_kept, argument_is}
-use Rattle.flow_build.proofs.Coming.{Hears, Covers, covers_map, Comes, then_comes, le_self, lt_le, Before, Within, within, Stops, Assigned, over_assign, over_value, Taken, over_input, CameBack, over_call, Led, over_compare}
+use Rattle.flow_build.proofs.Coming.{Hears, Covers, covers_map, Comes, then_comes, le_self, lt_le, Before, Within, within, Assigned, over_assign, over_value, over_input, CameBack, over_call, Led, over_compare}
 
 fewer_kept : (t u : ℕ) (a b : State) → t ≤ u → Keeps u a b → Keeps t a b
 fewer_kept t u a b le k = keeps_on t u a a b le (keeps_all t a) k
@@ -95,7 +93,7 @@ module _ (C : Called) (g : List Edge) (rest : List ℤ) (end : End) where
         → ValueComes v from t lo → ValueComes u (landing v from lo) (t + slots_of v) (lo + nodes_of v)
         → (s σ : State) → Matches vars σ s → HasValues σ → (w : World) (K k : ℕ) → k ≤ K → Ends C g k (inside from σ) w.inputs rest end
         → ((w2 : World) (σ2 : State) (x y : ℤ) (j : ℕ) → Keeps t σ σ2 → HasValues σ2 → operand_value σ2 (operand_at v t) ≡ x → operand_value σ2 (operand_at u (t + slots_of v)) ≡ y
-            → j ≤ K → Ends C g j (inside (landing u (landing v from lo) (lo + nodes_of v)) σ2) w2.inputs rest end → Comes C g rest end (F x y) w2 L)
+        → j ≤ K → Ends C g j (inside (landing u (landing v from lo) (lo + nodes_of v)) σ2) w2.inputs rest end → Comes C g rest end (F x y) w2 L)
         → Comes C g rest end (Then (Yields D v s) (λ x. Then (Yields D u s) (F x))) w L
     both_come v u from t lo F L low fits first second s σ m vals w K k le h next =
         let t2 = t + slots_of v in
@@ -188,9 +186,12 @@ module _ (C : Called) (g : List Edge) (rest : List ℤ) (end : End) where
           let σ1 = c.0 in
           let slots = argument_slots vs (t + 1) in
           let keep = fewer_kept t (t + 1) σ σ1 (le_plus t t 1 (le_self t)) c.1 in
-          let r = over_call C g rest end D hears K c.4.0 n lo t p slots σ1 w1 node (arguments_map σ1 c.2 slots) c.4.1 c.4.2 in
-          (r.0, subst (λ ys. D p ys w1 r.0) c.3 r.1, covers_map C g rest end (CameBack C g rest end K lo t σ1) (Behind K lo (Variable t) t σ)
-          (λ w2 v b. (with_slot σ1 t v, keeps_on t t σ σ1 (with_slot σ1 t v) (le_self t) keep (keeps_with t t σ1 v (le_self t)), values_with σ1 t v c.2 b.0, slot_there σ1 t v, within C g rest end K (inside lo (with_slot σ1 t v)) w2.inputs b.1)) r.0 r.2))
+          let r = over_call C g rest end D hears K c.4.0 n lo t p slots σ1 w1 node (arguments_map σ1 c.2 slots) c.4.1 c.4.2 in (
+            r.0,
+            subst (λ ys. D p ys w1 r.0) c.3 r.1,
+            covers_map C g rest end (CameBack C g rest end K lo t σ1) (Behind K lo (Variable t) t σ)
+                (λ w2 v b. (with_slot σ1 t v, keeps_on t t σ σ1 (with_slot σ1 t v) (le_self t) keep (keeps_with t t σ1 v (le_self t)), values_with σ1 t v c.2 b.0, slot_there σ1 t v, within C g rest end K (inside lo (with_slot σ1 t v)) w2.inputs b.1)) r.0 r.2,
+          ))
 
       mutual
         pub value_comes : (v : Value) (from t lo : ℕ) → FitsValue vars v → vars ≤ t → At g (value_blocks v from t lo) → ValueComes v from t lo

@@ -1,8 +1,8 @@
 -- From an end of the graph to a result of the source: what follows an edge.
-use Rattle.std.proofs.Common.{◌≡◌, ℕ, zero, suc, ◌<◌, ◌≤◌, List, [], ◌∷◌, ◌++◌, Bool, true, false, not, cond, ℤ, pos, IsTrue, refl, sym, ap, ◌∙◌, subst, ◌⊎◌, inl, inr, arith, map, get_or}
+use Rattle.std.proofs.Common.{◌≡◌, ℕ, zero, suc, ◌<◌, ◌≤◌, List, [], ◌∷◌, ◌++◌, Bool, true, false, not, cond, ℤ, pos, IsTrue, refl, sym, ap, ◌∙◌, subst, ◌⊎◌, inl, inr, arith, map}
 use Rattle.std.proofs.lemmas.Bool.{true≢false}
 use Rattle.c_tree.specs.declared.tree.Op.{Op}
-use Rattle.c_tree.specs.Meaning.{State, with_slot, World, Progress, goes, ends, Ending, stopped as source_stopped, failed as source_failed, starved, spent, Relation, Gives, Then, is_value, Callee}
+use Rattle.c_tree.specs.Meaning.{State, with_slot, World, Progress, goes, ends, Ending, stopped as source_stopped, failed as source_failed, starved, spent, Relation, Then, is_value, Callee}
 use Rattle.linear_formula.specs.Formula.{HoldsAll}
 use Rattle.linear_formula.specs.declared.formula.Atom.{Atom}
 use Rattle.flow_graph.specs.declared.graph.Edge.{Edge}
@@ -14,7 +14,7 @@ use Rattle.flow_build.specs.declared.operand.Operand.{Operand}
 use Rattle.flow_build.specs.declared.target.Target.{Target}
 use Rattle.flow_build.specs.declared.target.Target.TheVariants.{Node, Fails, Nowhere}
 use Rattle.flow_build.specs.Operands.{rows_where, opposite_op}
-use Rattle.flow_build.specs.Blocks.{way, ways, exit_node, fail_node}
+use Rattle.flow_build.specs.Blocks.{ways, exit_node, fail_node}
 use Rattle.flow_build.proofs.FormMeaning.{comparison, is_comparison}
 use Rattle.flow_build.proofs.Outgoing.{out, Member}
 use Rattle.flow_build.proofs.Moves.{Went, went}
