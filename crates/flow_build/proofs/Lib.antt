@@ -10,3 +10,7 @@ pub mod Coming
 pub mod BackwardValues
 pub mod BackwardStatements
 pub mod BackwardRuns
+pub mod Reaching
+pub mod ForwardValues
+pub mod ForwardStatements
+pub mod ForwardRuns

@@ -5,3 +5,4 @@ pub mod Blocks
 pub mod Lowering
 pub mod Procedures
 pub mod Outcomes
+pub mod Promises
