@@ -7,6 +7,10 @@ pub mod Slots
 pub mod Comparing
 pub mod SmallRows
 pub mod Good
+pub mod Coming
+pub mod BackwardValues
+pub mod BackwardStatements
+pub mod BackwardRuns
 pub mod Reaching
 pub mod ForwardValues
 pub mod ForwardStatements
