@@ -2,6 +2,8 @@
 #![tactic(auto)]
 
 mod builder;
+mod constant;
+mod expression;
 mod linear;
 pub mod operand;
 pub mod target;
