@@ -10,8 +10,13 @@ ghost use Rattle.flow_build.specs.Lowering.{operand_at, landing, landing_of_all,
 ghost use Rattle.flow_build.specs.Building.{is_in_place, copied, copied_node, copied_nodes, copied_operand, literals_fit, all_literals_fit};
 
 use crate::builder::Builder;
-use crate::constant::{constant_value, difference_overflows, has_call, have_call, is_arithmetic, overflows_by, sum_overflows};
-use crate::linear::{at_most, constant_lin, difference_lin, less, operand_lin, scaled_lin, sum_lin};
+use crate::constant::{
+    constant_value, difference_overflows, has_call, have_call, is_arithmetic, overflows_by,
+    sum_overflows,
+};
+use crate::linear::{
+    at_most, constant_lin, difference_lin, less, operand_lin, scaled_lin, sum_lin,
+};
 use crate::operand::Operand;
 use crate::target::Target;
 use c_tree::tree::{Expr, Op, ProcId};
@@ -47,12 +52,7 @@ fn in_slot(node: u32, own: u32, slot: u32) -> Landed
 }
 
 /// Copies a value in place to the next slot, where it is to be kept.
-fn kept_if(
-    b: &mut Builder,
-    alloc: Global,
-    keep: bool,
-    landed: Landed,
-) -> Result<Landed, AllocError>
+fn kept_if(b: &mut Builder, alloc: Global, keep: bool, landed: Landed) -> Result<Landed, AllocError>
     requires room { b.old.next + 1 < 2 ^ 32 }
     requires slots { landed.slot + 1 < 2 ^ 32 }
     ensures edges { OnOk result (b.new.edges.items ≡ b.old.edges.items ++ copied keep landed b.old.next) }

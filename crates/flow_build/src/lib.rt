@@ -1,6 +1,7 @@
 //! From programs to control-flow graphs with the same runs.
 #![tactic(auto)]
 
+mod branch;
 mod builder;
 mod constant;
 mod expression;

@@ -33,10 +33,7 @@ impl Operand {
                 let parts = vec![in alloc; (x, 1)]?;
                 Ok(Term::new(Parts::from_vec(parts), 0))
             }
-            Operand::Constant(n) => Ok(Term::new(
-                Parts::from_vec(Vec::new(alloc)),
-                i128::from(n),
-            )),
+            Operand::Constant(n) => Ok(Term::new(Parts::from_vec(Vec::new(alloc)), i128::from(n))),
         }
     }
 }
