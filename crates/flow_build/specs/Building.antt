@@ -16,6 +16,14 @@ is_in_place (form.literal false n) = true
 is_in_place (form.read false x) = true
 is_in_place v = false
 
+-- a literal as an operand is in place
+abbrev pub is_operand_landed : Operand → (in_place : Bool) → Bool
+is_operand_landed (Variable x) p = true
+is_operand_landed (Constant n) p = p && is_value n
+
+abbrev pub is_landed : Landed → Bool
+is_landed l = is_operand_landed l.operand l.in_place
+
 -- the copy of a value in place to its slot, where it is to be kept
 abbrev pub copied_where : Bool → Landed → (next : ℕ) → List Edge
 copied_where true l next = Assign l.node next l.slot (operand_lin l.operand) ∷ []

@@ -7,3 +7,4 @@ pub mod Procedures
 pub mod Outcomes
 pub mod Promises
 pub mod Building
+pub mod Additions

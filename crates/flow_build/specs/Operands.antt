@@ -24,6 +24,10 @@ abbrev pub constant_of : Operand → ℤ
 constant_of (Variable x) = pos 0
 constant_of (Constant n) = n
 
+abbrev pub slot_or_zero : Operand → ℕ
+slot_or_zero (Variable x) = x
+slot_or_zero (Constant n) = 0
+
 -- the multiple of a literal is no value
 abbrev pub overflows_in_place : ℤ → Operand → Bool
 overflows_in_place c (Variable x) = false

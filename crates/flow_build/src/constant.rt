@@ -1,10 +1,11 @@
 //! What is known of expressions before the run.
 
-ghost use Rattle.std.specs.Prelude.{◌≡◌, ℕ, ℤ, ◌+ℤ◌, ◌-ℤ◌, ◌*ℤ◌, ◌||◌, Option};
+ghost use Rattle.std.specs.Prelude.{◌≡◌, ◌+ℤ◌, ◌-ℤ◌, OnSome, IsTrue};
 ghost use Rattle.c_tree.specs.View.{expression_of, expressions_of};
 ghost use Rattle.c_tree.specs.WellFormed.{is_arithmetic};
 ghost use Rattle.flow_build.specs.Translation.{operation, constant_value, has_call, have_call, value_of, overflows};
 ghost use Rattle.flow_build.specs.Operands.{overflows_in_place};
+ghost use Rattle.flow_build.specs.Building.{literals_fit};
 
 use crate::operand::Operand;
 use c_tree::tree::{Expr, Op};
@@ -29,7 +30,8 @@ fn operation(op: Op, x: i64, y: i64) -> Option<i64>
 
 /// The value of a constant expression, unless an operation in it stops the run.
 pub fn constant_value(e: &Expr) -> Option<i64>
-    ensures { result ≡ constant_value (expression_of e.now) }
+    ensures value { result ≡ constant_value (expression_of e.now) }
+    ensures literals { OnSome result (IsTrue (literals_fit (expression_of e.now))) }
 {
     match e {
         Expr::Literal(n) => Some(*n),

@@ -1,7 +1,7 @@
 //! Operands, and what edges do with them.
 
 ghost use Rattle.std.specs.Prelude.{◌≡◌, IfOk, IsTrue};
-ghost use Rattle.flow_build.specs.Operands.{is_operand, constant_of, operand_sum};
+ghost use Rattle.flow_build.specs.Operands.{is_operand, slot_or_zero, constant_of, operand_sum};
 
 use c_tree::tree::Slot;
 use linear_formula::term::{Parts, Term};
@@ -21,6 +21,16 @@ impl Operand {
         match self {
             Operand::Variable(_) => 0,
             Operand::Constant(n) => n,
+        }
+    }
+
+    /// The slot, 0 for a literal.
+    pub fn slot(self) -> Slot
+        ensures { result ≡ slot_or_zero self }
+    {
+        match self {
+            Operand::Variable(slot) => slot,
+            Operand::Constant(_) => 0,
         }
     }
 
