@@ -6,6 +6,7 @@ pub mod Moves
 pub mod Slots
 pub mod Comparing
 pub mod SmallRows
+pub mod Adding
 pub mod Good
 pub mod Coming
 pub mod BackwardValues

@@ -3,9 +3,9 @@ use Rattle.std.specs.Prelude.{◌≡◌, ℕ, ◌+◌, ◌*◌, ◌≤◌, Bool,
 use Rattle.c_tree.specs.declared.tree.Op.{Op}
 use Rattle.c_tree.specs.Syntax.{Expression}
 use Rattle.flow_build.specs.declared.builder.Builder.{Builder}
-use Rattle.flow_build.specs.declared.expression.Landed.{Landed}
-use Rattle.flow_build.specs.declared.expression.Reached.{Reached}
-use Rattle.flow_build.specs.declared.expression.BothSides.{BothSides}
+use Rattle.flow_build.specs.declared.landing.Landed.{Landed}
+use Rattle.flow_build.specs.declared.landing.Reached.{Reached}
+use Rattle.flow_build.specs.declared.landing.BothSides.{BothSides}
 use Rattle.flow_build.specs.declared.target.Target.{Target}
 use Rattle.flow_build.specs.Forms.{Value, Values, Test}
 use Rattle.flow_build.specs.Translation.{constant_value, has_call, in_slot, kept_if, value_by, test_by, value_of, test_of}
