@@ -4,6 +4,7 @@
 mod branch;
 mod builder;
 mod constant;
+mod expression;
 mod landing;
 mod linear;
 pub mod operand;
