@@ -7,7 +7,7 @@ pub mod Slots
 pub mod Comparing
 pub mod SmallRows
 pub mod Adding
-pub mod Weights
+pub mod Measures
 pub mod Good
 pub mod Coming
 pub mod BackwardValues

@@ -1,6 +1,6 @@
 use Rattle.std.proofs.Common.{◌+◌, ◌*◌}
 use Rattle.c_tree.specs.View.{expression_of, expressions_of}
-use Rattle.flow_build.proofs.Weights.{weight, weight_of_all}
+use Rattle.flow_build.proofs.Measures.{weight, weight_of_all}
 use Rattle.flow_build.proofs.expression.+expressions.Given as goal
 
 abbrev pub decreases-value : goal.decreases-value
