@@ -5,3 +5,4 @@ pub mod Outgoing
 pub mod Moves
 pub mod Slots
 pub mod Comparing
+pub mod Fresh
