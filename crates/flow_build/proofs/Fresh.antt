@@ -1,8 +1,8 @@
 -- Blocks whose nodes are apart: what leaves a node of theirs is what its block says.
-use Rattle.std.proofs.Common.{◌≡◌, ℕ, ◌+◌, ◌<◌, ◌≤◌, List, [], ◌∷◌, ◌++◌, Some, refl, sym, ap, ◌∙◌, subst, ◌⊎◌, inl, inr, append_assoc, arith}
+use Rattle.std.proofs.Common.{◌≡◌, ℕ, ◌<◌, ◌≤◌, List, [], ◌∷◌, ◌++◌, Some, refl, sym, ap, ◌∙◌, subst, ◌⊎◌, inl, inr, append_assoc, arith}
 use Rattle.flow_graph.specs.declared.graph.Edge.{Edge}
 use Rattle.flow_graph.specs.Shapes.{source}
-use Rattle.flow_build.specs.Blocks.{Block, edges_of, one}
+use Rattle.flow_build.specs.Blocks.{Block, edges_of}
 use Rattle.flow_build.proofs.Outgoing.{out, out-append, out_here, out_other, left_part, right_part, no_part, At}
 
 pub edges-append : (xs ys : List Block) → edges_of (xs ++ ys) ≡ edges_of xs ++ edges_of ys
@@ -115,38 +115,38 @@ fresh_then from lo hi lo1 hi1 m lo2 hi2 xs ys a b c d e f g x y = fresh_both (Ra
     apart n (inr q) (inl r) = omega arith
     apart n (inr q) (inr r) = omega arith
 
--- Two parts begin at lo and lo + 1.
-pub fresh_three : (from lo i j k : ℕ) (xs ys zs : List Block) → from < lo → lo + 2 ≤ i → i ≤ j → j ≤ k →
-    Fresh (Range from (lo + 2) i) xs → Fresh (Range lo i j) ys → Fresh (Range (lo + 1) j k) zs → Fresh (Range from lo k) (xs ++ (ys ++ zs))
-fresh_three from lo i j k xs ys zs a b c d x y z =
-    fresh_both (Range from (lo + 2) i) (λ n. Range lo i j n ⊎ Range (lo + 1) j k n) (Range from lo k) xs (ys ++ zs) first rest apart x
-    (fresh_both (Range lo i j) (Range (lo + 1) j k) (λ n. Range lo i j n ⊎ Range (lo + 1) j k n) ys zs (λ n h. inl h) (λ n h. inr h) between y z)
+-- Two parts begin at nodes between, p and q.
+pub fresh_three : (from lo p q h i j k : ℕ) (xs ys zs : List Block) → from < lo → lo ≤ p → p < q → q < h → h ≤ i → i ≤ j → j ≤ k →
+    Fresh (Range from h i) xs → Fresh (Range p i j) ys → Fresh (Range q j k) zs → Fresh (Range from lo k) (xs ++ (ys ++ zs))
+fresh_three from lo p q h i j k xs ys zs a b c d e f g x y z =
+    fresh_both (Range from h i) (λ n. Range p i j n ⊎ Range q j k n) (Range from lo k) xs (ys ++ zs) first rest apart x
+    (fresh_both (Range p i j) (Range q j k) (λ n. Range p i j n ⊎ Range q j k n) ys zs (λ n h. inl h) (λ n h. inr h) between y z)
   where
-    first : (n : ℕ) → Range from (lo + 2) i n → Range from lo k n
-    first n (inl q) = inl q
+    first : (n : ℕ) → Range from h i n → Range from lo k n
+    first n (inl r) = inl r
     first n (inr r) = inr (omega arith, omega arith)
 
-    rest : (n : ℕ) → Range lo i j n ⊎ Range (lo + 1) j k n → Range from lo k n
-    rest n (inl (inl q)) = inr (omega arith, omega arith)
+    rest : (n : ℕ) → Range p i j n ⊎ Range q j k n → Range from lo k n
+    rest n (inl (inl r)) = inr (omega arith, omega arith)
     rest n (inl (inr r)) = inr (omega arith, omega arith)
-    rest n (inr (inl q)) = inr (omega arith, omega arith)
+    rest n (inr (inl r)) = inr (omega arith, omega arith)
     rest n (inr (inr r)) = inr (omega arith, omega arith)
 
-    apart : (n : ℕ) → Range from (lo + 2) i n → Range lo i j n ⊎ Range (lo + 1) j k n → ⊥
-    apart n (inl q) (inl (inl r)) = omega arith
-    apart n (inl q) (inl (inr r)) = omega arith
-    apart n (inl q) (inr (inl r)) = omega arith
-    apart n (inl q) (inr (inr r)) = omega arith
-    apart n (inr q) (inl (inl r)) = omega arith
-    apart n (inr q) (inl (inr r)) = omega arith
-    apart n (inr q) (inr (inl r)) = omega arith
-    apart n (inr q) (inr (inr r)) = omega arith
+    apart : (n : ℕ) → Range from h i n → Range p i j n ⊎ Range q j k n → ⊥
+    apart n (inl r) (inl (inl s)) = omega arith
+    apart n (inl r) (inl (inr s)) = omega arith
+    apart n (inl r) (inr (inl s)) = omega arith
+    apart n (inl r) (inr (inr s)) = omega arith
+    apart n (inr r) (inl (inl s)) = omega arith
+    apart n (inr r) (inl (inr s)) = omega arith
+    apart n (inr r) (inr (inl s)) = omega arith
+    apart n (inr r) (inr (inr s)) = omega arith
 
-    between : (n : ℕ) → Range lo i j n → Range (lo + 1) j k n → ⊥
-    between n (inl q) (inl r) = omega arith
-    between n (inl q) (inr r) = omega arith
-    between n (inr q) (inl r) = omega arith
-    between n (inr q) (inr r) = omega arith
+    between : (n : ℕ) → Range p i j n → Range q j k n → ⊥
+    between n (inl r) (inl s) = omega arith
+    between n (inl r) (inr s) = omega arith
+    between n (inr r) (inl s) = omega arith
+    between n (inr r) (inr s) = omega arith
 
 -- a block alone, at the first node
 pub fresh_first : (from lo hi : ℕ) (es : List Edge) → Leave from es → Fresh (Range from lo hi) (record { node = from; edges = es } ∷ [])

@@ -6,3 +6,4 @@ pub mod Moves
 pub mod Slots
 pub mod Comparing
 pub mod Fresh
+pub mod Placed
