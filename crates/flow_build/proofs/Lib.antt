@@ -7,3 +7,4 @@ pub mod Slots
 pub mod Comparing
 pub mod Fresh
 pub mod Placed
+pub mod Weights
