@@ -116,3 +116,85 @@ module _ (of_truth of_compare of_both : ℕ) where
 
     pub some_times : (e : Expression) → 1 ≤ k * nodes e
     some_times e = let h = some_nodes e in grind (arith, h)
+
+    mutual
+      pub few_value : (e : Expression) → weight (value_of e) ≤ k * nodes e
+      few_value (literal n) = omega arith
+      few_value (read x) = omega arith
+      few_value input = omega arith
+      few_value (call p es) = let h = few_values es in omega (arith, h)
+      few_value (negate e) = let h = scaled_few (negsuc 0) (value_of e) (k * nodes e) (some_times e) (few_value e) in omega (arith, h)
+      few_value (not_of e) = let h = few_test e in omega (arith, h)
+      few_value (binary op a b) =
+          let h = value_few (value_of a) (value_of b) (k * nodes a) (k * nodes b) (some_times a) (some_times b) (few_value a) (few_value b) (test_of a) (test_of b) (few_test a) (few_test b) (constant_value a) (constant_value b) (has_call b) op in
+          omega (arith, h)
+
+      pub few_values : (es : Expressions) → weight_all (values_of es) ≤ k * nodes_all es
+      few_values no_expressions = omega arith
+      few_values (expression e es) =
+          let v = kept_if (have_call es) (value_of e) in
+          let h = in_slot_few v (k * nodes e) (some_times e) (kept_if_few (have_call es) (value_of e) (k * nodes e) (some_times e) (few_value e)) in
+          let i = few_values es in
+          omega (arith, h, i)
+
+      pub few_test : (e : Expression) → weight_test (test_of e) ≤ k * nodes e
+      few_test (literal n) = omega arith
+      few_test (read x) = omega arith
+      few_test input = omega arith
+      few_test (call p es) = let h = few_values es in omega (arith, h)
+      few_test (negate e) = let h = scaled_few (negsuc 0) (value_of e) (k * nodes e) (some_times e) (few_value e) in omega (arith, h)
+      few_test (not_of e) = let h = few_test e in omega (arith, h)
+      few_test (binary op a b) =
+          let h = test_few (value_of a) (value_of b) (k * nodes a) (k * nodes b) (some_times a) (some_times b) (few_value a) (few_value b) (test_of a) (test_of b) (few_test a) (few_test b) (constant_value a) (constant_value b) (has_call b) op in
+          omega (arith, h)
+
+    pub few_result : (e : Expression) → weight (in_slot (value_of e)) ≤ k * nodes e
+    few_result e = in_slot_few (value_of e) (k * nodes e) (some_times e) (few_value e)
+
+-- The nodes that a form takes.
+mutual
+  pub nodes_weigh : (v : Value) → nodes_of v ≡ weight 3 0 1 v
+  nodes_weigh (form.literal false n) = refl
+  nodes_weigh (form.literal true n) = refl
+  nodes_weigh (form.read false x) = refl
+  nodes_weigh (form.read true x) = refl
+  nodes_weigh form.input = refl
+  nodes_weigh (form.call p vs) = ap (λ n. 1 + n) (nodes_weigh_all vs)
+  nodes_weigh (form.scale c v) = ap (λ n. 1 + n) (nodes_weigh v)
+  nodes_weigh (form.sum v u) = let a = nodes_weigh v in let b = nodes_weigh u in omega (arith, a, b)
+  nodes_weigh (form.difference v u) = let a = nodes_weigh v in let b = nodes_weigh u in omega (arith, a, b)
+  nodes_weigh (form.truth c) = ap (λ n. 3 + n) (nodes_weigh_test c)
+
+  pub nodes_weigh_all : (vs : Values) → nodes_of_all vs ≡ weight_all 3 0 1 vs
+  nodes_weigh_all no_values = refl
+  nodes_weigh_all (value v vs) = let a = nodes_weigh v in let b = nodes_weigh_all vs in omega (arith, a, b)
+
+  pub nodes_weigh_test : (c : Test) → nodes_of_test c ≡ weight_test 3 0 1 c
+  nodes_weigh_test (compare op v u) = let a = nodes_weigh v in let b = nodes_weigh u in omega (arith, a, b)
+  nodes_weigh_test (opposite c) = nodes_weigh_test c
+  nodes_weigh_test (both c d) = let a = nodes_weigh_test c in let b = nodes_weigh_test d in omega (arith, a, b)
+  nodes_weigh_test (either c d) = let a = nodes_weigh_test c in let b = nodes_weigh_test d in omega (arith, a, b)
+
+-- The slots that it takes.
+mutual
+  pub slots_weigh : (v : Value) → slots_of v ≡ weight 1 0 0 v
+  slots_weigh (form.literal false n) = refl
+  slots_weigh (form.literal true n) = refl
+  slots_weigh (form.read false x) = refl
+  slots_weigh (form.read true x) = refl
+  slots_weigh form.input = refl
+  slots_weigh (form.call p vs) = ap (λ n. 1 + n) (slots_weigh_all vs)
+  slots_weigh (form.scale c v) = ap (λ n. 1 + n) (slots_weigh v)
+  slots_weigh (form.sum v u) = let a = slots_weigh v in let b = slots_weigh u in omega (arith, a, b)
+  slots_weigh (form.difference v u) = let a = slots_weigh v in let b = slots_weigh u in omega (arith, a, b)
+  slots_weigh (form.truth c) = ap (λ n. 1 + n) (slots_weigh_test c)
+
+  pub slots_weigh_all : (vs : Values) → slots_of_all vs ≡ weight_all 1 0 0 vs
+  slots_weigh_all no_values = refl
+  slots_weigh_all (value v vs) = let a = slots_weigh v in let b = slots_weigh_all vs in omega (arith, a, b)
+
+  pub slots_weigh_test : (c : Test) → slots_of_test c ≡ weight_test 1 0 0 c
+  slots_weigh_test (compare op v u) = let a = slots_weigh v in let b = slots_weigh u in omega (arith, a, b)
+  slots_weigh_test (opposite c) = slots_weigh_test c
+  slots_weigh_test (both c d) = let a = slots_weigh_test c in let b = slots_weigh_test d in omega (arith, a, b)
+  slots_weigh_test (either c d) = let a = slots_weigh_test c in let b = slots_weigh_test d in omega (arith, a, b)
