@@ -8,3 +8,4 @@ pub mod Comparing
 pub mod Fresh
 pub mod Placed
 pub mod Weights
+pub mod Sizes
