@@ -9,3 +9,13 @@ pub mod Fresh
 pub mod Placed
 pub mod Weights
 pub mod Sizes
+pub mod SmallRows
+pub mod Good
+pub mod Coming
+pub mod BackwardValues
+pub mod BackwardStatements
+pub mod BackwardRuns
+pub mod Reaching
+pub mod ForwardValues
+pub mod ForwardStatements
+pub mod ForwardRuns

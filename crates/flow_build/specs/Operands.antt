@@ -1,5 +1,6 @@
 -- What edges do with operands.
-use Rattle.std.specs.Prelude.{ℕ, List, [], ◌∷◌, ◌++◌, ℤ, pos, negsuc, ◌+ℤ◌, ◌-ℤ◌, ◌*ℤ◌}
+use Rattle.std.specs.Prelude.{ℕ, Bool, true, List, [], ◌∷◌, ◌++◌, ℤ, pos, negsuc, ◌+ℤ◌, ◌-ℤ◌, ◌*ℤ◌}
+use Rattle.c_tree.specs.Meaning.{is_value}
 use Rattle.c_tree.specs.declared.tree.Op.{Op}
 use Rattle.c_tree.specs.declared.tree.Op.TheVariants.{Less, LessEqual, Greater, GreaterEqual, Equal, Unequal}
 use Rattle.linear_formula.specs.LinearSum.{LinearSum}
@@ -9,6 +10,11 @@ use Rattle.linear_formula.specs.declared.formula.Atom.{Atom}
 use Rattle.flow_graph.specs.declared.graph.Lin.{Lin}
 use Rattle.flow_build.specs.declared.operand.Operand.{Operand}
 use Rattle.flow_build.specs.declared.operand.Operand.TheVariants.{Variable, Constant}
+
+-- its literal is a value
+abbrev pub is_operand : Operand → Bool
+is_operand (Variable x) = true
+is_operand (Constant n) = is_value n
 
 abbrev pub multiple_parts : ℤ → Operand → List (ℤ × ℕ)
 multiple_parts c (Variable x) = (c, x) ∷ []
