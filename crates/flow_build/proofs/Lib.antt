@@ -9,6 +9,7 @@ pub mod Fresh
 pub mod Placed
 pub mod Weights
 pub mod Sizes
+pub mod Allowed
 pub mod SmallRows
 pub mod Good
 pub mod Coming
