@@ -10,6 +10,7 @@ pub mod Placed
 pub mod Weights
 pub mod Sizes
 pub mod Allowed
+pub mod Fine
 pub mod SmallRows
 pub mod Good
 pub mod Coming
