@@ -11,6 +11,7 @@ pub mod Weights
 pub mod Sizes
 pub mod Allowed
 pub mod Fine
+pub mod FineForms
 pub mod SmallRows
 pub mod Good
 pub mod Coming
