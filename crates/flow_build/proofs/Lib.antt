@@ -12,6 +12,7 @@ pub mod Sizes
 pub mod Allowed
 pub mod Fine
 pub mod FineForms
+pub mod FineStatements
 pub mod SmallRows
 pub mod Good
 pub mod Coming
