@@ -13,6 +13,7 @@ pub mod Allowed
 pub mod Fine
 pub mod FineForms
 pub mod FineStatements
+pub mod Facts
 pub mod SmallRows
 pub mod Good
 pub mod Coming
