@@ -14,6 +14,7 @@ pub mod Fine
 pub mod FineForms
 pub mod FineStatements
 pub mod Facts
+pub mod Linking
 pub mod SmallRows
 pub mod Good
 pub mod Coming
