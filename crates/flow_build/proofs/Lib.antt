@@ -16,6 +16,7 @@ pub mod FineStatements
 pub mod Facts
 pub mod Linking
 pub mod SmallRows
+pub mod Adding
 pub mod Good
 pub mod Coming
 pub mod BackwardValues

@@ -6,6 +6,7 @@ use Rattle.std.proofs.lemmas.Bool.Decides.{eqb_tells}
 use Rattle.flow_graph.specs.declared.graph.Edge.{Edge}
 use Rattle.flow_graph.specs.Shapes.{source}
 use Rattle.flow_build.specs.Blocks.{Block}
+
 abbrev pub leaves : Option ℕ → ℕ → Bool
 leaves None n = false
 leaves (Some m) n = eqb m n

@@ -6,3 +6,5 @@ pub mod Lowering
 pub mod Procedures
 pub mod Outcomes
 pub mod Promises
+pub mod Building
+pub mod Additions

@@ -1,5 +1,5 @@
 -- What edges do with operands.
-use Rattle.std.specs.Prelude.{ℕ, Bool, true, List, [], ◌∷◌, ◌++◌, ℤ, pos, negsuc, ◌+ℤ◌, ◌-ℤ◌, ◌*ℤ◌}
+use Rattle.std.specs.Prelude.{ℕ, Bool, true, false, not, List, [], ◌∷◌, ◌++◌, ℤ, pos, negsuc, ◌+ℤ◌, ◌-ℤ◌, ◌*ℤ◌}
 use Rattle.c_tree.specs.Meaning.{is_value}
 use Rattle.c_tree.specs.declared.tree.Op.{Op}
 use Rattle.c_tree.specs.declared.tree.Op.TheVariants.{Less, LessEqual, Greater, GreaterEqual, Equal, Unequal}
@@ -23,6 +23,15 @@ multiple_parts c (Constant n) = []
 abbrev pub constant_of : Operand → ℤ
 constant_of (Variable x) = pos 0
 constant_of (Constant n) = n
+
+abbrev pub slot_or_zero : Operand → ℕ
+slot_or_zero (Variable x) = x
+slot_or_zero (Constant n) = 0
+
+-- the multiple of a literal is no value
+abbrev pub overflows_in_place : ℤ → Operand → Bool
+overflows_in_place c (Variable x) = false
+overflows_in_place c (Constant n) = not (is_value (c *ℤ n))
 
 abbrev pub constant_lin : ℤ → Lin
 constant_lin n = record { parts = []; constant = n }

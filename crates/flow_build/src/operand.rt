@@ -1,7 +1,7 @@
 //! Operands, and what edges do with them.
 
 ghost use Rattle.std.specs.Prelude.{◌≡◌, IfOk, IsTrue};
-ghost use Rattle.flow_build.specs.Operands.{is_operand, constant_of, operand_sum};
+ghost use Rattle.flow_build.specs.Operands.{is_operand, slot_or_zero, constant_of, operand_sum};
 
 use c_tree::tree::Slot;
 use linear_formula::term::{Parts, Term};
@@ -24,6 +24,16 @@ impl Operand {
         }
     }
 
+    /// The slot, 0 for a literal.
+    pub fn slot(self) -> Slot
+        ensures { result ≡ slot_or_zero self }
+    {
+        match self {
+            Operand::Variable(slot) => slot,
+            Operand::Constant(_) => 0,
+        }
+    }
+
     pub fn term(self, alloc: Global) -> Result<Term, AllocError>
         ensures value { IfOk result (λ t. t ≡ operand_sum self) }
         ensures fits { IsTrue (is_operand self) }
@@ -33,10 +43,7 @@ impl Operand {
                 let parts = vec![in alloc; (x, 1)]?;
                 Ok(Term::new(Parts::from_vec(parts), 0))
             }
-            Operand::Constant(n) => Ok(Term::new(
-                Parts::from_vec(Vec::new(alloc)),
-                i128::from(n),
-            )),
+            Operand::Constant(n) => Ok(Term::new(Parts::from_vec(Vec::new(alloc)), i128::from(n))),
         }
     }
 }

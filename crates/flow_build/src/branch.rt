@@ -1,0 +1,110 @@
+//! The edges of comparisons.
+
+ghost use Rattle.std.specs.Prelude.{◌≡◌, ◌++◌, OnOk};
+ghost use Rattle.flow_build.specs.Blocks.{way, ways};
+ghost use Rattle.flow_build.specs.Operands.{rows_where, opposite_op};
+
+use crate::builder::Builder;
+use crate::linear::{at_most, less};
+use crate::operand::Operand;
+use crate::target::Target;
+use c_tree::tree::Op;
+use flow_graph::graph::Edge;
+use linear_formula::formula::{Atom, Atoms, Cube};
+use std::alloc::{AllocError, Global};
+
+/// The fixed node to which failed assertions lead.
+pub const FAIL_NODE: u32 = 1;
+
+/// The edge to a target where the rows hold; to nowhere there is none.
+fn push_way(b: &mut Builder, from: u32, target: Target, rows: Vec<Atom>) -> Result<(), AllocError>
+    ensures edges { OnOk result (b.new.edges.items ≡ b.old.edges.items ++ way from target rows.items) }
+    ensures next { b.new.next ≡ b.old.next }
+{
+    let rows = Cube {
+        atoms: Atoms::from_vec(rows),
+    };
+    match target {
+        Target::Node(to) => b.push(Edge::Guard { from, to, rows }),
+        Target::Fails(id) => b.push(Edge::Assert {
+            from,
+            to: FAIL_NODE,
+            id,
+            rows,
+        }),
+        Target::Nowhere => Ok(()),
+    }
+}
+
+/// The edges to a target where the comparison holds. For an unequal there are two, first the one for greater.
+fn push_ways(
+    b: &mut Builder,
+    alloc: Global,
+    from: u32,
+    target: Target,
+    op: Op,
+    left: Operand,
+    right: Operand,
+) -> Result<(), AllocError>
+    ensures edges { OnOk result (b.new.edges.items ≡ b.old.edges.items ++ ways from target (rows_where op left right)) }
+    ensures next { b.new.next ≡ b.old.next }
+{
+    match op {
+        Op::Less => push_way(b, from, target, vec![in alloc; less(alloc, left, right)?]?),
+        Op::LessEqual => push_way(
+            b,
+            from,
+            target,
+            vec![in alloc; at_most(alloc, left, right)?]?,
+        ),
+        Op::Greater => push_way(b, from, target, vec![in alloc; less(alloc, right, left)?]?),
+        Op::GreaterEqual => push_way(
+            b,
+            from,
+            target,
+            vec![in alloc; at_most(alloc, right, left)?]?,
+        ),
+        Op::Equal => {
+            let rows = vec![in alloc; at_most(alloc, left, right)?, at_most(alloc, right, left)?]?;
+            push_way(b, from, target, rows)
+        }
+        Op::Unequal => {
+            push_way(b, from, target, vec![in alloc; less(alloc, right, left)?]?)?;
+            push_way(b, from, target, vec![in alloc; less(alloc, left, right)?]?)
+        }
+        Op::Add | Op::Subtract | Op::Multiply | Op::And | Op::Or => Ok(()),
+    }
+}
+
+fn opposite(op: Op) -> Op
+    ensures { result ≡ opposite_op op }
+{
+    match op {
+        Op::Less => Op::GreaterEqual,
+        Op::LessEqual => Op::Greater,
+        Op::Greater => Op::LessEqual,
+        Op::GreaterEqual => Op::Less,
+        Op::Equal => Op::Unequal,
+        Op::Unequal => Op::Equal,
+        op => op,
+    }
+}
+
+/// The edges of a comparison, to one target where it holds and to another one where it doesn't.
+pub fn compare(
+    b: &mut Builder,
+    alloc: Global,
+    from: u32,
+    op: Op,
+    left: Operand,
+    right: Operand,
+    met: Target,
+    unmet: Target,
+) -> Result<(), AllocError>
+    ensures edges { OnOk result (b.new.edges.items ≡
+        b.old.edges.items ++ (ways from met (rows_where op left right) ++ ways from unmet (rows_where (opposite_op op) left right))) }
+    ensures next { b.new.next ≡ b.old.next }
+{
+    push_ways(b, alloc, from, met, op, left, right)?;
+    push_ways(b, alloc, from, unmet, opposite(op), left, right)
+}

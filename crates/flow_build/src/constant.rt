@@ -1,0 +1,100 @@
+//! What is known of expressions before the run.
+
+ghost use Rattle.std.specs.Prelude.{◌≡◌, ◌+ℤ◌, ◌-ℤ◌, OnSome, IsTrue};
+ghost use Rattle.c_tree.specs.View.{expression_of, expressions_of};
+ghost use Rattle.c_tree.specs.WellFormed.{is_arithmetic};
+ghost use Rattle.flow_build.specs.Translation.{operation, constant_value, has_call, have_call, value_of, overflows};
+ghost use Rattle.flow_build.specs.Operands.{overflows_in_place};
+ghost use Rattle.flow_build.specs.Building.{literals_fit};
+
+use crate::operand::Operand;
+use c_tree::tree::{Expr, Op};
+
+pub fn is_arithmetic(op: Op) -> bool
+    ensures { result ≡ is_arithmetic op }
+{
+    matches!(op, Op::Add | Op::Subtract | Op::Multiply)
+}
+
+/// The exact value of an operation of two values, where it is one.
+fn operation(op: Op, x: i64, y: i64) -> Option<i64>
+    ensures { result ≡ operation op x y }
+{
+    match op {
+        Op::Add => x.checked_add(y),
+        Op::Subtract => x.checked_sub(y),
+        Op::Multiply => x.checked_mul(y),
+        _ => None,
+    }
+}
+
+/// The value of a constant expression, unless an operation in it stops the run.
+pub fn constant_value(e: &Expr) -> Option<i64>
+    ensures value { result ≡ constant_value (expression_of e.now) }
+    ensures literals { OnSome result (IsTrue (literals_fit (expression_of e.now))) }
+{
+    match e {
+        Expr::Literal(n) => Some(*n),
+        Expr::Negate(inner) => constant_value(inner)?.checked_neg(),
+        Expr::Binary(op, left, right) => {
+            let left = constant_value(left)?;
+            let right = constant_value(right)?;
+            operation(*op, left, right)
+        }
+        _ => None,
+    }
+}
+
+/// Whether a call stands in the expression.
+
+pub fn has_call(e: &Expr) -> bool
+    ensures { result ≡ has_call (expression_of e.now) }
+{
+    match e {
+        Expr::Literal(_) | Expr::Read(_) | Expr::Input => false,
+        Expr::Call(_, _) => true,
+        Expr::Negate(inner) => has_call(inner),
+        Expr::Not(inner) => has_call(inner),
+        Expr::Binary(_, left, right) => has_call(left) || has_call(right),
+    }
+}
+
+/// Whether a call stands in one of the expressions.
+pub fn have_call(es: &[Expr]) -> bool
+    ensures { result ≡ have_call (expressions_of es.now) }
+{
+    match es {
+        [] => false,
+        [first, rest @ ..] => has_call(first) || have_call(rest),
+    }
+}
+
+/// Whether the exact multiple of a literal in place is no value.
+pub fn overflows_by(coefficient: i64, a: Operand) -> bool
+    ensures { result ≡ overflows_in_place coefficient a }
+{
+    match a {
+        Operand::Variable(_) => false,
+        Operand::Constant(n) => coefficient.checked_mul(n).is_none(),
+    }
+}
+
+/// Whether both sides are literals whose exact sum is no value.
+pub fn sum_overflows(left: &Expr, right: &Expr) -> bool
+    ensures { result ≡ overflows (λ x y. x +ℤ y) (value_of (expression_of left.now)) (value_of (expression_of right.now)) }
+{
+    match (left, right) {
+        (Expr::Literal(x), Expr::Literal(y)) => x.checked_add(*y).is_none(),
+        _ => false,
+    }
+}
+
+/// Whether both sides are literals whose exact difference is no value.
+pub fn difference_overflows(left: &Expr, right: &Expr) -> bool
+    ensures { result ≡ overflows (λ x y. x -ℤ y) (value_of (expression_of left.now)) (value_of (expression_of right.now)) }
+{
+    match (left, right) {
+        (Expr::Literal(x), Expr::Literal(y)) => x.checked_sub(*y).is_none(),
+        _ => false,
+    }
+}
