@@ -1,5 +1,5 @@
 -- The multiples and calls of forms are those of their expressions.
-use Rattle.std.proofs.Common.{◌≡◌, ℕ, ◌+◌, Bool, true, false, ◌||◌, ◌&&◌, ◌==◌, List, [], ◌∷◌, ◌++◌, Option, None, Some, ℤ, pos, negsuc, ◌+ℤ◌, ◌-ℤ◌, IsTrue, refl, sym, ap, ◌∙◌, subst, arith}
+use Rattle.std.proofs.Common.{◌≡◌, ℕ, ◌+◌, Bool, true, false, ◌||◌, ◌&&◌, ◌==◌, List, ◌++◌, Option, None, Some, ℤ, negsuc, ◌+ℤ◌, ◌-ℤ◌, IsTrue, refl, sym, ap, arith}
 use Rattle.std.specs.Prelude.{Contains}
 use Rattle.std.proofs.lemmas.Bool.{eq-eqb}
 use Rattle.std.proofs.lemmas.List.Elements.{Contains-append_left, Contains-append_right}
@@ -9,7 +9,7 @@ use Rattle.c_tree.specs.Syntax.{Expression, literal, read, input, call, negate, 
 use Rattle.c_tree.specs.WellFormed.{count}
 use Rattle.flow_build.specs.Forms.{Value, Values, no_values, value, Test, compare, opposite, both, either}
 use Rattle.flow_build.specs.Forms as form
-use Rattle.flow_build.specs.Translation.{constant_value, has_call, have_call, kept, kept_if, in_slot, overflows_by, scaled, overflows, added, subtracted, multiplied, compared, nonzero, value_by, test_by, value_of, values_of, test_of}
+use Rattle.flow_build.specs.Translation.{constant_value, has_call, have_call, kept, kept_if, in_slot, overflows_by, scaled, overflows, added, subtracted, multiplied, value_by, test_by, value_of, values_of, test_of}
 use Rattle.flow_build.specs.Lowering.{result_of}
 use Rattle.flow_build.specs.Promises.{calls, calls_any, listed, sides, factors, factors_in}
 

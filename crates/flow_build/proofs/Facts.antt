@@ -1,17 +1,15 @@
 -- What the graphs of procedures keep.
-use Rattle.std.proofs.Common.{◌≡◌, ℕ, zero, suc, ◌+◌, ◌*◌, ◌<◌, ◌≤◌, nat_le, Bool, true, false, ◌||◌, ◌&&◌, ◌==◌, List, [], ◌∷◌, ◌++◌, length, Option, None, Some, ℤ, pos, IsTrue, refl, sym, ap, ◌∙◌, subst, ◌⊎◌, inl, inr, arith}
-use Rattle.std.specs.Prelude.{max, slice_get}
-use Rattle.std.proofs.lemmas.Bool.{eq-eqb, le-leb, eqb-true}
+use Rattle.std.proofs.Common.{◌≡◌, ℕ, zero, suc, ◌<◌, ◌≤◌, List, [], ◌∷◌, length, Some, pos, refl, sym, ap, ◌∙◌, subst, inr, arith}
+use Rattle.std.specs.Prelude.{slice_get}
+use Rattle.std.proofs.lemmas.Bool.{eq-eqb, le-leb}
 use Rattle.c_tree.specs.Syntax.{block, PureProcedure, PureProgram}
 use Rattle.c_tree.specs.WellFormed.{statements_nodes}
 use Rattle.flow_graph.specs.declared.graph.Edge.{Edge}
-use Rattle.flow_graph.specs.declared.graph.Edge.TheVariants.{Entry, Assign, Guard, Call, Return}
+use Rattle.flow_graph.specs.declared.graph.Edge.TheVariants.{Entry}
 use Rattle.flow_graph.specs.declared.graph.Graph.{Graph}
-use Rattle.flow_graph.specs.Shapes.{source, is_entry, leads}
-use Rattle.flow_graph.specs.WellFormed.{IsEdge, IsGraph, first_node, max_slots}
+use Rattle.flow_graph.specs.WellFormed.{IsEdge, IsGraph}
 use Rattle.flow_build.specs.Operands.{constant_lin}
 use Rattle.flow_build.specs.Blocks.{edges_of, exit_node, fail_node, end_node, return_node, entry_node, body_node, first_free}
-use Rattle.flow_build.specs.Lowering.{nodes_of_statements, slots_of_statements, statement_blocks}
 use Rattle.flow_build.specs.Procedures.{procedure_blocks, procedure_edges, nodes_of_procedure, slots_of_procedure, IsGraphOf, AreGraphsOf}
 use Rattle.flow_build.specs.Promises.{IsBoundedEdge, IsBounded, AreBounded}
 use Rattle.flow_build.proofs.Translated.{AllPlain}

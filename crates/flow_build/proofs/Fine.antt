@@ -1,6 +1,6 @@
 -- What the edges of a procedure's graph keep, by their kinds.
-use Rattle.std.proofs.Common.{◌≡◌, ℕ, zero, suc, ◌+◌, ◌<◌, ◌≤◌, nat_lt, nat_le, eqb, Bool, true, false, ◌||◌, ◌&&◌, ◌==◌, List, [], ◌∷◌, ◌++◌, length, Option, None, Some, ℤ, pos, negsuc, IsTrue, refl, sym, ap, ◌∙◌, subst, ◌⊎◌, inl, inr, arith}
-use Rattle.std.specs.Prelude.{All, slice_get, unsigned_abs, if◌then◌else◌}
+use Rattle.std.proofs.Common.{◌≡◌, ℕ, zero, suc, ◌<◌, ◌≤◌, nat_lt, nat_le, Bool, true, false, ◌||◌, ◌&&◌, ◌==◌, List, [], ◌∷◌, ◌++◌, length, Some, ℤ, pos, negsuc, IsTrue, refl, sym, ap, ◌∙◌, subst, ◌⊎◌, inl, inr, arith}
+use Rattle.std.specs.Prelude.{All, slice_get, if◌then◌else◌}
 use Rattle.std.specs.List.{list_all}
 use Rattle.std.proofs.lemmas.Bool.{lt-ltb, le-leb, ne_eqb}
 use Rattle.std.proofs.lemmas.List.Elements.{All-from_recursion, All-append}
@@ -12,14 +12,14 @@ use Rattle.c_tree.specs.Syntax.{Statements}
 use Rattle.linear_formula.specs.declared.formula.Atom.{Atom}
 use Rattle.flow_graph.specs.declared.graph.Lin.{Lin}
 use Rattle.flow_graph.specs.declared.graph.Edge.{Edge}
-use Rattle.flow_graph.specs.declared.graph.Edge.TheVariants.{Entry, Assign, Guard, Input, Pick, Call, Assert, Return}
-use Rattle.flow_graph.specs.Shapes.{source, target, is_entry, is_assert, is_call, is_return, leads}
+use Rattle.flow_graph.specs.declared.graph.Edge.TheVariants.{Assign, Guard, Input, Call, Assert, Return}
+use Rattle.flow_graph.specs.Shapes.{source, target, is_entry, is_assert, is_return, leads}
 use Rattle.flow_graph.specs.WellFormed.{names_slots, is_lin, has_slots, IsEdge}
 use Rattle.flow_build.specs.declared.operand.Operand.{Operand}
 use Rattle.flow_build.specs.declared.operand.Operand.TheVariants.{Variable, Constant}
 use Rattle.flow_build.specs.declared.target.Target.{Target}
 use Rattle.flow_build.specs.declared.target.Target.TheVariants.{Node, Fails, Nowhere}
-use Rattle.flow_build.specs.Operands.{is_operand, multiple_parts, constant_lin, scaled_lin, operand_lin, sum_lin, difference_lin, row, less, at_most, rows_where, opposite_op}
+use Rattle.flow_build.specs.Operands.{is_operand, multiple_parts, constant_lin, operand_lin, row, less, at_most, rows_where}
 use Rattle.flow_build.specs.Blocks.{exit_node, fail_node, entry_node, way, ways}
 use Rattle.flow_build.specs.Promises.{IsCoefficient, IsBoundedEdge, is_small_row, are_small_rows, statements_call}
 use Rattle.flow_build.proofs.SmallRows.{and_is, row_small}

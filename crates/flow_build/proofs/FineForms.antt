@@ -1,18 +1,14 @@
 -- The edges of forms keep what edges keep.
-use Rattle.std.proofs.Common.{◌≡◌, ℕ, ◌+◌, ◌<◌, ◌≤◌, nat_lt, Bool, true, false, List, [], ◌∷◌, ◌++◌, length, ℤ, pos, negsuc, IsTrue, refl, sym, ap, ◌∙◌, subst, arith}
+use Rattle.std.proofs.Common.{◌≡◌, ℕ, ◌+◌, ◌<◌, ◌≤◌, nat_lt, true, false, List, [], ◌∷◌, ◌++◌, length, pos, negsuc, IsTrue, refl, sym, subst, arith}
 use Rattle.std.specs.List.{list_all}
 use Rattle.std.proofs.lemmas.Bool.{lt-ltb}
-use Rattle.std.proofs.lemmas.List.{append-nil}
-use Rattle.c_tree.specs.declared.tree.Op.{Op}
 use Rattle.c_tree.specs.Syntax.{Statements}
-use Rattle.linear_formula.specs.declared.formula.Atom.{Atom}
 use Rattle.flow_graph.specs.declared.graph.Lin.{Lin}
 use Rattle.flow_graph.specs.declared.graph.Edge.{Edge}
-use Rattle.flow_graph.specs.declared.graph.Edge.TheVariants.{Assign, Guard, Input, Call}
-use Rattle.flow_build.specs.declared.operand.Operand.{Operand}
-use Rattle.flow_build.specs.declared.operand.Operand.TheVariants.{Variable, Constant}
+use Rattle.flow_graph.specs.declared.graph.Edge.TheVariants.{Assign, Call}
+use Rattle.flow_build.specs.declared.operand.Operand.TheVariants.{Variable}
 use Rattle.flow_build.specs.declared.target.Target.{Target}
-use Rattle.flow_build.specs.declared.target.Target.TheVariants.{Node, Fails, Nowhere}
+use Rattle.flow_build.specs.declared.target.Target.TheVariants.{Node}
 use Rattle.flow_build.specs.Forms.{Value, literal, read, input, call, scale, sum, difference, truth, Values, no_values, value, Test, compare, opposite, both, either}
 use Rattle.flow_build.specs.Operands.{constant_lin, scaled_lin, operand_lin, sum_lin, difference_lin, constant_of, rows_where, opposite_op}
 use Rattle.std.specs.Prelude.{◌+ℤ◌, ◌-ℤ◌, ◌*ℤ◌}
@@ -23,7 +19,7 @@ use Rattle.flow_build.proofs.FormMeaning.{FitsValue, FitsValues, FitsTest, IsInS
 use Rattle.flow_build.proofs.SmallRows.{and_is}
 use Rattle.flow_build.proofs.Fresh.{edges-append}
 use Rattle.flow_build.proofs.Allowed.{how_many, Keeps, KeepsAll, KeepsTest}
-use Rattle.flow_build.proofs.Fine.{Fine, IsSource, IsInner, inner_source, IsLin, assign_fine, input_fine, call_fine, IsOperand, variable_is, constant_is, constant_lin_is, multiple_is, pair_is, plus_one, minus_one, operand_lin_is, rows_are, AllFine, fine_both, IsTarget, ways_fine}
+use Rattle.flow_build.proofs.Fine.{Fine, IsInner, inner_source, IsLin, assign_fine, input_fine, call_fine, IsOperand, variable_is, constant_is, constant_lin_is, multiple_is, pair_is, plus_one, minus_one, operand_lin_is, rows_are, AllFine, fine_both, IsTarget, ways_fine}
 
 pub arguments_length : (vs : Values) (t : ℕ) → length (argument_slots vs t) ≡ how_many vs
 arguments_length no_values t = refl

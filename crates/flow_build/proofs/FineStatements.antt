@@ -1,20 +1,18 @@
 -- The edges of statements keep what edges keep.
-use Rattle.std.proofs.Common.{◌≡◌, ℕ, ◌+◌, ◌<◌, ◌≤◌, Bool, true, false, ◌||◌, List, [], ◌∷◌, ◌++◌, Option, None, Some, ℤ, pos, negsuc, IsTrue, refl, sym, ap, ◌∙◌, subst, arith}
-use Rattle.std.specs.Prelude.{max, Contains}
+use Rattle.std.proofs.Common.{ℕ, ◌+◌, ◌<◌, ◌≤◌, Bool, true, false, ◌||◌, List, [], ◌∷◌, ◌++◌, None, Some, ℤ, pos, arith}
 use Rattle.std.proofs.lemmas.List.Elements.{Contains-append_left, Contains-append_right}
 use Rattle.c_tree.specs.Syntax.{Expression, Statement, block, set, ignore, assume, assert, if_else, loop, do_while, break, continue, return, Statements, no_statements, statement}
-use Rattle.flow_graph.specs.declared.graph.Edge.{Edge}
-use Rattle.flow_graph.specs.declared.graph.Edge.TheVariants.{Assign, Guard, Return}
+use Rattle.flow_graph.specs.declared.graph.Edge.TheVariants.{Assign, Guard}
 use Rattle.flow_build.specs.declared.target.Target.{Target}
 use Rattle.flow_build.specs.declared.target.Target.TheVariants.{Node, Fails, Nowhere}
 use Rattle.flow_build.specs.Translation.{value_of, test_of}
 use Rattle.flow_build.specs.Operands.{constant_lin, operand_lin}
-use Rattle.flow_build.specs.Blocks.{Block, one, exit_node, end_node, return_node}
-use Rattle.flow_build.specs.Lowering.{operand_at, landing, nodes_of, nodes_of_test, slots_of, slots_of_test, argument_slot, value_blocks, test_blocks, between, nodes_between, result_of, nodes_of_statement, nodes_of_statements, slots_of_statement, slots_of_statements, return_edge, statement_blocks, statements_blocks}
+use Rattle.flow_build.specs.Blocks.{Block, one, return_node}
+use Rattle.flow_build.specs.Lowering.{operand_at, landing, nodes_of_test, slots_of, slots_of_test, argument_slot, value_blocks, test_blocks, between, nodes_between, result_of, nodes_of_statement, nodes_of_statements, slots_of_statement, slots_of_statements, return_edge, statement_blocks, statements_blocks}
 use Rattle.flow_build.specs.Promises.{IsCoefficient, calls, factors, statement_calls, statements_call, statement_factors, statements_factors}
 use Rattle.flow_build.proofs.Translated.{IsPlain, RunsPlain, AllPlain, value_fits, test_fits, result_fits, result_in_slot}
 use Rattle.flow_build.proofs.Allowed.{or_left, or_right, Allows, allows_left, allows_right, AllowsOf, value_keeps, test_keeps, result_keeps}
-use Rattle.flow_build.proofs.Fine.{Fine, IsSource, IsInner, inner_source, assign_fine, no_rows, guard_fine, return_fine, minus_one, constant_lin_is, operand_lin_is, IsTarget}
+use Rattle.flow_build.proofs.Fine.{Fine, IsInner, inner_source, assign_fine, no_rows, guard_fine, return_fine, minus_one, constant_lin_is, operand_lin_is, IsTarget}
 use Rattle.flow_build.proofs.FineForms.{BlocksFine, blocks_both, Called, Room, smaller, fresh_inner, lands_inner, operand_is, argument_is, edge_fine, value_fine, test_fine}
 
 -- In a procedure of this body, whose graph has so many nodes and slots, of which those from t on are free:

@@ -1,15 +1,14 @@
 -- The graphs of a well-formed program fit together: the procedure of each call exists, and takes its arguments.
-use Rattle.std.proofs.Common.{◌≡◌, ℕ, zero, suc, Bool, true, false, ◌||◌, ◌&&◌, ◌==◌, List, [], ◌∷◌, length, Option, None, Some, IsTrue, refl, sym, ap, ◌∙◌, subst, ◌⊎◌, inl, inr}
+use Rattle.std.proofs.Common.{◌≡◌, ℕ, Bool, true, false, ◌||◌, ◌&&◌, ◌==◌, List, length, Option, None, Some, IsTrue, refl, sym, ap, ◌∙◌, subst, ◌⊎◌, inl, inr}
 use Rattle.std.specs.Prelude.{slice_get, nat_lt, nat_le, not as not_bool}
 use Rattle.std.proofs.lemmas.Bool.{eqb-true}
 use Rattle.c_tree.specs.Syntax.{Expression, literal, read, input, call, negate, not as not_of, binary, Expressions, no_expressions, expression, Statement, block, set, ignore, assume, assert, if_else, loop, do_while, break, continue, return, Statements, no_statements, statement, PureProcedure, PureProgram}
 use Rattle.c_tree.specs.WellFormed.{count, takes, is_sound, are_sound, returns_sound, runs_sound, all_sound, statements_nodes, is_sound_procedure, IsWellFormed}
-use Rattle.flow_graph.specs.declared.graph.Edge.{Edge}
 use Rattle.flow_graph.specs.declared.graph.Edge.TheVariants.{Call}
 use Rattle.flow_graph.specs.declared.graph.Graph.{Graph}
 use Rattle.flow_graph.specs.Linked.{AreGraphs}
 use Rattle.flow_graph.specs.Linked as linked
-use Rattle.flow_build.specs.Procedures.{IsGraphOf, AreGraphsOf}
+use Rattle.flow_build.specs.Procedures.{AreGraphsOf}
 use Rattle.flow_build.specs.Promises.{calls, calls_any, result_calls, statement_calls, statements_call}
 use Rattle.flow_build.proofs.Translated.{AllPlain}
 use Rattle.flow_build.proofs.Facts.{bounded, procedure_of, graph_of}

@@ -1,15 +1,12 @@
 -- How many edges, nodes and slots programs take.
-use Rattle.std.proofs.Common.{◌≡◌, ℕ, zero, suc, ◌+◌, ◌*◌, ◌<◌, ◌≤◌, Bool, true, false, Option, None, Some, List, [], ◌∷◌, ◌++◌, length, pos, length-append, refl, sym, ap, ◌∙◌, arith}
-use Rattle.std.specs.Prelude.{max}
+use Rattle.std.proofs.Common.{◌≡◌, ℕ, ◌+◌, ◌*◌, ◌≤◌, Bool, true, false, None, Some, List, [], ◌∷◌, ◌++◌, length, pos, length-append, ap, ◌∙◌, arith}
 use Rattle.c_tree.specs.declared.tree.Op.{Op}
 use Rattle.c_tree.specs.declared.tree.Op.TheVariants.{Add, Subtract, Multiply, Less, LessEqual, Greater, GreaterEqual, Equal, Unequal, And, Or}
 use Rattle.c_tree.specs.Syntax.{Expression, Statement, block, set, ignore, assume, assert, if_else, loop, do_while, break, continue, return, Statements, no_statements, statement, PureProcedure}
 use Rattle.c_tree.specs.WellFormed.{nodes, statement_nodes, statements_nodes}
 use Rattle.linear_formula.specs.declared.formula.Atom.{Atom}
-use Rattle.flow_graph.specs.declared.graph.Edge.{Edge}
-use Rattle.flow_graph.specs.declared.graph.Edge.TheVariants.{Assign, Guard, Input, Call}
+use Rattle.flow_graph.specs.declared.graph.Edge.TheVariants.{Assign, Guard, Call}
 use Rattle.flow_build.specs.declared.operand.Operand.{Operand}
-use Rattle.flow_build.specs.declared.operand.Operand.TheVariants.{Variable, Constant}
 use Rattle.flow_build.specs.declared.target.Target.{Target}
 use Rattle.flow_build.specs.declared.target.Target.TheVariants.{Node, Fails, Nowhere}
 use Rattle.flow_build.specs.Forms.{Value, literal, read, input, call, scale, sum, difference, truth, Values, no_values, value, Test, compare, opposite, both, either}
@@ -17,9 +14,9 @@ use Rattle.flow_build.specs.Translation.{value_of, test_of}
 use Rattle.flow_build.specs.Operands.{rows_where, opposite_op, constant_lin, scaled_lin, sum_lin, difference_lin, operand_lin}
 use Rattle.flow_build.specs.Blocks.{Block, edges_of, one, way, ways, end_node, body_node, first_free}
 use Rattle.flow_build.specs.Lowering.{operand_at, landing, nodes_of, nodes_of_test, slots_of, slots_of_test, argument_slots, landing_of_all, value_blocks, values_blocks, test_blocks, between, nodes_between, result_of, nodes_of_statement, nodes_of_statements, slots_of_statement, slots_of_statements, return_edge, argument_slot, statement_blocks, statements_blocks}
-use Rattle.flow_build.specs.Procedures.{procedure_blocks, procedure_edges, nodes_of_procedure, slots_of_procedure}
+use Rattle.flow_build.specs.Procedures.{procedure_edges, nodes_of_procedure, slots_of_procedure}
 use Rattle.flow_build.proofs.Fresh.{edges-append}
-use Rattle.flow_build.proofs.Weights.{weight, weight_all, weight_test, some_nodes, few_value, few_test, few_result, nodes_weigh, nodes_weigh_test, slots_weigh, slots_weigh_test}
+use Rattle.flow_build.proofs.Weights.{weight, weight_all, weight_test, few_value, few_test, few_result, nodes_weigh, nodes_weigh_test, slots_weigh, slots_weigh_test}
 
 -- how many edges the blocks have
 abbrev pub size : List Block → ℕ

@@ -1,5 +1,5 @@
 -- Counts of forms: by how much a truth, a comparison and a conjunction count, where each other form counts 1.
-use Rattle.std.proofs.Common.{◌≡◌, ℕ, zero, suc, ◌+◌, ◌*◌, ◌<◌, ◌≤◌, Bool, true, false, ◌||◌, Option, None, Some, ℤ, negsuc, refl, ap, arith}
+use Rattle.std.proofs.Common.{◌≡◌, ℕ, ◌+◌, ◌*◌, ◌≤◌, Bool, true, false, ◌||◌, Option, None, Some, ℤ, negsuc, refl, ap, arith}
 use Rattle.c_tree.specs.declared.tree.Op.{Op}
 use Rattle.c_tree.specs.declared.tree.Op.TheVariants.{Add, Subtract, Multiply, Less, LessEqual, Greater, GreaterEqual, Equal, Unequal, And, Or}
 use Rattle.c_tree.specs.Syntax.{Expression, literal, read, input, call, negate, not as not_of, binary, Expressions, no_expressions, expression}
@@ -7,7 +7,7 @@ use Rattle.c_tree.specs.WellFormed.{nodes, nodes_all}
 use Rattle.std.specs.Prelude.{◌+ℤ◌, ◌-ℤ◌}
 use Rattle.flow_build.specs.Forms.{Value, Values, no_values, value, Test, compare, opposite, both, either}
 use Rattle.flow_build.specs.Forms as form
-use Rattle.flow_build.specs.Translation.{constant_value, has_call, have_call, kept, kept_if, in_slot, overflows_by, scaled, overflows, added, subtracted, multiplied, nonzero, value_by, test_by, value_of, values_of, test_of}
+use Rattle.flow_build.specs.Translation.{constant_value, has_call, have_call, kept, kept_if, in_slot, overflows_by, scaled, overflows, added, subtracted, multiplied, value_by, test_by, value_of, values_of, test_of}
 use Rattle.flow_build.specs.Lowering.{nodes_of, nodes_of_all, nodes_of_test, slots_of, slots_of_all, slots_of_test}
 
 pub some_nodes : (e : Expression) → 1 ≤ nodes e
