@@ -2,21 +2,21 @@
 use Rattle.std.proofs.Common.{◌≡◌, ℕ, ◌+◌, ◌*◌, ◌≤◌, Bool, true, false, None, Some, List, [], ◌∷◌, ◌++◌, length, pos, length-append, ap, ◌∙◌, arith}
 use Rattle.c_tree.specs.declared.tree.Op.{Op}
 use Rattle.c_tree.specs.declared.tree.Op.TheVariants.{Add, Subtract, Multiply, Less, LessEqual, Greater, GreaterEqual, Equal, Unequal, And, Or}
-use Rattle.c_tree.specs.Syntax.{Expression, Statement, block, set, ignore, assume, assert, if_else, loop, do_while, break, continue, return, Statements, no_statements, statement, PureProcedure}
-use Rattle.c_tree.specs.WellFormed.{nodes, statement_nodes, statements_nodes}
+use Rattle.c_tree.specs.Syntax.{Expression, Expressions, Statement, block, set, ignore, assume, assert, if_else, loop, do_while, break, continue, return, Statements, no_statements, statement, PureProcedure}
+use Rattle.c_tree.specs.WellFormed.{nodes, nodes_all, statement_nodes, statements_nodes}
 use Rattle.linear_formula.specs.declared.formula.Atom.{Atom}
 use Rattle.flow_graph.specs.declared.graph.Edge.TheVariants.{Assign, Guard, Call}
 use Rattle.flow_build.specs.declared.operand.Operand.{Operand}
 use Rattle.flow_build.specs.declared.target.Target.{Target}
 use Rattle.flow_build.specs.declared.target.Target.TheVariants.{Node, Fails, Nowhere}
 use Rattle.flow_build.specs.Forms.{Value, literal, read, input, call, scale, sum, difference, truth, Values, no_values, value, Test, compare, opposite, both, either}
-use Rattle.flow_build.specs.Translation.{value_of, test_of}
+use Rattle.flow_build.specs.Translation.{value_of, values_of, test_of, kept_if}
 use Rattle.flow_build.specs.Operands.{rows_where, opposite_op, constant_lin, scaled_lin, sum_lin, difference_lin, operand_lin}
 use Rattle.flow_build.specs.Blocks.{Block, edges_of, one, way, ways, end_node, body_node, first_free}
-use Rattle.flow_build.specs.Lowering.{operand_at, landing, nodes_of, nodes_of_test, slots_of, slots_of_test, argument_slots, landing_of_all, value_blocks, values_blocks, test_blocks, between, nodes_between, result_of, nodes_of_statement, nodes_of_statements, slots_of_statement, slots_of_statements, return_edge, argument_slot, statement_blocks, statements_blocks}
+use Rattle.flow_build.specs.Lowering.{operand_at, landing, nodes_of, nodes_of_all, nodes_of_test, slots_of, slots_of_all, slots_of_test, argument_slots, landing_of_all, value_blocks, values_blocks, test_blocks, between, nodes_between, result_of, nodes_of_statement, nodes_of_statements, slots_of_statement, slots_of_statements, return_edge, argument_slot, statement_blocks, statements_blocks}
 use Rattle.flow_build.specs.Procedures.{procedure_edges, nodes_of_procedure, slots_of_procedure}
 use Rattle.flow_build.proofs.Fresh.{edges-append}
-use Rattle.flow_build.proofs.Weights.{weight, weight_all, weight_test, few_value, few_test, few_result, nodes_weigh, nodes_weigh_test, slots_weigh, slots_weigh_test}
+use Rattle.flow_build.proofs.Weights.{weight, weight_all, weight_test, some_times, kept_if_few, few_values, nodes_weigh_all, slots_weigh_all, few_value, few_test, few_result, nodes_weigh, nodes_weigh_test, slots_weigh, slots_weigh_test}
 
 -- how many edges the blocks have
 abbrev pub size : List Block → ℕ
@@ -147,6 +147,17 @@ mutual
 pub value_edges : (e : Expression) (from t lo : ℕ) → size (value_blocks (value_of e) from t lo) ≤ 5 * nodes e
 value_edges e from t lo = let a = value_size (value_of e) from t lo in let b = few_value 2 3 0 5 (omega arith) (omega arith) (omega arith) (omega arith) e in omega (arith, a, b)
 
+pub kept_edges : (b : Bool) (e : Expression) (from t lo : ℕ) → size (value_blocks (kept_if b (value_of e)) from t lo) ≤ 5 * nodes e
+kept_edges b e from t lo =
+    let v = value_of e in
+    let a = value_size (kept_if b v) from t lo in
+    let some = some_times 2 3 0 5 (omega arith) (omega arith) (omega arith) (omega arith) e in
+    let few = kept_if_few 2 3 0 5 (omega arith) (omega arith) (omega arith) (omega arith) b v (5 * nodes e) some (few_value 2 3 0 5 (omega arith) (omega arith) (omega arith) (omega arith) e) in
+    omega (arith, a, few)
+
+pub values_edges : (es : Expressions) (from t lo : ℕ) → size (values_blocks (values_of es) from t lo) ≤ 5 * nodes_all es
+values_edges es from t lo = let a = values_size (values_of es) from t lo in let b = few_values 2 3 0 5 (omega arith) (omega arith) (omega arith) (omega arith) es in omega (arith, a, b)
+
 pub result_edges : (e : Expression) (from t lo : ℕ) → size (value_blocks (result_of e) from t lo) ≤ 5 * nodes e
 result_edges e from t lo = let a = value_size (result_of e) from t lo in let b = few_result 2 3 0 5 (omega arith) (omega arith) (omega arith) (omega arith) e in omega (arith, a, b)
 
@@ -229,6 +240,17 @@ procedure_size p = let a = statement_edges p.gives p.slots (block p.body) body_n
 pub value_nodes : (e : Expression) → nodes_of (value_of e) ≤ 4 * nodes e
 value_nodes e = let a = nodes_weigh (value_of e) in let b = few_value 3 0 1 4 (omega arith) (omega arith) (omega arith) (omega arith) e in omega (arith, a, b)
 
+pub kept_nodes : (b : Bool) (e : Expression) → nodes_of (kept_if b (value_of e)) ≤ 4 * nodes e
+kept_nodes b e =
+    let v = value_of e in
+    let a = nodes_weigh (kept_if b v) in
+    let some = some_times 3 0 1 4 (omega arith) (omega arith) (omega arith) (omega arith) e in
+    let few = kept_if_few 3 0 1 4 (omega arith) (omega arith) (omega arith) (omega arith) b v (4 * nodes e) some (few_value 3 0 1 4 (omega arith) (omega arith) (omega arith) (omega arith) e) in
+    omega (arith, a, few)
+
+pub values_nodes : (es : Expressions) → nodes_of_all (values_of es) ≤ 4 * nodes_all es
+values_nodes es = let a = nodes_weigh_all (values_of es) in let b = few_values 3 0 1 4 (omega arith) (omega arith) (omega arith) (omega arith) es in omega (arith, a, b)
+
 pub result_nodes : (e : Expression) → nodes_of (result_of e) ≤ 4 * nodes e
 result_nodes e = let a = nodes_weigh (result_of e) in let b = few_result 3 0 1 4 (omega arith) (omega arith) (omega arith) (omega arith) e in omega (arith, a, b)
 
@@ -262,6 +284,17 @@ mutual
 
 pub value_slots : (e : Expression) → slots_of (value_of e) ≤ nodes e
 value_slots e = let a = slots_weigh (value_of e) in let b = few_value 1 0 0 1 (omega arith) (omega arith) (omega arith) (omega arith) e in omega (arith, a, b)
+
+pub kept_slots : (b : Bool) (e : Expression) → slots_of (kept_if b (value_of e)) ≤ nodes e
+kept_slots b e =
+    let v = value_of e in
+    let a = slots_weigh (kept_if b v) in
+    let some = some_times 1 0 0 1 (omega arith) (omega arith) (omega arith) (omega arith) e in
+    let few = kept_if_few 1 0 0 1 (omega arith) (omega arith) (omega arith) (omega arith) b v (1 * nodes e) some (few_value 1 0 0 1 (omega arith) (omega arith) (omega arith) (omega arith) e) in
+    omega (arith, a, few)
+
+pub values_slots : (es : Expressions) → slots_of_all (values_of es) ≤ nodes_all es
+values_slots es = let a = slots_weigh_all (values_of es) in let b = few_values 1 0 0 1 (omega arith) (omega arith) (omega arith) (omega arith) es in omega (arith, a, b)
 
 pub result_slots : (e : Expression) → slots_of (result_of e) ≤ nodes e
 result_slots e = let a = slots_weigh (result_of e) in let b = few_result 1 0 0 1 (omega arith) (omega arith) (omega arith) (omega arith) e in omega (arith, a, b)
