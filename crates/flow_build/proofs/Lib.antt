@@ -5,6 +5,16 @@ pub mod Outgoing
 pub mod Moves
 pub mod Slots
 pub mod Comparing
+pub mod Fresh
+pub mod Placed
+pub mod Weights
+pub mod Sizes
+pub mod Allowed
+pub mod Fine
+pub mod FineForms
+pub mod FineStatements
+pub mod Facts
+pub mod Linking
 pub mod SmallRows
 pub mod Adding
 pub mod Measures

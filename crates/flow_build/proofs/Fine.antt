@@ -1,0 +1,330 @@
+-- What the edges of a procedure's graph keep, by their kinds.
+use Rattle.std.proofs.Common.{◌≡◌, ℕ, zero, suc, ◌<◌, ◌≤◌, nat_lt, nat_le, Bool, true, false, ◌||◌, ◌&&◌, ◌==◌, List, [], ◌∷◌, ◌++◌, length, Some, ℤ, pos, negsuc, IsTrue, refl, sym, ap, ◌∙◌, subst, ◌⊎◌, inl, inr, arith}
+use Rattle.std.specs.Prelude.{All, slice_get, if◌then◌else◌}
+use Rattle.std.specs.List.{list_all}
+use Rattle.std.proofs.lemmas.Bool.{lt-ltb, le-leb, ne_eqb}
+use Rattle.std.proofs.lemmas.List.Elements.{All-from_recursion, All-append}
+use Rattle.std.proofs.lemmas.List.Folds.{list_all-append}
+use Rattle.c_tree.specs.declared.tree.Op.{Op}
+use Rattle.c_tree.specs.declared.tree.Op.TheVariants.{Add, Subtract, Multiply, Less, LessEqual, Greater, GreaterEqual, Equal, Unequal, And, Or}
+use Rattle.c_tree.specs.Meaning.{is_value}
+use Rattle.c_tree.specs.Syntax.{Statements}
+use Rattle.linear_formula.specs.declared.formula.Atom.{Atom}
+use Rattle.flow_graph.specs.declared.graph.Lin.{Lin}
+use Rattle.flow_graph.specs.declared.graph.Edge.{Edge}
+use Rattle.flow_graph.specs.declared.graph.Edge.TheVariants.{Assign, Guard, Input, Call, Assert, Return}
+use Rattle.flow_graph.specs.Shapes.{source, target, is_entry, is_assert, is_return, leads}
+use Rattle.flow_graph.specs.WellFormed.{names_slots, is_lin, has_slots, IsEdge}
+use Rattle.flow_build.specs.declared.operand.Operand.{Operand}
+use Rattle.flow_build.specs.declared.operand.Operand.TheVariants.{Variable, Constant}
+use Rattle.flow_build.specs.declared.target.Target.{Target}
+use Rattle.flow_build.specs.declared.target.Target.TheVariants.{Node, Fails, Nowhere}
+use Rattle.flow_build.specs.Operands.{is_operand, multiple_parts, constant_lin, operand_lin, row, less, at_most, rows_where}
+use Rattle.flow_build.specs.Blocks.{exit_node, fail_node, entry_node, way, ways}
+use Rattle.flow_build.specs.Promises.{IsCoefficient, IsBoundedEdge, is_small_row, are_small_rows, statements_call}
+use Rattle.flow_build.proofs.SmallRows.{and_is, row_small}
+
+-- In a procedure of this body, whose graph has so many nodes and slots:
+module _ (body : Statements) (nodes slots : ℕ) where
+  -- what each edge but the entry keeps
+  pub record Fine (e : Edge) : Type 0 where
+    pub leaves : (n : ℕ) → source e ≡ Some n → (n < nodes) × (2 ≤ n)
+    pub below : target e < nodes
+    pub named : IsTrue (has_slots slots e)
+    pub to_exit : is_return e ≡ (target e == exit_node)
+    pub to_fail : is_assert e ≡ (target e == fail_node)
+    pub inner : is_entry e ≡ false
+    pub apart : leads fail_node e entry_node ≡ false
+    pub bounded : IsBoundedEdge body e
+
+  pub fine_edge : (e : Edge) → Fine e → IsEdge nodes exit_node fail_node slots e
+  fine_edge e f = record {
+    leaves = λ n h. ((f.leaves n h).0, (λ q. two (f.leaves n h).1 q), (λ q. one (f.leaves n h).1 q));
+    in_range = f.below;
+    slots_named = f.named;
+    to_exit = f.to_exit;
+    to_fail = f.to_fail;
+  }
+    where
+      two : {n : ℕ} → 2 ≤ n → n ≡ exit_node → ⊥
+      two h q = omega arith
+
+      one : {n : ℕ} → 2 ≤ n → n ≡ fail_node → ⊥
+      one h q = omega arith
+
+  -- a node that edges leave
+  pub record IsSource (n : ℕ) : Type 0 where
+    pub below : n < nodes
+    pub above : 2 ≤ n
+
+  -- a node that edges leave and come to
+  pub record IsInner (n : ℕ) : Type 0 where
+    pub below : n < nodes
+    pub above : 2 ≤ n
+    pub apart : n ≡ entry_node → ⊥
+
+  pub inner_source : (n : ℕ) → IsInner n → IsSource n
+  inner_source n h = record { below = h.below; above = h.above }
+
+  source_leaves : (m n : ℕ) → IsSource m → Some m ≡ Some n → (n < nodes) × (2 ≤ n)
+  source_leaves m n h e =
+      let q : m ≡ n = cc in
+      let P : ℕ → Type 0 = λ k. (k < nodes) × (2 ≤ k) in
+      subst P q (h.below, h.above)
+
+  no_exit : (n : ℕ) → IsInner n → false ≡ (n == exit_node)
+  no_exit n h = let a = h.above in sym (ne_eqb n 0 (λ q. omega arith))
+
+  no_fail : (n : ℕ) → IsInner n → false ≡ (n == fail_node)
+  no_fail n h = let a = h.above in sym (ne_eqb n 1 (λ q. omega arith))
+
+  no_entry : (n : ℕ) → IsInner n → (n == entry_node || false) ≡ false
+  no_entry n h = ap (λ b. b || false) (ne_eqb n 4 h.apart)
+
+  abbrev Coefficients : List (ℤ × ℕ) → Type 0
+  Coefficients ps = All (λ (part : ℤ × ℕ). IsCoefficient body part.0) ps
+
+  -- a sum that an assignment may have
+  pub record IsLin (value : Lin) : Type 0 where
+    pub named : IsTrue (is_lin slots value)
+    pub coefficients : Coefficients value.parts
+
+  pub assign_fine : (n to slot : ℕ) (value : Lin) → IsSource n → IsInner to → slot < slots → IsLin value → Fine (Assign n to slot value)
+  assign_fine n to slot value s t lt v = record {
+    leaves = λ m e. source_leaves n m s e;
+    below = t.below;
+    named = and_is (nat_lt slot slots) (is_lin slots value) (lt-ltb slot slots lt) v.named;
+    to_exit = no_exit to t;
+    to_fail = no_fail to t;
+    inner = refl;
+    apart = no_entry to t;
+    bounded = v.coefficients;
+  }
+
+  -- rows that a guard may have
+  pub record AreRows (rows : List Atom) : Type 0 where
+    pub named : IsTrue (list_all (names_slots slots) rows)
+    pub small : IsTrue (are_small_rows rows)
+
+  pub no_rows : AreRows []
+  no_rows = record { named = refl; small = refl }
+
+  pub guard_fine : (n to : ℕ) (rows : List Atom) → IsSource n → IsInner to → AreRows rows → Fine (Guard n to (record { atoms = rows }))
+  guard_fine n to rows s t r = record {
+    leaves = λ m e. source_leaves n m s e;
+    below = t.below;
+    named = r.named;
+    to_exit = no_exit to t;
+    to_fail = no_fail to t;
+    inner = refl;
+    apart = no_entry to t;
+    bounded = r.small;
+  }
+
+  pub input_fine : (n to slot : ℕ) → IsSource n → IsInner to → slot < slots → Fine (Input n to slot)
+  input_fine n to slot s t lt = record {
+    leaves = λ m e. source_leaves n m s e;
+    below = t.below;
+    named = lt-ltb slot slots lt;
+    to_exit = no_exit to t;
+    to_fail = no_fail to t;
+    inner = refl;
+    apart = no_entry to t;
+    bounded = tt;
+  }
+
+  pub call_fine : (n to p : ℕ) (args : List ℕ) (slot : ℕ) → IsSource n → IsInner to → slot < slots → IsTrue (list_all (λ x. nat_lt x slots) args) → IsTrue (statements_call p (length args) body) → Fine (Call n to p args slot)
+  call_fine n to p args slot s t lt named calls = record {
+    leaves = λ m e. source_leaves n m s e;
+    below = t.below;
+    named = and_is (nat_lt slot slots) (list_all (λ x. nat_lt x slots) args) (lt-ltb slot slots lt) named;
+    to_exit = no_exit to t;
+    to_fail = no_fail to t;
+    inner = refl;
+    apart = no_entry to t;
+    bounded = calls;
+  }
+
+  pub assert_fine : (n id : ℕ) (rows : List Atom) → IsSource n → 1 < nodes → AreRows rows → Fine (Assert n fail_node id (record { atoms = rows }))
+  assert_fine n id rows s lt r = record {
+    leaves = λ m e. source_leaves n m s e;
+    below = lt;
+    named = r.named;
+    to_exit = refl;
+    to_fail = refl;
+    inner = refl;
+    apart = refl;
+    bounded = r.small;
+  }
+
+  pub return_fine : (n slot : ℕ) → IsSource n → 0 < nodes → slot < slots → Fine (Return n exit_node slot)
+  return_fine n slot s some lt = record {
+    leaves = λ m e. source_leaves n m s e;
+    below = some;
+    named = lt-ltb slot slots lt;
+    to_exit = refl;
+    to_fail = refl;
+    inner = refl;
+    apart = refl;
+    bounded = tt;
+  }
+
+  -- Operands
+
+  -- a slot that is there, or a value
+  pub record IsOperand (a : Operand) : Type 0 where
+    pub fits : IsTrue (is_operand a)
+    pub slot : (x : ℕ) → a ≡ Variable x → x < slots
+
+  pub variable_is : (x : ℕ) → x < slots → IsOperand (Variable x)
+  variable_is x lt = record { fits = refl; slot = λ y e. at y e }
+    where
+      at : (y : ℕ) → Variable x ≡ Variable y → y < slots
+      at y e = let q : x ≡ y = cc in omega arith
+
+  pub constant_is : (n : ℤ) → IsTrue (is_value n) → IsOperand (Constant n)
+  constant_is n h = record { fits = h; slot = λ y e. absurd cc }
+
+  one_part : (c : ℤ) (x : ℕ) → IsCoefficient body c → Coefficients ((c, x) ∷ [])
+  one_part c x k = All-from_recursion (λ (part : ℤ × ℕ). IsCoefficient body part.0) ((c, x) ∷ []) (k, tt)
+
+  no_part : Coefficients []
+  no_part = All-from_recursion (λ (part : ℤ × ℕ). IsCoefficient body part.0) [] tt
+
+  parts_allowed : (c : ℤ) (a : Operand) → IsCoefficient body c → Coefficients (multiple_parts c a)
+  parts_allowed c (Variable x) k = one_part c x k
+  parts_allowed c (Constant n) k = no_part
+
+  parts_named : (c : ℤ) (a : Operand) → IsOperand a → IsTrue (list_all (λ p. nat_lt p.1 slots) (multiple_parts c a))
+  parts_named c (Variable x) h = and_is (nat_lt x slots) true (lt-ltb x slots (h.slot x refl)) refl
+  parts_named c (Constant n) h = refl
+
+  few_parts : (c : ℤ) (a : Operand) → length (multiple_parts c a) ≤ 1
+  few_parts c (Variable x) = omega arith
+  few_parts c (Constant n) = omega arith
+
+  pub constant_lin_is : (n : ℤ) → IsLin (constant_lin n)
+  constant_lin_is n = record { named = refl; coefficients = no_part }
+
+  pub multiple_is : (c k : ℤ) (a : Operand) → IsCoefficient body c → IsOperand a → IsLin (record { parts = multiple_parts c a; constant = k })
+  multiple_is c k a i h =
+      let ps = multiple_parts c a in
+      let few = few_parts c a in
+      record { named = and_is (nat_le (length ps) 2) (list_all (λ p. nat_lt p.1 slots) ps) (le-leb (length ps) 2 (omega arith)) (parts_named c a h); coefficients = parts_allowed c a i }
+
+  pub pair_is : (c d k : ℤ) (a b : Operand) → IsCoefficient body c → IsCoefficient body d → IsOperand a → IsOperand b → IsLin (record { parts = multiple_parts c a ++ multiple_parts d b; constant = k })
+  pair_is c d k a b i j h g =
+      let ps = multiple_parts c a in
+      let qs = multiple_parts d b in
+      let all = list_all-append (λ (p : ℤ × ℕ). nat_lt p.1 slots) ps qs in
+      record {
+        named = and_is (nat_le (length (ps ++ qs)) 2) (list_all (λ p. nat_lt p.1 slots) (ps ++ qs)) (le-leb (length (ps ++ qs)) 2 (two a b)) (all ∙ and_is (list_all (λ p. nat_lt p.1 slots) ps) (list_all (λ p. nat_lt p.1 slots) qs) (parts_named c a h) (parts_named d b g));
+        coefficients = All-append (λ (part : ℤ × ℕ). IsCoefficient body part.0) ps qs (parts_allowed c a i) (parts_allowed d b j);
+      }
+    where
+      two : (a b : Operand) → length (multiple_parts c a ++ multiple_parts d b) ≤ 2
+      two (Variable x) (Variable y) = omega arith
+      two (Variable x) (Constant n) = omega arith
+      two (Constant n) (Variable y) = omega arith
+      two (Constant n) (Constant m) = omega arith
+
+  pub plus_one : IsCoefficient body (pos 1)
+  plus_one = inl refl
+
+  pub minus_one : IsCoefficient body (negsuc 0)
+  minus_one = inr (inl refl)
+
+  pub operand_lin_is : (a : Operand) → IsOperand a → IsLin (operand_lin a)
+  operand_lin_is (Variable x) h = multiple_is (pos 1) (pos 0) (Variable x) plus_one h
+  operand_lin_is (Constant n) h = multiple_is (pos 1) n (Constant n) plus_one h
+
+  -- Rows of operands
+
+  abbrev Named : List (ℕ × ℤ) → Type 0
+  Named ps = IsTrue (list_all (λ p. nat_lt p.0 slots) ps)
+
+  chosen : (b c : Bool) (ps qs rs : List (ℕ × ℤ)) → Named ps → Named qs → Named rs → Named (if b then ps else (if c then qs else rs))
+  chosen true c ps qs rs h k l = h
+  chosen false true ps qs rs h k l = k
+  chosen false false ps qs rs h k l = l
+
+  two_named : (x y : ℕ) (c d : ℤ) → x < slots → y < slots → Named ((x, c) ∷ (y, d) ∷ [])
+  two_named x y c d h k = and_is (nat_lt x slots) (nat_lt y slots && true) (lt-ltb x slots h) (and_is (nat_lt y slots) true (lt-ltb y slots k) refl)
+
+  row_named : (a b : Operand) (k : ℤ) → IsOperand a → IsOperand b → IsTrue (names_slots slots (row a b k))
+  row_named (Variable x) (Variable y) k h g =
+      let a = h.slot x refl in
+      let b = g.slot y refl in
+      chosen (nat_lt x y) (x == y) ((x, pos 1) ∷ (y, negsuc 0) ∷ []) [] ((y, negsuc 0) ∷ (x, pos 1) ∷ []) (two_named x y (pos 1) (negsuc 0) a b) refl (two_named y x (negsuc 0) (pos 1) b a)
+  row_named (Variable x) (Constant m) k h g = and_is (nat_lt x slots) true (lt-ltb x slots (h.slot x refl)) refl
+  row_named (Constant n) (Variable y) k h g = and_is (nat_lt y slots) true (lt-ltb y slots (g.slot y refl)) refl
+  row_named (Constant n) (Constant m) k h g = refl
+
+  pub record IsRow (r : Atom) : Type 0 where
+    pub named : IsTrue (names_slots slots r)
+    pub small : IsTrue (is_small_row r)
+
+  row_is : (a b : Operand) (k : ℤ) → (k ≡ pos 0) ⊎ (k ≡ pos 1) → IsOperand a → IsOperand b → IsRow (row a b k)
+  row_is a b k one h g = record { named = row_named a b k h g; small = row_small a b k h.fits g.fits one }
+
+  one_row : (r : Atom) → IsRow r → AreRows (r ∷ [])
+  one_row r h = record { named = and_is (names_slots slots r) true h.named refl; small = and_is (is_small_row r) true h.small refl }
+
+  two_rows : (r s : Atom) → IsRow r → IsRow s → AreRows (r ∷ s ∷ [])
+  two_rows r s h k = record {
+    named = and_is (names_slots slots r) (names_slots slots s && true) h.named (and_is (names_slots slots s) true k.named refl);
+    small = and_is (is_small_row r) (is_small_row s && true) h.small (and_is (is_small_row s) true k.small refl);
+  }
+
+  -- each of the lists has such rows
+  abbrev pub AllRows : List (List Atom) → Type 0
+  AllRows [] = Unit {0}
+  AllRows (rows ∷ lists) = AreRows rows × AllRows lists
+
+  less_is : (a b : Operand) → IsOperand a → IsOperand b → IsRow (less a b)
+  less_is a b h g = row_is a b (pos 1) (inr refl) h g
+
+  at_most_is : (a b : Operand) → IsOperand a → IsOperand b → IsRow (at_most a b)
+  at_most_is a b h g = row_is a b (pos 0) (inl refl) h g
+
+  pub rows_are : (op : Op) (a b : Operand) → IsOperand a → IsOperand b → AllRows (rows_where op a b)
+  rows_are Add a b h g = tt
+  rows_are Subtract a b h g = tt
+  rows_are Multiply a b h g = tt
+  rows_are Less a b h g = (one_row (less a b) (less_is a b h g), tt)
+  rows_are LessEqual a b h g = (one_row (at_most a b) (at_most_is a b h g), tt)
+  rows_are Greater a b h g = (one_row (less b a) (less_is b a g h), tt)
+  rows_are GreaterEqual a b h g = (one_row (at_most b a) (at_most_is b a g h), tt)
+  rows_are Equal a b h g = (two_rows (at_most a b) (at_most b a) (at_most_is a b h g) (at_most_is b a g h), tt)
+  rows_are Unequal a b h g = (one_row (less b a) (less_is b a g h), (one_row (less a b) (less_is a b h g), tt))
+  rows_are And a b h g = tt
+  rows_are Or a b h g = tt
+
+  -- Lists of edges
+
+  abbrev pub AllFine : List Edge → Type 0
+  AllFine [] = Unit {0}
+  AllFine (e ∷ es) = Fine e × AllFine es
+
+  pub fine_both : (xs ys : List Edge) → AllFine xs → AllFine ys → AllFine (xs ++ ys)
+  fine_both [] ys h k = k
+  fine_both (x ∷ xs) ys h k = (h.0, fine_both xs ys h.1 k)
+
+  pub fine_at : (es : List Edge) (i : ℕ) (e : Edge) → AllFine es → slice_get es i ≡ Some e → Fine e
+  fine_at [] i e h s = absurd cc
+  fine_at (x ∷ es) zero e h s = let q : x ≡ e = cc in subst Fine q h.0
+  fine_at (x ∷ es) (suc i) e h s = fine_at es i e h.1 s
+
+  abbrev pub IsTarget : Target → Type 0
+  IsTarget (Node to) = IsInner to
+  IsTarget (Fails id) = Unit {0}
+  IsTarget Nowhere = Unit {0}
+
+  way_fine : (n : ℕ) (target : Target) (rows : List Atom) → 1 < nodes → IsSource n → IsTarget target → AreRows rows → AllFine (way n target rows)
+  way_fine n (Node to) rows lt s t r = (guard_fine n to rows s t r, tt)
+  way_fine n (Fails id) rows lt s t r = (assert_fine n id rows s lt r, tt)
+  way_fine n Nowhere rows lt s t r = tt
+
+  pub ways_fine : (n : ℕ) (target : Target) (lists : List (List Atom)) → 1 < nodes → IsSource n → IsTarget target → AllRows lists → AllFine (ways n target lists)
+  ways_fine n target [] lt s t r = tt
+  ways_fine n target (rows ∷ lists) lt s t r = fine_both (way n target rows) (ways n target lists) (way_fine n target rows lt s t r.0) (ways_fine n target lists lt s t r.1)
