@@ -15,7 +15,7 @@ use Rattle.flow_build.specs.declared.target.Target.TheVariants.{Node}
 use Rattle.flow_build.specs.Forms.{Value, Values, Test}
 use Rattle.flow_build.specs.Forms as form
 use Rattle.flow_build.specs.Translation.{kept, kept_if, in_slot, nonzero, scaled, overflows_by}
-use Rattle.flow_build.specs.Operands.{operand_lin, constant_lin, scaled_lin, sum_lin, difference_lin, overflows_in_place, slot_or_zero, rows_where, opposite_op}
+use Rattle.flow_build.specs.Operands.{operand_lin, constant_lin, scaled_lin, sum_lin, difference_lin, overflows_in_place, slot_or_zero, is_constant_operand, rows_where, opposite_op}
 use Rattle.flow_build.specs.Blocks.{Block, edges_of, one, ways}
 use Rattle.flow_build.specs.Lowering.{operand_at, argument_slot, argument_slots, landing, landing_of_all, nodes_of, nodes_of_all, slots_of, value_blocks, values_blocks}
 use Rattle.flow_build.specs.Building.{is_in_place, copied, copied_where, copied_node, copied_nodes, copied_operand, one_if, node_where, operand_where}
@@ -37,23 +37,9 @@ both_added xs ys n m b0 b1 b2 h k = record {
 }
 
 pub sum_added : (v u : Value) (from t : ℕ) (b0 b1 b2 b3 : Builder) (s : BothSides) (l : Landed) → b1.edges.items ≡ b0.edges.items → b1.next ≡ b0.next + 1 → AddsBoth v u from (t + 1) b1 b2 s →
-    b3.edges.items ≡ b2.edges.items ++ Assign s.last.node b0.next t (sum_lin s.left s.right) ∷ [] → b3.next ≡ b2.next →
-    l.node ≡ b0.next → l.operand ≡ Variable t → l.slot ≡ s.last.slot → l.in_place ≡ false → Adds (form.sum v u) from t b0 b3 l
+    b3.edges.items ≡ b2.edges.items ++ Assign s.right.node b0.next t (sum_lin s.left s.right.operand) ∷ [] → b3.next ≡ b2.next →
+    l.node ≡ b0.next → l.operand ≡ Variable t → l.slot ≡ s.right.slot → l.in_place ≡ false → Adds (form.sum v u) from t b0 b3 l
 sum_added v u from t b0 b1 b2 b3 s l e1 n1 both e3 n3 node operand slot in_place = record {
-  blocks = record {
-    edges = simp (e3, both.blocks.edges, e1, n1, both.left, both.right, both.node, edges_of-append, append_assoc) refl;
-    next = omega (arith, n3, both.blocks.next, n1);
-  };
-  node = node;
-  operand = operand;
-  slot = omega (arith, slot, both.slot);
-  in_place = in_place;
-}
-
-pub difference_added : (v u : Value) (from t : ℕ) (b0 b1 b2 b3 : Builder) (s : BothSides) (l : Landed) → b1.edges.items ≡ b0.edges.items → b1.next ≡ b0.next + 1 → AddsBoth v u from (t + 1) b1 b2 s →
-    b3.edges.items ≡ b2.edges.items ++ Assign s.last.node b0.next t (difference_lin s.left s.right) ∷ [] → b3.next ≡ b2.next →
-    l.node ≡ b0.next → l.operand ≡ Variable t → l.slot ≡ s.last.slot → l.in_place ≡ false → Adds (form.difference v u) from t b0 b3 l
-difference_added v u from t b0 b1 b2 b3 s l e1 n1 both e3 n3 node operand slot in_place = record {
   blocks = record {
     edges = simp (e3, both.blocks.edges, e1, n1, both.left, both.right, both.node, edges_of-append, append_assoc) refl;
     next = omega (arith, n3, both.blocks.next, n1);
@@ -156,9 +142,9 @@ kept_added k v from t b0 b1 b2 l m h e n node operand slot in_place =
     record {
       blocks = record {
         edges = e ∙ ap (λ x. b1.edges.items ++ copied k x b1.next) at ∙ ap (λ i. b1.edges.items ++ copied k (landed_at v from t b0.next) i) h.blocks.next
-        ∙ ap (λ es. es ++ copied k (landed_at v from t b0.next) (b0.next + nodes_of v)) h.blocks.edges
-        ∙ append_assoc b0.edges.items (edges_of (value_blocks v from t b0.next)) (copied k (landed_at v from t b0.next) (b0.next + nodes_of v))
-        ∙ ap (λ es. b0.edges.items ++ es) (sym K.edges);
+            ∙ ap (λ es. es ++ copied k (landed_at v from t b0.next) (b0.next + nodes_of v)) h.blocks.edges
+            ∙ append_assoc b0.edges.items (edges_of (value_blocks v from t b0.next)) (copied k (landed_at v from t b0.next) (b0.next + nodes_of v))
+            ∙ ap (λ es. b0.edges.items ++ es) (sym K.edges);
         next = omega (arith, n, same, h.blocks.next, K.nodes);
       };
       node = node ∙ ap (λ x. copied_node k x b1.next) at ∙ ap (λ i. copied_node k (landed_at v from t b0.next) i) h.blocks.next ∙ sym K.landing_is;
@@ -198,13 +184,13 @@ multiple_added k c v from t b0 b1 b2 b3 l m e1 n1 h e n node operand slot in_pla
     record {
       blocks = record {
         edges = e ∙ ap (λ x. b2.edges.items ++ Rest x b2.next) at ∙ ap (λ i. b2.edges.items ++ Rest L i) h.blocks.next ∙ ap (λ es. es ++ Rest L (b1.next + nodes_of v)) h.blocks.edges
-        ∙ append_assoc b1.edges.items (V b1.next) (Rest L (b1.next + nodes_of v))
-        ∙ ap (λ es. b1.edges.items ++ es) (sym (append_assoc (V b1.next) (copied k L (b1.next + nodes_of v)) (Last (copied_node k L (b1.next + nodes_of v)) (copied_operand k L))))
-        ∙ ap (λ es. b1.edges.items ++ (es ++ Last (copied_node k L (b1.next + nodes_of v)) (copied_operand k L))) (sym K.edges)
-        ∙ ap (λ i. b1.edges.items ++ (U b1.next ++ Last i (copied_operand k L))) (sym K.landing_is)
-        ∙ ap (λ a. b1.edges.items ++ (U b1.next ++ Last (landing u from b1.next) a)) (sym K.operand)
-        ∙ ap (λ es. es ++ Whole b1.next) e1 ∙ ap (λ lo. b0.edges.items ++ Whole lo) n1
-        ∙ ap (λ es. b0.edges.items ++ es) (sym (edges_of-append (value_blocks u from (t + 1) (b0.next + 1)) (one (landing u from (b0.next + 1)) (Assign (landing u from (b0.next + 1)) b0.next t (scaled_lin c (operand_at u (t + 1)))) ∷ [])));
+            ∙ append_assoc b1.edges.items (V b1.next) (Rest L (b1.next + nodes_of v))
+            ∙ ap (λ es. b1.edges.items ++ es) (sym (append_assoc (V b1.next) (copied k L (b1.next + nodes_of v)) (Last (copied_node k L (b1.next + nodes_of v)) (copied_operand k L))))
+            ∙ ap (λ es. b1.edges.items ++ (es ++ Last (copied_node k L (b1.next + nodes_of v)) (copied_operand k L))) (sym K.edges)
+            ∙ ap (λ i. b1.edges.items ++ (U b1.next ++ Last i (copied_operand k L))) (sym K.landing_is)
+            ∙ ap (λ a. b1.edges.items ++ (U b1.next ++ Last (landing u from b1.next) a)) (sym K.operand)
+            ∙ ap (λ es. es ++ Whole b1.next) e1 ∙ ap (λ lo. b0.edges.items ++ Whole lo) n1
+            ∙ ap (λ es. b0.edges.items ++ es) (sym (edges_of-append (value_blocks u from (t + 1) (b0.next + 1)) (one (landing u from (b0.next + 1)) (Assign (landing u from (b0.next + 1)) b0.next t (scaled_lin c (operand_at u (t + 1)))) ∷ [])));
         next = omega (arith, n, few, h.blocks.next, K.nodes, n1);
       };
       node = node;
@@ -223,19 +209,79 @@ scaled_added c v from t b0 b1 b2 b3 l m e1 n1 h e n node operand slot in_place =
 
 -- both sides of an operation
 pub sides_added : (v u : Value) (from t : ℕ) (b0 b1 b2 : Builder) (l m : Landed) (s : BothSides) → Adds v from t b0 b1 l → Adds u l.node l.slot b1 b2 m →
-    s.left ≡ l.operand → s.right ≡ m.operand → s.last.node ≡ m.node → s.last.slot ≡ m.slot → AddsBoth v u from t b0 b2 s
-sides_added v u from t b0 b1 b2 l m s h k left right node slot =
+    s.left ≡ l.operand → s.right ≡ m → AddsBoth v u from t b0 b2 s
+sides_added v u from t b0 b1 b2 l m s h k left right =
     let Blocks : ℕ → ℕ → ℕ → List Block = λ i j lo. value_blocks u i j lo in
     let same : Blocks l.node l.slot b1.next ≡ Blocks (landing v from b0.next) (t + slots_of v) (b0.next + nodes_of v) =
-        ap (λ i. Blocks i l.slot b1.next) h.node ∙ ap (λ j. Blocks (landing v from b0.next) j b1.next) h.slot ∙ ap (λ lo. Blocks (landing v from b0.next) (t + slots_of v) lo) h.blocks.next in
+    ap (λ i. Blocks i l.slot b1.next) h.node ∙ ap (λ j. Blocks (landing v from b0.next) j b1.next) h.slot ∙ ap (λ lo. Blocks (landing v from b0.next) (t + slots_of v) lo) h.blocks.next in
     let P : List Block → Type 0 = λ ys. AddsBlocks ys (nodes_of u) b1 b2 in
     record {
       blocks = both_added (value_blocks v from t b0.next) (Blocks (landing v from b0.next) (t + slots_of v) (b0.next + nodes_of v)) (nodes_of v) (nodes_of u) b0 b1 b2 h.blocks (subst P same k.blocks);
       left = left ∙ h.operand;
-      right = right ∙ k.operand ∙ ap (λ j. operand_at u j) h.slot;
-      node = node ∙ k.node ∙ ap (λ i. landing u i b1.next) h.node ∙ ap (λ lo. landing u (landing v from b0.next) lo) h.blocks.next;
-      slot = omega (arith, slot, k.slot, h.slot);
+      right = ap (λ x. x.operand) right ∙ k.operand ∙ ap (λ j. operand_at u j) h.slot;
+      node = ap (λ x. x.node) right ∙ k.node ∙ ap (λ i. landing u i b1.next) h.node ∙ ap (λ lo. landing u (landing v from b0.next) lo) h.blocks.next;
+      slot = let same : s.right.slot ≡ m.slot = ap (λ x. x.slot) right in omega (arith, same, k.slot, h.slot);
+      in_place = ap (λ x. x.in_place) right ∙ k.in_place;
     }
+
+-- where the right side lands
+right_at : (v u : Value) (from t : ℕ) (b0 b1 : Builder) (s : BothSides) → AddsBoth v u from t b0 b1 s → s.right ≡ landed_at u (landing v from b0.next) (t + slots_of v) (b0.next + nodes_of v)
+right_at v u from t b0 b1 s h =
+    let i = landing v from b0.next in
+    let j = t + slots_of v in
+    let lo = b0.next + nodes_of v in
+    let N : ℕ → Landed = λ x. record { node = x; operand = s.right.operand; slot = s.right.slot; in_place = s.right.in_place } in
+    let O : Operand → Landed = λ x. record { node = landing u i lo; operand = x; slot = s.right.slot; in_place = s.right.in_place } in
+    let S : ℕ → Landed = λ x. record { node = landing u i lo; operand = operand_at u j; slot = x; in_place = s.right.in_place } in
+    let I : Bool → Landed = λ x. record { node = landing u i lo; operand = operand_at u j; slot = j + slots_of u; in_place = x } in
+    ap N h.node ∙ ap O h.right ∙ ap S h.slot ∙ ap I h.in_place
+
+-- the right side kept as well
+pub right_kept : (k : Bool) (v u : Value) (from t : ℕ) (b0 b1 b2 : Builder) (s z : BothSides) (m : Landed) → AddsBoth v u from t b0 b1 s →
+    b2.edges.items ≡ b1.edges.items ++ copied k s.right b1.next → b2.next ≡ b1.next + copied_nodes k s.right →
+    m.node ≡ copied_node k s.right b1.next → m.operand ≡ copied_operand k s.right → m.slot ≡ s.right.slot + copied_nodes k s.right → m.in_place ≡ (not k && s.right.in_place) →
+    z.left ≡ s.left → z.right ≡ m → AddsBoth v (kept_if k u) from t b0 b2 z
+right_kept k v u from t b0 b1 b2 s z m h e n node operand slot in_place left right =
+    let i = landing v from b0.next in
+    let j = t + slots_of v in
+    let lo = b0.next + nodes_of v in
+    let L = landed_at u i j lo in
+    let K = keeps k u i j lo in
+    let at = right_at v u from t b0 b1 s h in
+    let next : b1.next ≡ lo + nodes_of u = h.blocks.next ∙ sym (add_assoc b0.next (nodes_of v) (nodes_of u)) in
+    let same : copied_nodes k s.right ≡ copied_nodes k L = ap (λ x. copied_nodes k x) at in
+    let X = edges_of (value_blocks v from t b0.next) in
+    let Y = edges_of (value_blocks u i j lo) in
+    let Z = copied k L (lo + nodes_of u) in
+    record {
+      blocks = record {
+        edges = e ∙ ap (λ x. b1.edges.items ++ copied k x b1.next) at ∙ ap (λ a. b1.edges.items ++ copied k L a) next
+            ∙ ap (λ es. es ++ Z) (h.blocks.edges ∙ ap (λ es. b0.edges.items ++ es) (edges_of-append (value_blocks v from t b0.next) (value_blocks u i j lo)))
+            ∙ append_assoc b0.edges.items (X ++ Y) Z ∙ ap (λ es. b0.edges.items ++ es) (append_assoc X Y Z)
+            ∙ ap (λ es. b0.edges.items ++ (X ++ es)) (sym K.edges)
+            ∙ ap (λ es. b0.edges.items ++ es) (sym (edges_of-append (value_blocks v from t b0.next) (value_blocks (kept_if k u) i j lo)));
+        next = omega (arith, n, same, h.blocks.next, K.nodes);
+      };
+      left = left ∙ h.left;
+      right = ap (λ x. x.operand) right ∙ operand ∙ ap (λ x. copied_operand k x) at ∙ sym K.operand;
+      node = ap (λ x. x.node) right ∙ node ∙ ap (λ x. copied_node k x b1.next) at ∙ ap (λ a. copied_node k L a) next ∙ sym K.landing_is;
+      slot = let z_is : z.right.slot ≡ m.slot = ap (λ x. x.slot) right in let s_is = h.slot in omega (arith, z_is, slot, same, s_is, K.slots);
+      in_place = ap (λ x. x.in_place) right ∙ in_place ∙ ap (λ x. not k && x) h.in_place ∙ sym K.in_place;
+    }
+
+pub difference_added : (v u : Value) (from t : ℕ) (b0 b1 b2 b3 : Builder) (s : BothSides) (l : Landed) → b1.edges.items ≡ b0.edges.items → b1.next ≡ b0.next + 1 → AddsBoth v u from (t + 1) b1 b2 s →
+    b3.edges.items ≡ b2.edges.items ++ Assign s.right.node b0.next t (difference_lin s.left s.right.operand) ∷ [] → b3.next ≡ b2.next →
+    l.node ≡ b0.next → l.operand ≡ Variable t → l.slot ≡ s.right.slot → l.in_place ≡ false → Adds (form.difference v u) from t b0 b3 l
+difference_added v u from t b0 b1 b2 b3 s l e1 n1 both e3 n3 node operand slot in_place = record {
+  blocks = record {
+    edges = simp (e3, both.blocks.edges, e1, n1, both.left, both.right, both.node, edges_of-append, append_assoc) refl;
+    next = omega (arith, n3, both.blocks.next, n1);
+  };
+  node = node;
+  operand = operand;
+  slot = omega (arith, slot, both.slot);
+  in_place = in_place;
+}
 
 -- a test that becomes a value
 pub truth_added : (c : Test) (from t : ℕ) (met unmet free : ℕ) (b0 b1 b2 b3 : Builder) (l : Landed) → b1.edges.items ≡ b0.edges.items → b1.next ≡ b0.next + 3 → met ≡ b0.next + 1 → unmet ≡ b0.next + 2 →
@@ -275,7 +321,7 @@ either_tests_added c d from met unmet t middle free last b0 b1 b2 b3 e1 n1 m h k
 }
 
 pub compare_added : (op : Op) (v u : Value) (from : ℕ) (met unmet : Target) (t free : ℕ) (b0 b1 b2 : Builder) (s : BothSides) → AddsBoth v u from t b0 b1 s →
-    b2.edges.items ≡ b1.edges.items ++ (ways s.last.node met (rows_where op s.left s.right) ++ ways s.last.node unmet (rows_where (opposite_op op) s.left s.right)) → b2.next ≡ b1.next → free ≡ s.last.slot →
+    b2.edges.items ≡ b1.edges.items ++ (ways s.right.node met (rows_where op s.left s.right.operand) ++ ways s.right.node unmet (rows_where (opposite_op op) s.left s.right.operand)) → b2.next ≡ b1.next → free ≡ s.right.slot →
     AddsTest (form.compare op v u) from met unmet t b0 b2 free
 compare_added op v u from met unmet t free b0 b1 b2 s h e n slot = record {
   blocks = record {
@@ -297,10 +343,6 @@ nonzero_added v from met unmet t free b0 b1 b2 l h e n slot = record {
 }
 
 -- Arguments
-
-abbrev pub is_constant_operand : Operand → Bool
-is_constant_operand (Variable x) = false
-is_constant_operand (Constant n) = true
 
 -- An argument is kept where a later one has a call, or where it is a literal.
 pub argument_kept : (later : Bool) (v : Value) (t : ℕ) → argument_of later v ≡ kept_if (later || is_constant_operand (operand_at v t)) v
@@ -360,7 +402,7 @@ pub arguments_added : (v : Value) (vs : Values) (from t slot : ℕ) (b0 b1 b2 : 
 arguments_added v vs from t slot b0 b1 b2 l r h k =
     let Blocks : ℕ → ℕ → ℕ → List Block = λ i j lo. values_blocks vs i j lo in
     let same : Blocks l.node l.slot b1.next ≡ Blocks (landing v from b0.next) (t + slots_of v) (b0.next + nodes_of v) =
-        ap (λ i. Blocks i l.slot b1.next) h.node ∙ ap (λ j. Blocks (landing v from b0.next) j b1.next) h.free ∙ ap (λ lo. Blocks (landing v from b0.next) (t + slots_of v) lo) h.blocks.next in
+    ap (λ i. Blocks i l.slot b1.next) h.node ∙ ap (λ j. Blocks (landing v from b0.next) j b1.next) h.free ∙ ap (λ lo. Blocks (landing v from b0.next) (t + slots_of v) lo) h.blocks.next in
     let P : List Block → Type 0 = λ ys. AddsBlocks ys (nodes_of_all vs) b1 b2 in
     record {
       blocks = both_added (value_blocks v from t b0.next) (Blocks (landing v from b0.next) (t + slots_of v) (b0.next + nodes_of v)) (nodes_of v) (nodes_of_all vs) b0 b1 b2 h.blocks (subst P same k.blocks);

@@ -112,7 +112,7 @@ module _ (K : ℤ → Type 0) (C : ℕ → ℕ → Type 0) where
     added_keeps l = (kept_if_keeps (l || overflows (λ x y. x +ℤ y) v u) v h, k)
 
     subtracted_keeps : (l : Bool) → Keeps (subtracted l v u)
-    subtracted_keeps l = (kept_if_keeps (l || overflows (λ x y. x -ℤ y) v u) v h, k)
+    subtracted_keeps l = (kept_if_keeps (l || overflows (λ x y. x -ℤ y) v u) v h, kept_if_keeps (overflows_by (negsuc 0) u) u k)
 
     multiplied_keeps : (a b : Option ℤ) (l : Bool) → ((c : ℤ) → Contains (listed a ++ listed b) c → K c) → Keeps (multiplied a b l v u)
     multiplied_keeps (Some c) b l f = scaled_keeps c u (f c (first_listed c b)) k

@@ -47,9 +47,17 @@ module _ (p : PureProcedure) (plain : AllPlain p.slots p.body) where
   procedure_fine =
       let enter = guard_fine p.body N S entry_node body_node [] entry_source body_inner (no_rows p.body N S) in
       let finish = assign_fine p.body N S end_node return_node p.slots (constant_lin (pos 0)) (inner_source p.body N S end_node end_inner) return_inner a_slot (constant_lin_is p.body N S (pos 0)) in
-      let leave = return_fine p.body N S return_node p.slots (inner_source p.body N S return_node return_inner) (omega arith) a_slot in
-      (enter, (finish, (leave, statement_fine p.body N S p.slots (omega arith) a_slot p.gives (block p.body) plain (record { factor = λ c h. inr (inr h); call = λ q n h. h }) body_node end_node end_node end_node first_free body_inner end_inner end_inner end_inner
-      (record { fresh = omega arith; few_nodes = omega arith; above_vars = omega arith; few_slots = omega arith }))))
+      let leave = return_fine p.body N S return_node p.slots (inner_source p.body N S return_node return_inner) (omega arith) a_slot in (
+        enter,
+        (
+          finish,
+          (
+            leave,
+            statement_fine p.body N S p.slots (omega arith) a_slot p.gives (block p.body) plain (record { factor = λ c h. inr (inr h); call = λ q n h. h }) body_node end_node end_node end_node first_free body_inner end_inner end_inner end_inner
+                (record { fresh = omega arith; few_nodes = omega arith; above_vars = omega arith; few_slots = omega arith }),
+          ),
+        ),
+      )
 
   edges_kept : p.params ≤ p.slots → (i : ℕ) (e : Edge) → slice_get (procedure_edges p) i ≡ Some e → IsEdge N exit_node fail_node S e
   edges_kept few zero e h =

@@ -146,7 +146,7 @@ module _ (body : Statements) (nodes slots vars : ℕ) where
 
   -- two values, and edges behind them that read their operands
   module _ (v u : Value) (vf : ValueFine v) (uf : ValueFine u) (from t lo : ℕ) (fits : FitsValue vars v × FitsValue vars u) (keeps : KeepsValue v × KeepsValue u) (inner : IsInner body nodes slots from)
-    (room : Room t lo (nodes_of v + nodes_of u) (slots_of v + slots_of u)) where
+      (room : Room t lo (nodes_of v + nodes_of u) (slots_of v + slots_of u)) where
     abbrev middle : ℕ
     middle = landing v from lo
 

@@ -17,6 +17,7 @@ pub mod Facts
 pub mod Linking
 pub mod SmallRows
 pub mod Adding
+pub mod Answering
 pub mod Measures
 pub mod Good
 pub mod Coming

@@ -102,7 +102,7 @@ module _ (vars : ℕ) where
   added_fits l v u h k = (kept_if_fits (l || overflows (λ x y. x +ℤ y) v u) v h, k)
 
   subtracted_fits : (l : Bool) (v u : Value) → FitsValue vars v → FitsValue vars u → FitsValue vars (subtracted l v u)
-  subtracted_fits l v u h k = (kept_if_fits (l || overflows (λ x y. x -ℤ y) v u) v h, k)
+  subtracted_fits l v u h k = (kept_if_fits (l || overflows (λ x y. x -ℤ y) v u) v h, kept_if_fits (overflows_by (negsuc 0) u) u k)
 
   multiplied_fits : (a b : Option ℤ) (l : Bool) (v u : Value) → FitsValue vars v → FitsValue vars u → FitsValue vars (multiplied a b l v u)
   multiplied_fits (Some c) b l v u h k = scaled_fits c u k
@@ -380,7 +380,9 @@ module _ (vars : ℕ) where
       added_same l = sides_same (l || overflows (λ x y. x +ℤ y) v u) v u s (E a s) (E b s) (λ x y. ExactOrStopped (x +ℤ y)) ha hb
 
       subtracted_same : (l : Bool) → Same (E (binary Subtract a b) s) (Y (subtracted l v u) s)
-      subtracted_same l = sides_same (l || overflows (λ x y. x -ℤ y) v u) v u s (E a s) (E b s) (λ x y. ExactOrStopped (x -ℤ y)) ha hb
+      subtracted_same l =
+          let k = overflows_by (negsuc 0) u in
+          sides_same (l || overflows (λ x y. x -ℤ y) v u) v (kept_if k u) s (E a s) (E b s) (λ x y. ExactOrStopped (x -ℤ y)) ha (through (E b s) (Y u s) (Y (kept_if k u) s) hb (kept_if_same k u s))
 
       abbrev Product : Relation ℤ
       Product = Then (E a s) (λ x. Then (E b s) (λ y. ExactOrStopped (x *ℤ y)))

@@ -77,7 +77,10 @@ module _ (of_truth of_compare of_both : ℕ) where
       added_few l = let a = kept_if_few (l || overflows (λ x y. x +ℤ y) v u) v n i h in omega (arith, a)
 
       subtracted_few : (l : Bool) → weight (subtracted l v u) ≤ 1 + n + m
-      subtracted_few l = let a = kept_if_few (l || overflows (λ x y. x -ℤ y) v u) v n i h in omega (arith, a)
+      subtracted_few l =
+          let a = kept_if_few (l || overflows (λ x y. x -ℤ y) v u) v n i h in
+          let b = kept_if_few (overflows_by (negsuc 0) u) u m j w in
+          omega (arith, a, b)
 
       multiplied_few : (a b : Option ℤ) (l : Bool) → weight (multiplied a b l v u) ≤ 1 + n + m
       multiplied_few (Some c) b l = let s = scaled_few c u m j w in omega (arith, s)

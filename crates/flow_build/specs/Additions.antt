@@ -65,9 +65,10 @@ pub record AddsSlot (v : Value) (from t : ℕ) (old new : Builder) (l : Reached)
 pub record AddsBoth (v u : Value) (from t : ℕ) (old new : Builder) (l : BothSides) : Type 0 where
   pub blocks : AddsBlocks (value_blocks v from t old.next ++ value_blocks u (landing v from old.next) (t + slots_of v) (old.next + nodes_of v)) (nodes_of v + nodes_of u) old new
   pub left : l.left ≡ operand_at v t
-  pub right : l.right ≡ operand_at u (t + slots_of v)
-  pub node : l.last.node ≡ landing u (landing v from old.next) (old.next + nodes_of v)
-  pub slot : l.last.slot ≡ t + slots_of v + slots_of u
+  pub right : l.right.operand ≡ operand_at u (t + slots_of v)
+  pub node : l.right.node ≡ landing u (landing v from old.next) (old.next + nodes_of v)
+  pub slot : l.right.slot ≡ t + slots_of v + slots_of u
+  pub in_place : l.right.in_place ≡ is_in_place u
 
 -- a test's blocks are added, from a node to one of the targets
 pub record AddsTest (c : Test) (from : ℕ) (met unmet : Target) (t : ℕ) (old new : Builder) (free : ℕ) : Type 0 where

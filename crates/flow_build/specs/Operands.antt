@@ -24,6 +24,10 @@ abbrev pub constant_of : Operand → ℤ
 constant_of (Variable x) = pos 0
 constant_of (Constant n) = n
 
+abbrev pub is_constant_operand : Operand → Bool
+is_constant_operand (Variable x) = false
+is_constant_operand (Constant n) = true
+
 abbrev pub slot_or_zero : Operand → ℕ
 slot_or_zero (Variable x) = x
 slot_or_zero (Constant n) = 0

@@ -80,8 +80,10 @@ overflows f v u = false
 abbrev pub added : (later_call : Bool) → Value → Value → Value
 added later_call v u = sum (kept_if (later_call || overflows (λ x y. x +ℤ y) v u) v) u
 
+-- The least value has no negative one.
 abbrev pub subtracted : (later_call : Bool) → Value → Value → Value
-subtracted later_call v u = difference (kept_if (later_call || overflows (λ x y. x -ℤ y) v u) v) u
+subtracted later_call v u =
+    difference (kept_if (later_call || overflows (λ x y. x -ℤ y) v u) v) (kept_if (overflows_by (negsuc 0) u) u)
 
 -- A product is a multiple by a side that has a value before the run. Where neither side has, a constant side stops the
 -- run, and what is done with the sides' values is never reached.

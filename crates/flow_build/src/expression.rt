@@ -1,6 +1,6 @@
 //! Expressions.
 
-ghost use Rattle.std.specs.Prelude.{◌≡◌, ◌+◌, ◌++◌, ◌||◌, true, false, IfOk, OnOk, IsTrue};
+ghost use Rattle.std.specs.Prelude.{◌≡◌, ◌+◌, ◌*◌, ◌<◌, ◌++◌, ◌||◌, true, false, IfOk, OnOk, IsTrue};
 ghost use Rattle.c_tree.specs.View.{expression_of, expressions_of};
 ghost use Rattle.c_tree.specs.WellFormed.{is_arithmetic, nodes, nodes_all};
 ghost use Rattle.flow_build.specs.Forms.{call};
@@ -12,8 +12,13 @@ ghost use Rattle.flow_build.specs.Additions.{binary_value, binary_test, argument
 
 use crate::branch::compare;
 use crate::builder::Builder;
-use crate::constant::{constant_value, difference_overflows, has_call, have_call, is_arithmetic, sum_overflows};
-use crate::landing::{ArgumentSlot, BothSides, Landed, Reached, in_slot, kept_if, multiple, settle, truth_nodes};
+use crate::constant::{
+    constant_value, difference_overflows, has_call, have_call, is_arithmetic, overflows_by,
+    sum_overflows,
+};
+use crate::landing::{
+    ArgumentSlot, BothSides, Landed, Reached, in_slot, kept_if, multiple, settle, truth_nodes,
+};
 use crate::linear::{difference_lin, sum_lin};
 use crate::operand::Operand;
 use crate::target::Target;
@@ -151,8 +156,8 @@ fn argument(
     ensures literals { OnOk result (IsTrue (literals_fit (expression_of e.now))) }
 {
     let landed = value(b, alloc, e, from, t)?;
-    let is_literal = matches!(landed.operand, Operand::Constant(_));
-    let landed = kept_if(b, alloc, later_call || is_literal, landed)?;
+    let keep = later_call || landed.operand.is_constant();
+    let landed = kept_if(b, alloc, keep, landed)?;
     Ok(ArgumentSlot {
         slot: landed.operand.slot(),
         last: Reached {
@@ -199,9 +204,9 @@ fn sides(
         (kept_value_if (has_call (expression_of right.now) || overflows) (value_of (expression_of left.now)))
         (value_of (expression_of right.now)) from t b.old b.new l) }
     ensures few { IfOk result
-        (λ l. TakesFew (nodes (expression_of left.now) + nodes (expression_of right.now)) t b.old b.new l.last.slot) }
+        (λ l. TakesFew (nodes (expression_of left.now) + nodes (expression_of right.now)) t b.old b.new l.right.slot) }
     ensures left { IfOk result (λ l. IsTrue (is_operand l.left)) }
-    ensures right { IfOk result (λ l. IsTrue (is_operand l.right)) }
+    ensures right { IfOk result (λ l. IsTrue (is_landed l.right)) }
     ensures left_literals { OnOk result (IsTrue (literals_fit (expression_of left.now))) }
     ensures right_literals { OnOk result (IsTrue (literals_fit (expression_of right.now))) }
 {
@@ -211,11 +216,7 @@ fn sides(
     let other = value(b, alloc, right, landed.node, landed.slot)?;
     Ok(BothSides {
         left: landed.operand,
-        right: other.operand,
-        last: Reached {
-            node: other.node,
-            slot: other.slot,
-        },
+        right: other,
     })
 }
 
@@ -242,14 +243,14 @@ fn sum(
     let to = b.node();
     let overflows = sum_overflows(left, right);
     let sides = sides(b, alloc, left, right, overflows, from, t + 1)?;
-    let value = sum_lin(alloc, sides.left, sides.right)?;
+    let value = sum_lin(alloc, sides.left, sides.right.operand)?;
     b.push(Edge::Assign {
-        from: sides.last.node,
+        from: sides.right.node,
         to,
         slot: t,
         value,
     })?;
-    Ok(in_slot(to, t, sides.last.slot))
+    Ok(in_slot(to, t, sides.right.slot))
 }
 
 /// The difference of two expressions.
@@ -275,14 +276,16 @@ fn difference(
     let to = b.node();
     let overflows = difference_overflows(left, right);
     let sides = sides(b, alloc, left, right, overflows, from, t + 1)?;
-    let value = difference_lin(alloc, sides.left, sides.right)?;
+    let keep = overflows_by(-1, sides.right.operand);
+    let right = kept_if(b, alloc, keep, sides.right)?;
+    let value = difference_lin(alloc, sides.left, right.operand)?;
     b.push(Edge::Assign {
-        from: sides.last.node,
+        from: right.node,
         to,
         slot: t,
         value,
     })?;
-    Ok(in_slot(to, t, sides.last.slot))
+    Ok(in_slot(to, t, right.slot))
 }
 
 /// A sum, a difference or a product. A product is a multiple by a side that has a value before the run; without one a
@@ -367,7 +370,8 @@ fn condition(
     t: u32,
 ) -> Result<u32, AllocError>
     requires condition { is_arithmetic op ≡ false }
-    requires room { HasRoom (1 + nodes (expression_of left.now) + nodes (expression_of right.now)) t b.old }
+    requires room { HasRoom (nodes (expression_of left.now) + nodes (expression_of right.now)) t b.old }
+    requires middle { b.old.next + 5 * (nodes (expression_of left.now) + nodes (expression_of right.now)) < 4000000000 }
     ensures adds { IfOk result
         (λ l. AddsTest (binary_test op (expression_of left.now) (expression_of right.now)) from met unmet t b.old b.new l) }
     ensures few { IfOk result
@@ -388,9 +392,18 @@ fn condition(
         }
         _ => {
             let sides = sides(b, alloc, left, right, false, from, t)?;
-            let node = sides.last.node;
-            compare(b, alloc, node, op, sides.left, sides.right, met, unmet)?;
-            Ok(sides.last.slot)
+            let right = sides.right;
+            compare(
+                b,
+                alloc,
+                right.node,
+                op,
+                sides.left,
+                right.operand,
+                met,
+                unmet,
+            )?;
+            Ok(right.slot)
         }
     }
 }

@@ -41,7 +41,12 @@ pub fn in_slot(node: u32, own: u32, slot: u32) -> Landed
 }
 
 /// Copies a value in place to the next slot, where it is to be kept.
-pub fn kept_if(b: &mut Builder, alloc: Global, keep: bool, landed: Landed) -> Result<Landed, AllocError>
+pub fn kept_if(
+    b: &mut Builder,
+    alloc: Global,
+    keep: bool,
+    landed: Landed,
+) -> Result<Landed, AllocError>
     requires room { b.old.next + 1 < 2 ^ 32 }
     requires slots { landed.slot + 1 < 2 ^ 32 }
     ensures edges { OnOk result (b.new.edges.items ≡ b.old.edges.items ++ copied keep landed b.old.next) }
@@ -112,12 +117,11 @@ pub struct ArgumentSlot {
     pub last: Reached,
 }
 
-/// Both sides of an operation, and what is behind them.
+/// Both sides of an operation, the right one behind the left one.
 #[derive(Clone, Copy)]
 pub struct BothSides {
     pub left: Operand,
-    pub right: Operand,
-    pub last: Reached,
+    pub right: Landed,
 }
 
 /// The nodes at which a test becomes a value, and the one behind them.

@@ -1,7 +1,7 @@
 //! Operands, and what edges do with them.
 
 ghost use Rattle.std.specs.Prelude.{◌≡◌, IfOk, IsTrue};
-ghost use Rattle.flow_build.specs.Operands.{is_operand, slot_or_zero, constant_of, operand_sum};
+ghost use Rattle.flow_build.specs.Operands.{is_operand, is_constant_operand, slot_or_zero, constant_of, operand_sum};
 
 use c_tree::tree::Slot;
 use linear_formula::term::{Parts, Term};
@@ -15,6 +15,12 @@ pub enum Operand {
 }
 
 impl Operand {
+    pub fn is_constant(self) -> bool
+        ensures { result ≡ is_constant_operand self }
+    {
+        matches!(self, Operand::Constant(_))
+    }
+
     pub fn constant(self) -> i64
         ensures { result ≡ constant_of self }
     {
