@@ -2,7 +2,7 @@
 use Rattle.std.specs.Prelude.{◌≡◌, ℕ, ◌+◌, ◌<◌, ◌≤◌, List, [], ◌∷◌, ◌++◌, Bool, true, false, ◌&&◌, ◌||◌, not as not_bool, ◌==◌, if◌then◌else◌, Option, Some, None, slice_get, length, nat_lt, nat_le, count_by, IsTrue}
 use Rattle.c_tree.specs.declared.tree.AssertPlace.{AssertPlace}
 use Rattle.c_tree.specs.declared.tree.Op.{Op}
-use Rattle.c_tree.specs.declared.tree.Op.TheVariants.{Add, Subtract, Multiply, Less, LessEqual, Greater, GreaterEqual, Equal, Unequal, And, Or}
+use Rattle.c_tree.specs.declared.tree.Op.TheVariants.{Add, Subtract, Multiply}
 use Rattle.c_tree.specs.Syntax.{Expression, literal, read, input, call, negate, not as not_of, binary, Expressions, no_expressions, expression, Statement, block, set, ignore, assume, assert, if_else, loop, do_while, break, continue, return, Statements, no_statements, statement, PureProcedure, PureProgram}
 
 abbrev pub count : Expressions → ℕ

@@ -8,7 +8,7 @@ use Rattle.std.proofs.lemmas.Slice.Eq.{bytes_eq-Decides}
 use Rattle.c_tree.specs.declared.tree.Pos.{Pos}
 use Rattle.c_tree.specs.declared.tree.AssertPlace.{AssertPlace}
 use Rattle.c_tree.specs.Syntax.{PureProcedure}
-use Rattle.c_tree.specs.WellFormed.{IsWellFormed, takes, all_sound, asserted_in, is_sound_procedure, statements_nodes}
+use Rattle.c_tree.specs.WellFormed.{IsWellFormed, takes, all_sound, all_linear, asserted_in, is_sound_procedure, statements_nodes}
 use Rattle.c_tree.specs.SourceNodes.{statement_trees_nodes}
 use Rattle.c_tree.specs.SourceTree.{Identifier, ProcedureTree, FileItem}
 use Rattle.c_typing.specs.declared.fault.TypeFault.TheVariants.{Duplicate, MainShape}
@@ -20,6 +20,7 @@ use Rattle.c_typing.specs.Lowering.{lowered_statements, lowered_procedure, lower
 use Rattle.c_typing.specs.Answer.{DefinesMain}
 use Rattle.c_typing.proofs.Basics.{no_fault, nil_both, both, or_false, and_false, not_false, eqb-same, Below, below-names}
 use Rattle.c_typing.proofs.Sound.{CallsFit, numbered, statements-sound}
+use Rattle.c_typing.proofs.Linear.{statements-linear}
 use Rattle.c_typing.proofs.Numbers.{statements-numbers}
 use Rattle.c_typing.proofs.Nodes.{lowered_statements-nodes}
 
@@ -412,6 +413,10 @@ well_formed is e main small =
           let h = sound i x.tree x.there in
           subst (λ (r : PureProcedure). is_sound_procedure P r ≡ true) (sym x.made)
           (procedure-sound is main x.tree x.first h (let up = x.high in omega (arith, length-places 0 ps)) (small.small i x.tree x.there h.short));
+      products_linear = λ i p at_i.
+          let x = lowered-at ps 0 ps i p at_i in
+          let h = sound i x.tree x.there in
+          subst (λ (r : PureProcedure). all_linear r.body ≡ true) (sym x.made) (statements-linear ps x.tree.void false (parameter_scope x.tree) (length x.tree.params) x.first x.tree.body h.body);
       few_asserts = omega (arith, length-places 0 ps);
       asserts_placed = λ k a at_k.
           let w = placed-at 0 ps k a at_k in

@@ -3,6 +3,7 @@ pub mod Least
 pub mod Erased
 pub mod Basics
 pub mod Sound
+pub mod Linear
 pub mod Numbers
 pub mod Nodes
 pub mod Formed

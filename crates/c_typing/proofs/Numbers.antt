@@ -4,11 +4,11 @@ use Rattle.std.proofs.lemmas.List.{append-nil}
 use Rattle.c_tree.specs.declared.tree.Pos.{Pos}
 use Rattle.c_tree.specs.Syntax as program
 use Rattle.c_tree.specs.Syntax.{Expressions, Statement, Statements}
-use Rattle.c_tree.specs.WellFormed.{asserted_by, asserted_in}
+use Rattle.c_tree.specs.WellFormed.{is_product, asserted_by, asserted_in}
 use Rattle.c_tree.specs.SourceTree.{Identifier, SimpleStatement, set, change, add_one, subtract_one, call_statement, Declarator, ForInit, no_init, declaring, starting, StatementTree, block, empty, declare, simple, if_then, if_else, while_loop, do_while, for_loop, break, continue, return, StatementTrees, no_statements, statement, ProcedureTree}
 use Rattle.c_typing.specs.declared.fault.TypeFault.TheVariants.{NotLinear}
 use Rattle.c_typing.specs.Scope.{Scope, Callee, input, assume, assert, defined, unknown, callee_of, with_variable, declared_by, declared_by_init, asserts_of_all, asserts_by_simple, asserts_by_step, asserts_by_declarators, asserts_by_init, asserts_by, asserts_in}
-use Rattle.c_typing.specs.Faults.{fault_if, callee_faults, argument_count, name_faults, is_product, is_constant, expression_faults, arguments_faults, optional_faults, simple_faults, step_faults, init_faults, init_scopes as plain_scopes, scopes_after as plain_after, return_faults, statement_faults, statements_faults}
+use Rattle.c_typing.specs.Faults.{fault_if, callee_faults, argument_count, name_faults, is_constant, expression_faults, arguments_faults, optional_faults, simple_faults, step_faults, init_faults, init_scopes as plain_scopes, scopes_after as plain_after, return_faults, statement_faults, statements_faults}
 use Rattle.c_typing.specs.Lowering.{joined, called_statement, lowered_all, lowered_simple, lowered_step, lowered_declarators, init_scopes, with_init, scopes_after, spliced, lowered_statement, lowered_statements}
 use Rattle.c_typing.proofs.Basics.{nil_both, asserts_at, asserts_at-callee}
 use Rattle.c_typing.proofs.Erased.{erased, erased-with_names, step-same, statement-same, statements-same, after-same}

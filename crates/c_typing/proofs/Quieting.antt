@@ -1,9 +1,10 @@
 -- A tree without faults is quiet and leaves room.
 use Rattle.std.proofs.Common.{◌≡◌, ℕ, ◌+◌, ◌≤◌, zero, suc, Bool, true, false, ◌&&◌, not as not_bool, List, [], ◌∷◌, ◌++◌, length, slice_get, Option, Some, None, refl, arith, length-append}
+use Rattle.c_tree.specs.WellFormed.{is_product}
 use Rattle.c_tree.specs.SourceTree.{SimpleStatement, set, change, add_one, subtract_one, call_statement, ForInit, no_init, declaring, starting, StatementTree, block, empty, declare, simple, if_then, if_else, while_loop, do_while, for_loop, break, continue, return, StatementTrees, no_statements, statement, ProcedureTree}
 use Rattle.c_typing.specs.declared.fault.TypeFault.TheVariants.{NotLinear}
 use Rattle.c_typing.specs.Scope.{Scope, callee_of, asserts_in, asserts_in_file}
-use Rattle.c_typing.specs.Faults.{fault_if, callee_faults, argument_count, name_faults, is_product, is_constant, expression_faults, arguments_faults, optional_faults, simple_faults, step_faults, init_faults, init_scopes, scopes_after, return_faults, statement_faults, statements_faults}
+use Rattle.c_typing.specs.Faults.{fault_if, callee_faults, argument_count, name_faults, is_constant, expression_faults, arguments_faults, optional_faults, simple_faults, step_faults, init_faults, init_scopes, scopes_after, return_faults, statement_faults, statements_faults}
 use Rattle.c_typing.specs.LoweringSteps.{IsQuietSimple, IsQuietStep, IsQuietInit, IsQuiet, AreQuiet, ProceduresFit}
 use Rattle.c_typing.proofs.Basics.{nil_both}
 use Rattle.c_typing.proofs.Sound.{no_asserts, no_asserts_all, no_asserts_optional, no_asserts_declared}

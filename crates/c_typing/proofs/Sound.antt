@@ -4,11 +4,11 @@ use Rattle.std.proofs.lemmas.Bool.{lt-ltb}
 use Rattle.c_tree.specs.declared.tree.Pos.{Pos}
 use Rattle.c_tree.specs.Syntax as program
 use Rattle.c_tree.specs.Syntax.{Expression, Expressions, no_expressions, expression, Statement, Statements, PureProgram}
-use Rattle.c_tree.specs.WellFormed.{takes, count, is_sound, are_sound, returns_sound, runs_sound, all_sound}
+use Rattle.c_tree.specs.WellFormed.{is_product, takes, count, is_sound, are_sound, returns_sound, runs_sound, all_sound}
 use Rattle.c_tree.specs.SourceTree.{Identifier, ExpressionTree, literal, name, call, not, negate, plus, binary, ExpressionTrees, no_arguments, argument, SimpleStatement, set, change, add_one, subtract_one, call_statement, Declarator, ForInit, no_init, declaring, starting, StatementTree, block, empty, declare, simple, if_then, if_else, while_loop, do_while, for_loop, break, continue, return, StatementTrees, no_statements, statement, ProcedureTree}
 use Rattle.c_typing.specs.declared.fault.TypeFault.TheVariants.{UnknownName, WrongCount, VoidValue, NotLinear, MainShape, OutsideLoop}
 use Rattle.c_typing.specs.Scope.{Scope, slot_of, Callee, input, assume, assert, defined, unknown, callee_of, is_main, with_variable, names_of, declared_by, declared_in, declared_by_init, if_assert, asserts_of, asserts_of_all, asserts_of_optional, asserts_by_simple, asserts_by_step, asserts_by_declarators, asserts_by_init, asserts_by, asserts_in}
-use Rattle.c_typing.specs.Faults.{fault_if, callee_faults, argument_count, name_faults, is_product, is_constant, expression_faults, arguments_faults, optional_faults, simple_faults, step_faults, declared_faults, declarators_faults, init_faults, init_scopes as plain_scopes, scopes_after as plain_after, return_faults, statement_faults, statements_faults}
+use Rattle.c_typing.specs.Faults.{fault_if, callee_faults, argument_count, name_faults, is_constant, expression_faults, arguments_faults, optional_faults, simple_faults, step_faults, declared_faults, declarators_faults, init_faults, init_scopes as plain_scopes, scopes_after as plain_after, return_faults, statement_faults, statements_faults}
 use Rattle.c_typing.specs.Lowering.{slot, joined, lowered_call, first_of, called_statement, lowered, lowered_all, lowered_value, lowered_test, lowered_result, lowered_simple, lowered_step, lowered_declarators, init_scopes, with_init, scopes_after, spliced, lowered_statement, lowered_statements}
 use Rattle.c_typing.proofs.Basics.{no_fault, nil_both, both, not_false, false_not, eqb-same, Below, below-push, below-names, below-one, asserts_at, asserts_at-callee}
 use Rattle.c_typing.proofs.Erased.{erased, erased-with_names, erased-variable, optional-same, declarators-same, step-same, statement-same, statements-same, after-same}

@@ -1,8 +1,7 @@
 -- All faults of a tree. They stand in any order; the one that is told is the first by position.
 use Rattle.std.specs.Prelude.{ℕ, ◌+◌, ◌==◌, Bool, true, false, ◌&&◌, ◌||◌, not as not_bool, List, [], ◌∷◌, ◌++◌, length, Option, Some, None, is_some, is_none, slice_get}
 use Rattle.c_tree.specs.declared.tree.Pos.{Pos}
-use Rattle.c_tree.specs.declared.tree.Op.{Op}
-use Rattle.c_tree.specs.declared.tree.Op.TheVariants as op
+use Rattle.c_tree.specs.WellFormed.{is_arithmetic, is_product}
 use Rattle.c_tree.specs.SourceTree.{Identifier, ExpressionTree, literal, name, call, not, negate, plus, binary, ExpressionTrees, no_arguments, argument, SimpleStatement, set, change, add_one, subtract_one, call_statement, Declarator, ForInit, no_init, declaring, starting, StatementTree, block, empty, declare, simple, if_then, if_else, while_loop, do_while, for_loop, break, continue, return, StatementTrees, no_statements, statement, ProcedureTree, FileItem, prototype, procedure}
 use Rattle.c_typing.specs.declared.fault.TypeFault.{TypeFault}
 use Rattle.c_typing.specs.declared.fault.TypeFault.TheVariants.{UnknownName, Duplicate, WrongCount, VoidValue, NotLinear, MainShape, OutsideLoop, OverLimit}
@@ -21,12 +20,6 @@ fault_if false f p = []
 -- Expressions
 
 -- built of literals, unary `+` and `-`, and binary `+`, `-` and `*`
-abbrev pub is_arithmetic : Op → Bool
-is_arithmetic op.Add = true
-is_arithmetic op.Subtract = true
-is_arithmetic op.Multiply = true
-is_arithmetic _ = false
-
 abbrev pub is_constant : ExpressionTree → Bool
 is_constant (literal n) = true
 is_constant (negate e) = is_constant e
@@ -35,10 +28,6 @@ is_constant (binary o at a b) = is_arithmetic o && is_constant a && is_constant 
 is_constant (name n) = false
 is_constant (call n es) = false
 is_constant (not e) = false
-
-abbrev pub is_product : Op → Bool
-is_product op.Multiply = true
-is_product _ = false
 
 abbrev pub argument_count : ExpressionTrees → ℕ
 argument_count no_arguments = 0

@@ -14,7 +14,7 @@ both_of op = return (Some (binary op input input))
 
 abbrev pub operators_of : Statement
 operators_of =
-    block (statement (case_of (pos 3) (both_of Add)) (statement (case_of (pos 4) (both_of Subtract)) (statement (case_of (pos 5) (both_of Multiply)) (statement (case_of (pos 6) (return (Some (negate input)))) (statement (case_of (pos 7) (both_of And)) (statement (case_of (pos 8) (both_of Or)) no_statements))))))
+    block (statement (case_of (pos 3) (both_of Add)) (statement (case_of (pos 4) (both_of Subtract)) (statement (case_of (pos 5) (return (Some (binary Multiply input (literal (pos 4)))))) (statement (case_of (pos 6) (return (Some (negate input)))) (statement (case_of (pos 7) (both_of And)) (statement (case_of (pos 8) (both_of Or)) no_statements))))))
 
 -- for (y = 0; y < 4; y = y + 1) { if (y == 2) continue; x = 10 * x + y; }
 abbrev pub counting_of : Statement

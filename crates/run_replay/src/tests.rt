@@ -55,7 +55,8 @@ fn operators(alloc: Global) -> Result<Stmt, AllocError>
 {
     let add = case(alloc, 3, both(alloc, Op::Add)?)?;
     let subtract = case(alloc, 4, both(alloc, Op::Subtract)?)?;
-    let multiply = case(alloc, 5, both(alloc, Op::Multiply)?)?;
+    let scaled = operation(alloc, Op::Multiply, Expr::Input, Expr::Literal(4))?;
+    let multiply = case(alloc, 5, Stmt::Return(Some(scaled)))?;
     let negated = Expr::Negate(Box::new(alloc, Expr::Input)?);
     let negate = case(alloc, 6, Stmt::Return(Some(negated)))?;
     let and = case(alloc, 7, both(alloc, Op::And)?)?;
@@ -179,7 +180,7 @@ fn sample(alloc: Global) -> Result<Program, AllocError> {
 #[test]
 fn runs_the_sample(rt: HostRuntime) -> Result<(), Fail> {
     let program = sample(rt.alloc())?;
-    let rows: [(&[i64], u64, Outcome, usize); 22] = [
+    let rows: [(&[i64], u64, Outcome, usize); 23] = [
         (&[0, 5], 8, Outcome::Returned(5), 2),
         (&[0, 5], 7, Outcome::Fuel, 1),
         (&[0], 8, Outcome::Starved, 1),
@@ -191,7 +192,8 @@ fn runs_the_sample(rt: HostRuntime) -> Result<(), Fail> {
         (&[3, i64::MAX, 1], 1000, Outcome::Stopped, 3),
         (&[4, i64::MIN, 1], 1000, Outcome::Stopped, 3),
         (&[4, 1, 3], 1000, Outcome::Returned(-2), 3),
-        (&[5, 1 << 62, 2], 1000, Outcome::Stopped, 3),
+        (&[5, 1 << 61], 1000, Outcome::Stopped, 2),
+        (&[5, -(1 << 61)], 1000, Outcome::Returned(i64::MIN), 2),
         (&[6, i64::MIN], 1000, Outcome::Stopped, 2),
         (&[7, 0, 9], 1000, Outcome::Returned(0), 2),
         (&[7, 2, 3], 1000, Outcome::Returned(1), 3),
