@@ -8,3 +8,4 @@ pub mod Outcomes
 pub mod Promises
 pub mod Building
 pub mod Additions
+pub mod StatementAdditions

@@ -2,10 +2,12 @@
 #![tactic(auto)]
 
 mod branch;
+pub mod build;
 mod builder;
 mod constant;
 mod expression;
 mod landing;
 mod linear;
 pub mod operand;
+mod statement;
 pub mod target;
