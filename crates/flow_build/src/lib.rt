@@ -2,7 +2,6 @@
 #![tactic(auto)]
 
 mod branch;
-pub mod build;
 mod builder;
 mod constant;
 mod expression;
