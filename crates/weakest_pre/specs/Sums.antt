@@ -5,7 +5,7 @@ use Rattle.linear_formula.specs.Results.{combination}
 use Rattle.linear_formula.specs.Replaced.{summands_of}
 use Rattle.linear_formula.specs.declared.formula.Atom.{Atom}
 use Rattle.linear_formula.specs.declared.question.Question.{Question}
-use Rattle.linear_formula.specs.declared.question.Question.TheVariants as question
+use Rattle.linear_formula.specs.declared.question.Question.TheVariants as asks
 use Rattle.infeasible_cert.specs.Right.{rows_of}
 use Rattle.shadow_elim.specs.Elimination.{Remainder}
 use Rattle.shadow_elim.specs.RightLimit.{IsRight}
@@ -15,8 +15,8 @@ use Rattle.weakest_pre.specs.Refusals.{ComesTo}
 
 -- this sum is too wide
 pub record IsWideSum (summands : List (ℤ × LinearSum)) (constant : ℤ) (kept : Kept) : Type 0 where
-  pub question : kept.question ≡ question.Combine summands constant
-  pub limit : kept.limit ≡ Wide (question.Combine summands constant)
+  pub question : kept.question ≡ asks.Combine summands constant
+  pub limit : kept.limit ≡ Wide (asks.Combine summands constant)
   pub wide : ¬ IsTrue (is_within (combination summands constant))
 
 -- one of the rows is too wide with sums in the places of its columns
@@ -26,7 +26,7 @@ pub record IsWideRow (by : ℕ → LinearSum) (target : List Atom) (kept : Kept)
   pub sum : IsWideSum (summands_of by row) (pos 0) kept
 
 -- the limit of one of these questions, with which nothing remains
-pub record Refuses (asked : Question → Type 0) (remainder : Remainder) (kept : Kept) : Type 0 where
+pub record Refuses (Asks : Question → Type 0) (remainder : Remainder) (kept : Kept) : Type 0 where
   pub right : IsRight kept
-  pub asked : asked kept.question
+  pub asked : Asks kept.question
   pub cause : ComesTo remainder kept.limit
