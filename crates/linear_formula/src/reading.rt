@@ -1,7 +1,7 @@
 //! Terms in the places of columns, all at once.
 
-ghost use Rattle.std.specs.Prelude.{◌≡◌, ℕ, IfOk};
-ghost use Rattle.linear_formula.specs.LinearSum.{LinearSum};
+ghost use Rattle.std.specs.Prelude.{◌≡◌, ℕ, IfOk, IsTrue};
+ghost use Rattle.linear_formula.specs.LinearSum.{LinearSum, is_term};
 ghost use Rattle.linear_formula.specs.Replaced.{column_sum, summands_of};
 
 use crate::error::OutOfMemory;
@@ -19,7 +19,8 @@ pub trait Reading {
 
 /// The column alone.
 pub fn column_term(alloc: Global, column: u32) -> Result<Term, OutOfMemory>
-    ensures { IfOk result (λ t. t ≡ column_sum column) }
+    ensures value { IfOk result (λ t. t ≡ column_sum column) }
+    ensures kept { IfOk result (λ t. IsTrue (is_term t)) }
 {
     let parts = vec![in alloc; (column, 1)]?;
     Ok(Term::new(Parts::from_vec(parts), 0))

@@ -6,7 +6,7 @@ ghost use Rattle.linear_formula.specs.LinearSum.{is_within, is_term};
 ghost use Rattle.linear_formula.specs.Results.{combination};
 ghost use Rattle.linear_formula.specs.Replaced.{column_sum};
 ghost use Rattle.infeasible_cert.specs.Right.{rows_of};
-ghost use Rattle.weakest_pre.specs.Preimage.{read_rows, value_sum};
+ghost use Rattle.weakest_pre.specs.Preimage.{read_rows, value_sum, upper_row};
 ghost use Rattle.weakest_pre.specs.Refusals.{IfLimit};
 ghost use Rattle.weakest_pre.specs.Sums.{IsWideSum, IsWideRow};
 
@@ -68,7 +68,8 @@ pub fn read_rows<R: Reading>(
 
 /// A multiple of each slot.
 fn multiples(alloc: Global, value: &Lin) -> Result<Summands, OutOfMemory>
-    ensures { IfOk result (λ s. s ≡ map (λ p. (p.0, column_sum p.1)) value.now.parts) }
+    ensures value { IfOk result (λ s. s ≡ map (λ p. (p.0, column_sum p.1)) value.now.parts) }
+    ensures terms { IfOk result (λ s. IsTrue (list_all (λ p. is_term p.1) s)) }
 {
     let mut items = Vec::with_capacity(alloc, value.parts.as_slice().len())?;
     for (coefficient, slot) in value.parts.as_slice() {
@@ -83,6 +84,7 @@ pub fn value_term(alloc: Global, value: &Lin) -> Result<Term, PreError>
     ensures kept { IfOk result (λ t. IsTrue (is_term t)) }
     ensures limit { IfErr result (λ e. IfLimit e
         (IsWideSum (map (λ p. (p.0, column_sum p.1)) value.now.parts) value.now.constant)) }
+    ensures range { IfErr result (λ e. IfLimit e (λ _. ¬ IsTrue (is_within (upper_row (value_sum value.now))))) }
 {
     let summands = multiples(alloc, value)?;
     sum(alloc, summands, value.constant)
