@@ -1,15 +1,15 @@
 -- Rows at valuations that agree where the rows look, and values in their range.
-use Rattle.std.proofs.Common.{◌≡◌, ℕ, zero, suc, ◌<◌, ◌≤◌, ◌+◌, ◌^◌, Bool, true, false, List, [], ◌∷◌, ◌++◌, map, ℤ, pos, negsuc, ◌+ℤ◌, ◌*ℤ◌, ◌==◌, nat_lt, not, ◌&&◌, arith, refl, ◌∙◌, ap, sym, subst}
+use Rattle.std.proofs.Common.{◌≡◌, ℕ, ◌+◌, ◌^◌, Bool, true, false, List, [], ◌∷◌, ◌++◌, ℤ, pos, negsuc, ◌+ℤ◌, ◌*ℤ◌, ◌==◌, not, ◌&&◌, arith, refl, ◌∙◌, ap, sym, subst}
 use Rattle.std.specs.Prelude.{IsTrue, ◌≤ℤ◌, int_le, if◌then◌else◌, All}
 use Rattle.std.specs.List.{list_all}
 use Rattle.std.proofs.lemmas.Int.{ints}
 use Rattle.std.proofs.lemmas.List.Elements.{All-head, All-tail}
-use borrow.Author.Tests.{ltb-true, lt-ltb, eqb-true}
+use borrow.Author.Tests.{lt-ltb}
 use Rattle.c_tree.specs.Meaning.{is_value}
-use Rattle.linear_formula.specs.LinearSum.{LinearSum, Valuation, value_of, value_of_parts, is64, listed_at, coefficient, is_term, is_within}
+use Rattle.linear_formula.specs.LinearSum.{LinearSum, Valuation, value_of_parts, is64, listed_at, coefficient, is_term, is_within}
 use Rattle.linear_formula.specs.Order.{InOrder}
 use Rattle.linear_formula.specs.Formula.{HoldsAll, are_terms}
-use Rattle.linear_formula.specs.Replaced.{replaced, replaced_valuation}
+use Rattle.linear_formula.specs.Replaced.{replaced_valuation}
 use Rattle.linear_formula.specs.declared.formula.Atom.{Atom}
 use Rattle.linear_formula.proofs.Limits.{both, both_in, IsTerm-from_test}
 use Rattle.linear_formula.proofs.Replacing.{value-replaced}

@@ -1,6 +1,6 @@
 -- The states before an edge, and those that go over it into a target.
-use Rattle.std.proofs.Common.{◌≡◌, ◌⊎◌, inl, inr, Result, Ok, Err, ℕ, ◌<◌, ◌≤◌, Bool, true, false, List, [], ◌∷◌, ◌++◌, length, zero, suc, cond, ◌-◌, ◌==◌, ℤ, pos, negsuc, ◌+ℤ◌, ◌*ℤ◌, nat_lt, ◌&&◌, arith, refl, ◌∙◌, ap, sym, subst}
-use Rattle.std.specs.Prelude.{IsTrue, IfOk, ◌≤ℤ◌, slice_index_or, if◌then◌else◌}
+use Rattle.std.proofs.Common.{◌≡◌, ◌⊎◌, inl, inr, Result, Ok, Err, ℕ, ◌<◌, Bool, true, false, List, [], ◌∷◌, ◌++◌, zero, suc, cond, ◌-◌, ◌==◌, ℤ, pos, negsuc, ◌+ℤ◌, ◌*ℤ◌, nat_lt, arith, refl, ◌∙◌, sym, subst}
+use Rattle.std.specs.Prelude.{IsTrue, IfOk, slice_index_or, if◌then◌else◌}
 use Rattle.std.specs.List.{list_all}
 use Rattle.std.proofs.lemmas.Int.{ints}
 use Rattle.c_tree.specs.Meaning.{State, with_slot, entered, is_value}
@@ -13,19 +13,18 @@ use Rattle.linear_formula.proofs.Limits.{both}
 use Rattle.linear_formula.proofs.Values.{value-combination}
 use Rattle.infeasible_cert.specs.Right.{rows_of}
 use Rattle.infeasible_cert.proofs.Meeting.{AllMet, met-append}
-use Rattle.shadow_elim.proofs.Keeping.{holds-met, met-holds, remains-same}
 use Rattle.shadow_elim.specs.Elimination.{remains}
 use Rattle.shadow_elim.specs.Shadows.{KeepsAll, NamesNone, LosesNone}
 use Rattle.flow_graph.specs.declared.graph.Lin.{Lin}
 use Rattle.flow_graph.specs.declared.graph.Edge.{Edge}
 use Rattle.flow_graph.specs.declared.graph.Edge.TheVariants.{Entry, Assign, Guard, Input, Pick, Assert, Return}
-use Rattle.flow_graph.specs.Runs.{Place, inside, left, failing, lin_value}
-use Rattle.flow_graph.specs.WellFormed.{is_lin, max_slots, names_slots}
-use Rattle.flow_graph.specs.Columns.{first_entry, first_exit, first_symbol, columns_of, valuation_of, is_slot_column, is_value_column, rows_name_only, AreValues, AreAllValues, value_at}
+use Rattle.flow_graph.specs.Runs.{inside, left, failing, lin_value}
+use Rattle.flow_graph.specs.WellFormed.{max_slots, names_slots}
+use Rattle.flow_graph.specs.Columns.{first_entry, first_exit, first_symbol, columns_of, valuation_of, is_slot_column, is_value_column, AreValues, AreAllValues, value_at}
 use Rattle.weakest_pre.specs.Preimage.{entry_reading, one_reading, value_sum, upper_row, lower_row, measured, read_rows, assigned_rows}
 use Rattle.weakest_pre.specs.Predecessors.{Fits, Lies, HoldsPredecessors, HoldsNoOther}
-use Rattle.weakest_pre.proofs.Agreeing.{Agree, value-bounds, bounds-value, value-is64, is64-value, holds-agree, agree-back, holds-same, holds-append, holds-split, met-split, read-met, met-read, measured-same, rows-hold, rows-met, rows-absent, other}
-use Rattle.weakest_pre.proofs.Places.{slots-agree, entry-reads, one-reads, behind-slot, behind-agrees, changed, value-assigned, return-reads}
+use Rattle.weakest_pre.proofs.Agreeing.{value-bounds, bounds-value, value-is64, is64-value, holds-agree, agree-back, holds-same, holds-append, holds-split, met-split, read-met, met-read, measured-same, rows-hold, rows-met, rows-absent, other}
+use Rattle.weakest_pre.proofs.Places.{slots-agree, entry-reads, one-reads, behind-agrees, changed, value-assigned, return-reads}
 
 pub ok-from_three : {A E : Type 0} (P Q R S : A → Type 0) (r : Result A E) → ((x : A) → P x → Q x → R x → S x) → IfOk r P → IfOk r Q → IfOk r R → IfOk r S
 ok-from_three P Q R S (Ok x) f p q t = f x p q t

@@ -1,19 +1,19 @@
 -- The columns before an edge, read at the sums in the places of those behind it.
-use Rattle.std.proofs.Common.{◌≡◌, ◌⊎◌, inl, inr, cond, ℕ, zero, suc, ◌<◌, ◌≤◌, ◌+◌, ◌-◌, Bool, true, false, List, [], ◌∷◌, length, get_or, ℤ, pos, ◌+ℤ◌, ◌*ℤ◌, ◌==◌, nat_lt, nat_le, ◌&&◌, ◌||◌, not, arith, refl, ◌∙◌, ap, sym, subst}
+use Rattle.std.proofs.Common.{◌≡◌, ◌⊎◌, inl, inr, cond, ℕ, ◌<◌, ◌≤◌, ◌+◌, ◌-◌, Bool, true, false, List, [], ◌∷◌, length, ℤ, pos, ◌+ℤ◌, ◌*ℤ◌, ◌==◌, nat_lt, nat_le, ◌||◌, arith, refl, ◌∙◌, ap, sym}
 use Rattle.std.specs.Prelude.{IsTrue, if◌then◌else◌}
 use Rattle.std.specs.List.{list_all}
 use Rattle.std.proofs.lemmas.Int.{ints}
 use Rattle.std.proofs.lemmas.List.{get_or_past}
 use borrow.Author.Tests.{ltb-true, ltb-false, lt-ltb, le-ltb, eqb-true, eqb_apart, eq-eqb, ne_eqb, not-true, leb-true}
-use Rattle.c_tree.specs.Meaning.{State, with_slot, entered, is_value}
+use Rattle.c_tree.specs.Meaning.{State, with_slot, entered}
 use Rattle.linear_formula.specs.LinearSum.{LinearSum, Valuation, value_of}
-use Rattle.linear_formula.specs.Results.{combination, combination_value, constant_sum}
+use Rattle.linear_formula.specs.Results.{combination_value, constant_sum}
 use Rattle.linear_formula.specs.Replaced.{column_sum, replaced_valuation}
 use Rattle.linear_formula.proofs.Limits.{both}
 use Rattle.linear_formula.proofs.Replacing.{value-column}
 use Rattle.linear_formula.proofs.Values.{value-combination}
 use Rattle.flow_graph.specs.declared.graph.Lin.{Lin}
-use Rattle.flow_graph.specs.Columns.{first_entry, first_exit, first_symbol, value_at, columns_of, no_slots, valuation_of, is_among, is_value_column, is_slot_column, AreValues, AreAllValues}
+use Rattle.flow_graph.specs.Columns.{first_entry, first_exit, first_symbol, value_at, columns_of, no_slots, valuation_of, is_among, is_value_column, is_slot_column}
 use Rattle.flow_graph.specs.Runs.{value_of_parts, lin_value}
 use Rattle.weakest_pre.specs.Preimage.{entry_reading, one_reading, value_sum}
 use Rattle.weakest_pre.proofs.Agreeing.{Agree, other}

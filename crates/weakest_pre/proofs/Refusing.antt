@@ -1,6 +1,6 @@
 -- Refusals: sums that are too wide, and what follows from them.
-use Rattle.std.proofs.Common.{◌≡◌, inl, inr, ℕ, zero, suc, ◌<◌, ◌≤◌, ◌^◌, Bool, true, false, List, [], ◌∷◌, ◌++◌, length, map, ℤ, pos, negsuc, ◌+ℤ◌, ◌*ℤ◌, Result, Ok, Err, FitsSigned, arith, refl, ◌∙◌, ap, sym, subst}
-use Rattle.std.specs.Prelude.{IsTrue, IfErr, IsErrAnd, Contains, slice_index_or, unsigned_abs, ◌&&◌, if◌then◌else◌}
+use Rattle.std.proofs.Common.{◌≡◌, inl, inr, ℕ, zero, suc, ◌<◌, ◌≤◌, Bool, true, false, List, [], ◌∷◌, length, map, ℤ, pos, negsuc, Result, Ok, Err, FitsSigned, arith, refl, ◌∙◌, ap, sym, subst}
+use Rattle.std.specs.Prelude.{IsTrue, IfErr, IsErrAnd, Contains, slice_index_or}
 use Rattle.std.specs.Int.{w64}
 use Rattle.std.specs.List.{list_all}
 use Rattle.std.proofs.lemmas.Int.{ints}
@@ -8,10 +8,9 @@ use Rattle.std.proofs.lemmas.Result.{err_from_is_err_and}
 use Rattle.std.proofs.lemmas.List.Elements.{Contains-append_left, Contains-append_right}
 use Rattle.linear_formula.specs.LinearSum.{LinearSum, is_within, is_term}
 use Rattle.linear_formula.specs.Order.{InOrder, AllWithin}
-use Rattle.linear_formula.specs.Results.{combination, constant_sum}
+use Rattle.linear_formula.specs.Results.{combination}
 use Rattle.linear_formula.specs.Replaced.{column_sum, summands_of, replaced}
 use Rattle.linear_formula.specs.declared.formula.Atom.{Atom}
-use Rattle.linear_formula.specs.declared.question.Question.TheVariants as question
 use Rattle.linear_formula.proofs.Laws.{AllInOrder, InOrder-combination}
 use Rattle.linear_formula.proofs.Limits.{both, Within, Within-from_test, test-from_Within, IsTerm-from_test}
 use Rattle.linear_formula.proofs.Order.{plus_parts-once}
@@ -19,7 +18,6 @@ use Rattle.linear_formula.proofs.Ring.{mul-zero}
 use Rattle.infeasible_cert.specs.Right.{rows_of}
 use Rattle.shadow_elim.specs.Elimination.{Remainder, wide}
 use Rattle.shadow_elim.specs.RightLimit.{IsRight, IsMet}
-use Rattle.shadow_elim.specs.declared.limit.Limit.TheVariants.{Wide}
 use Rattle.shadow_elim.specs.declared.limit.Kept.{Kept}
 use Rattle.flow_graph.specs.declared.graph.Lin.{Lin}
 use Rattle.weakest_pre.specs.declared.error.PreError.{PreError}

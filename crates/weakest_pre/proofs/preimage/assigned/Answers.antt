@@ -1,4 +1,4 @@
-use Rattle.std.proofs.Common.{ℕ, ℤ, List, ◌∷◌, [], pos, negsuc, subst, ◌≡◌, ◌∙◌, ap}
+use Rattle.std.proofs.Common.{ℕ, List, ◌∷◌, [], pos, negsuc, subst, ◌≡◌}
 use Rattle.std.specs.Prelude.{IsTrue}
 use Rattle.linear_formula.specs.LinearSum.{LinearSum, is_within}
 use Rattle.linear_formula.specs.declared.formula.Atom.{Atom}

@@ -1,14 +1,12 @@
-use Rattle.std.proofs.Common.{ℤ, List, ◌∷◌, [], ◌≡◌, sym, subst}
+use Rattle.std.proofs.Common.{◌∷◌, [], ◌≡◌, sym, subst}
 use Rattle.std.specs.Prelude.{None, IsTrue, IfOk}
 use Rattle.std.proofs.lemmas.Result.{IfOk-weaker}
 use Rattle.linear_formula.specs.Formula.{are_terms}
 use Rattle.linear_formula.specs.LinearSum.{LinearSum}
 use Rattle.linear_formula.specs.Replaced.{column_sum}
-use Rattle.linear_formula.specs.declared.formula.Atom.{Atom}
 use Rattle.infeasible_cert.specs.Right.{rows_of}
 use Rattle.shadow_elim.specs.Elimination.{remains}
 use Rattle.shadow_elim.specs.Shadows.{KeepsAll, NamesNone, LosesNone}
-use Rattle.shadow_elim.specs.declared.shadow.Pre.{Pre}
 use Rattle.flow_graph.specs.Columns.{first_exit}
 use Rattle.weakest_pre.specs.Preimage.{entry_reading, one_reading, value_sum, measured, read_rows, assigned_rows}
 use Rattle.weakest_pre.specs.Predecessors.{HoldsPredecessors, HoldsNoOther}
