@@ -61,7 +61,7 @@ fn assigned(alloc: Global, slot: u32, value: &Lin, target: &Cube) -> Result<Pre,
     let by = value_term(alloc, value)?;
     let reading = OneColumn { column: slot, by };
     let mut atoms = read_rows(alloc, &reading, target.atoms.as_slice())?;
-    atoms.push(row(alloc, 1, &reading.by, -9_223_372_036_854_775_807)?)?;
+    atoms.push(row(alloc, 1, &reading.by, -i64::MAX)?)?;
     atoms.push(row(alloc, -1, &reading.by, i64::MIN)?)?;
     Ok(exact(atoms))
 }
