@@ -21,7 +21,7 @@ use Rattle.flow_build.specs.Lowering.{operand_at, argument_slot, argument_slots,
 use Rattle.flow_build.specs.Building.{is_in_place, copied, copied_where, copied_node, copied_nodes, copied_operand, one_if, node_where, operand_where}
 use Rattle.flow_build.specs.Additions.{argument_of, AddsBlocks, Adds, AddsAll, AddsSlot, AddsBoth, AddsTest}
 
-append_nil : (xs : List Edge) → xs ++ [] ≡ xs
+pub append_nil : (xs : List Edge) → xs ++ [] ≡ xs
 append_nil [] = refl
 append_nil (x ∷ xs) = ap (λ l. x ∷ l) (append_nil xs)
 

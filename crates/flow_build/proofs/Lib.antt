@@ -18,6 +18,7 @@ pub mod Linking
 pub mod SmallRows
 pub mod Adding
 pub mod Answering
+pub mod AddingStatements
 pub mod Measures
 pub mod Good
 pub mod Coming
