@@ -2,6 +2,7 @@
 #![tactic(auto)]
 
 mod branch;
+pub mod build;
 mod builder;
 mod constant;
 mod expression;
