@@ -1,5 +1,5 @@
 -- What is added for statements, piece by piece.
-use Rattle.std.proofs.Common.{◌≡◌, ℕ, suc, ◌+◌, ◌*◌, ◌≤◌, ◌<◌, List, [], ◌∷◌, ◌++◌, length, drop, get_or, Bool, true, false, not, max, eqb, ◌==◌, ◌-◌, ◌⊎◌, inl, inr, IsTrue, ◌&&◌, refl, sym, ap, ◌∙◌, subst, append_assoc, add_assoc, arith}
+use Rattle.std.proofs.Common.{◌≡◌, ℕ, suc, ◌+◌, ◌*◌, ◌≤◌, ◌<◌, List, [], ◌∷◌, ◌++◌, length, drop, get_or, Bool, true, false, not, max, eqb, ◌==◌, ◌-◌, ◌⊎◌, inl, inr, IsTrue, ◌&&◌, refl, sym, ap, ◌∙◌, subst, append_assoc, arith}
 use Rattle.std.proofs.Math.Nat.{add-max-add_right, add_comm, max-eq_left, max-eq_right, max-le, le-max_left, le_trans}
 use Rattle.std.proofs.Math.ListN.{drop_of_length-le}
 use Rattle.std.proofs.Math.Seq.{drop-cons}
@@ -11,19 +11,18 @@ use Rattle.c_tree.specs.View.{statement_of, statements_of}
 use Rattle.c_tree.specs.Syntax.{Expression, Statement, block, set, ignore, assume, assert, if_else, loop, do_while, break, continue, return, Statements, no_statements, statement}
 use Rattle.c_tree.specs.WellFormed.{statement_nodes, statements_nodes}
 use Rattle.flow_graph.specs.declared.graph.Edge.{Edge}
-use Rattle.flow_graph.specs.declared.graph.Edge.TheVariants.{Assign, Guard}
 use Rattle.flow_build.specs.declared.builder.Builder.{Builder}
 use Rattle.flow_build.specs.declared.landing.Landed.{Landed}
 use Rattle.flow_build.specs.declared.statement.Frame.{Frame}
 use Rattle.flow_build.specs.declared.statement.Exits.{Exits}
-use Rattle.flow_build.specs.declared.target.Target.TheVariants.{Node, Fails, Nowhere}
+use Rattle.flow_build.specs.declared.target.Target.TheVariants.{Node}
 use Rattle.flow_build.specs.Translation.{value_of, test_of}
 use Rattle.flow_build.specs.Operands.{slot_or_zero}
-use Rattle.flow_build.specs.Blocks.{Block, edges_of, one}
+use Rattle.flow_build.specs.Blocks.{edges_of, one}
 use Rattle.flow_build.specs.Lowering.{argument_slot, result_of, return_edge, landing, between, nodes_between, nodes_of_statement, nodes_of_statements, slots_of_statement, slots_of_statements, statement_blocks, statements_blocks}
 use Rattle.flow_build.specs.Building.{node_where, one_if, statement_literals_fit, statements_literals_fit}
-use Rattle.flow_build.specs.Additions.{TakesFew, AddsBlocks, Adds, AddsTest}
-use Rattle.flow_build.specs.StatementAdditions.{AddsSet, AddsResult, AddsStatement}
+use Rattle.flow_build.specs.Additions.{TakesFew, Adds, AddsTest}
+use Rattle.flow_build.specs.StatementAdditions.{AddsResult, AddsStatement}
 use Rattle.flow_build.proofs.Adding.{edges_of-append, append_nil, argument_operand}
 
 max_three : (a b c : ℕ) → max a (max b c) ≡ max (max a b) c

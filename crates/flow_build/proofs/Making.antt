@@ -1,13 +1,12 @@
 -- The graph of a procedure is made of its edges.
-use Rattle.std.proofs.Common.{◌≡◌, ℕ, ◌+◌, ◌∷◌, [], ◌++◌, List, max, pos, refl, sym, ap, ◌∙◌, subst, arith}
-use Rattle.c_tree.specs.Syntax.{block, PureProcedure, PureProgram}
-use Rattle.c_tree.specs.WellFormed.{is_sound_procedure, all_linear}
+use Rattle.std.proofs.Common.{◌≡◌, ℕ, ◌+◌, ◌∷◌, [], ◌++◌, List, max, pos, sym, ap, ◌∙◌, subst}
+use Rattle.c_tree.specs.Syntax.{block, PureProcedure}
 use Rattle.flow_graph.specs.WellFormed.{IsGraph}
 use Rattle.flow_graph.specs.declared.graph.Edge.{Edge}
 use Rattle.flow_graph.specs.declared.graph.Edge.TheVariants.{Entry, Assign, Guard, Return}
 use Rattle.flow_build.specs.declared.builder.Builder.{Builder}
 use Rattle.flow_build.specs.Operands.{constant_lin}
-use Rattle.flow_build.specs.Blocks.{edges_of, end_node, body_node}
+use Rattle.flow_build.specs.Blocks.{edges_of}
 use Rattle.flow_build.specs.Lowering.{statement_blocks, slots_of_statements}
 use Rattle.flow_build.specs.Procedures.{nodes_of_procedure, slots_of_procedure, procedure_edges}
 use Rattle.flow_build.specs.StatementAdditions.{AddsStatement}

@@ -1,8 +1,8 @@
 -- The bodies of a program are plain.
-use Rattle.std.proofs.Common.{◌≡◌, ℕ, suc, ◌+◌, ◌<◌, ◌≤◌, nat_lt, nat_le, List, [], ◌∷◌, map, take, Bool, true, false, ◌&&◌, ◌||◌, not as not_bool, ◌==◌, Option, None, Some, IsTrue, refl, sym, ap, ◌∙◌, subst, max, arith}
+use Rattle.std.proofs.Common.{◌≡◌, ℕ, ◌+◌, ◌≤◌, nat_lt, nat_le, Bool, true, false, ◌&&◌, ◌||◌, not as not_bool, ◌==◌, Option, None, Some, IsTrue, refl, ap, ◌∙◌, max}
 use Rattle.std.specs.Prelude.{slice_get}
 use Rattle.std.proofs.lemmas.Bool.{ltb-true, leb-true}
-use Rattle.std.proofs.Math.Nat.{add-max-add_right, add_comm, max_comm}
+use Rattle.std.proofs.Math.Nat.{max_comm}
 use Rattle.c_tree.specs.declared.tree.Op.{Op}
 use Rattle.c_tree.specs.declared.tree.Op.TheVariants.{Add, Subtract, Multiply, Less, LessEqual, Greater, GreaterEqual, Equal, Unequal, And, Or}
 use Rattle.c_tree.specs.Syntax.{Expression, literal, read, input, call, negate, not as not_of, binary, Expressions, no_expressions, expression, Statement, block, set, ignore, assume, assert, if_else, loop, do_while, break, continue, return, Statements, no_statements, statement, PureProcedure, PureProgram}

@@ -1,19 +1,16 @@
 -- The graphs of a program's procedures, one after another.
-use Rattle.std.proofs.Common.{◌≡◌, ℕ, zero, suc, ◌+◌, ◌<◌, ◌≤◌, List, [], ◌∷◌, ◌++◌, length, take, map, get_or, Option, None, Some, IsTrue, refl, sym, ap, ◌∙◌, subst, arith}
+use Rattle.std.proofs.Common.{◌≡◌, ℕ, zero, suc, ◌+◌, ◌<◌, ◌≤◌, List, [], ◌∷◌, ◌++◌, length, take, map, get_or, Some, IsTrue, refl, sym, ap, ◌∙◌, subst, arith}
 use Rattle.std.specs.Prelude.{slice_get}
 use Rattle.std.proofs.Math.Seq.{take-suc}
 use Rattle.c_tree.specs.declared.tree.Procedure.{Procedure}
-use Rattle.c_tree.specs.declared.tree.AssertPlace.{AssertPlace}
-use Rattle.c_tree.specs.View.{procedure_of, program_from}
+use Rattle.c_tree.specs.View.{procedure_of}
 use Rattle.c_tree.specs.Syntax.{PureProcedure, PureProgram}
-use Rattle.c_tree.specs.WellFormed.{IsWellFormed, is_sound_procedure, all_linear}
-use Rattle.c_tree.specs.Meaning.{Outcome, Runs}
+use Rattle.c_tree.specs.WellFormed.{IsWellFormed}
 use Rattle.flow_graph.specs.declared.graph.Graph.{Graph}
 use Rattle.flow_graph.specs.Linked.{AreGraphs}
 use Rattle.flow_build.specs.Building.{statements_literals_fit}
 use Rattle.flow_build.specs.Procedures.{IsGraphOf, AreGraphsOf}
 use Rattle.flow_build.specs.Promises.{SameRuns, AreBounded}
-use Rattle.flow_build.proofs.Slots.{IsArguments}
 use Rattle.flow_build.proofs.Translated.{AllPlain}
 use Rattle.flow_build.proofs.Placed.{procedure_at}
 use Rattle.flow_build.proofs.ForwardRuns.{run_of_graph}

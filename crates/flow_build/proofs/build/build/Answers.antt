@@ -1,4 +1,4 @@
-use Rattle.std.proofs.Common.{◌≡◌, ℕ, List, Some, IsTrue, ◌<◌, ◌≤◌, length, map, take, get_or, sym, subst, arith}
+use Rattle.std.proofs.Common.{◌≡◌, ℕ, List, Some, ◌<◌, ◌≤◌, length, map, take, get_or, sym, subst}
 use Rattle.std.specs.Prelude.{slice_get}
 use Rattle.c_tree.specs.declared.tree.Procedure.{Procedure}
 use Rattle.c_tree.specs.declared.tree.Program.{Program}

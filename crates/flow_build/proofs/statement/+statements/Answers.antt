@@ -1,15 +1,13 @@
-use Rattle.std.proofs.Common.{◌≡◌, ℕ, ◌+◌, ◌*◌, ◌<◌, ◌++◌, ◌∷◌, [], List, max, IfOk, OnOk, IsTrue, refl, sym, ap, ◌∙◌, subst, append_assoc, arith}
+use Rattle.std.proofs.Common.{◌≡◌, ℕ, ◌+◌, [], max, IfOk, OnOk, IsTrue, sym, ap, ◌∙◌, subst, arith}
 use Rattle.c_tree.proofs.Rows.{block_of}
 use Rattle.c_tree.specs.Syntax.{Statement, block, ignore, if_else, loop, do_while}
 use Rattle.c_tree.specs.View.{expression_of, statement_of, statements_of}
 use Rattle.c_tree.specs.WellFormed.{statement_nodes, statements_nodes}
 use Rattle.flow_graph.specs.declared.graph.Edge.{Edge}
 use Rattle.flow_graph.specs.declared.graph.Edge.TheVariants.{Guard}
-use Rattle.flow_build.specs.declared.builder.Builder.{Builder}
-use Rattle.flow_build.specs.declared.statement.Exits.{Exits}
 use Rattle.flow_build.specs.Translation.{value_of}
 use Rattle.flow_build.specs.Building.{statement_literals_fit}
-use Rattle.flow_build.specs.Additions.{HasRoom, TakesFew, AddsTest}
+use Rattle.flow_build.specs.Additions.{TakesFew}
 use Rattle.flow_build.specs.StatementAdditions.{AddsStatement}
 use Rattle.flow_build.proofs.AddingStatements.{choice_added, repetition_added, tested_repetition_added, value_then, block_turns, block_ends}
 use Rattle.flow_build.proofs.statement.+statements.Goals as goal
