@@ -1,9 +1,9 @@
 -- What is added for expressions, piece by piece.
-use Rattle.std.proofs.Common.{◌≡◌, ℕ, ◌+◌, ◌*◌, ◌≤◌, List, [], ◌∷◌, ◌++◌, Bool, true, false, not, ◌&&◌, ◌||◌, ℤ, pos, negsuc, refl, sym, ap, ◌∙◌, subst, append_assoc, add_assoc, arith}
+use Rattle.std.proofs.Common.{◌≡◌, ℕ, ◌+◌, List, [], ◌∷◌, ◌++◌, Bool, true, false, not, ◌&&◌, ◌||◌, ℤ, pos, refl, sym, ap, ◌∙◌, subst, append_assoc, add_assoc, arith}
 use Rattle.c_tree.specs.declared.tree.Op.{Op}
 use Rattle.c_tree.specs.declared.tree.Op.TheVariants.{Equal, Unequal}
 use Rattle.flow_graph.specs.declared.graph.Edge.{Edge}
-use Rattle.flow_graph.specs.declared.graph.Edge.TheVariants.{Assign, Guard, Input, Call}
+use Rattle.flow_graph.specs.declared.graph.Edge.TheVariants.{Assign, Call}
 use Rattle.flow_build.specs.declared.builder.Builder.{Builder}
 use Rattle.flow_build.specs.declared.landing.Landed.{Landed}
 use Rattle.flow_build.specs.declared.landing.Reached.{Reached}
@@ -14,14 +14,14 @@ use Rattle.flow_build.specs.declared.target.Target.{Target}
 use Rattle.flow_build.specs.declared.target.Target.TheVariants.{Node}
 use Rattle.flow_build.specs.Forms.{Value, Values, Test}
 use Rattle.flow_build.specs.Forms as form
-use Rattle.flow_build.specs.Translation.{kept, kept_if, in_slot, nonzero, scaled, overflows_by}
+use Rattle.flow_build.specs.Translation.{kept, kept_if, nonzero, scaled, overflows_by}
 use Rattle.flow_build.specs.Operands.{operand_lin, constant_lin, scaled_lin, sum_lin, difference_lin, overflows_in_place, slot_or_zero, is_constant_operand, rows_where, opposite_op}
 use Rattle.flow_build.specs.Blocks.{Block, edges_of, one, ways}
 use Rattle.flow_build.specs.Lowering.{operand_at, argument_slot, argument_slots, landing, landing_of_all, nodes_of, nodes_of_all, slots_of, value_blocks, values_blocks}
 use Rattle.flow_build.specs.Building.{is_in_place, copied, copied_where, copied_node, copied_nodes, copied_operand, one_if, node_where, operand_where}
 use Rattle.flow_build.specs.Additions.{argument_of, AddsBlocks, Adds, AddsAll, AddsSlot, AddsBoth, AddsTest}
 
-append_nil : (xs : List Edge) → xs ++ [] ≡ xs
+pub append_nil : (xs : List Edge) → xs ++ [] ≡ xs
 append_nil [] = refl
 append_nil (x ∷ xs) = ap (λ l. x ∷ l) (append_nil xs)
 

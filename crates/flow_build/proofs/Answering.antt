@@ -1,5 +1,5 @@
 -- From what calls ensure to what is asked of expressions.
-use Rattle.std.proofs.Common.{◌≡◌, ℕ, ◌+◌, Box, Global, Bool, true, false, not, ◌||◌, ◌&&◌, ℤ, pos, negsuc, ◌+ℤ◌, ◌-ℤ◌, ◌*ℤ◌, IsTrue, Ok, Err, IfOk, OnOk, refl, sym, ap, ◌∙◌, subst, List, [], ◌∷◌, length, get_or, take, drop, ◌-◌, ◌≤◌, arith}
+use Rattle.std.proofs.Common.{◌≡◌, ℕ, Box, Global, Bool, true, false, not, ◌||◌, ◌&&◌, ℤ, pos, negsuc, ◌-ℤ◌, ◌*ℤ◌, IsTrue, Ok, Err, IfOk, OnOk, refl, sym, ap, ◌∙◌, subst, List, [], ◌∷◌, length, get_or, take, drop, ◌-◌, ◌≤◌, arith}
 use Rattle.std.specs.Prelude.{Result}
 use Rattle.std.proofs.lemmas.Int.{ints}
 use Rattle.c_tree.specs.declared.tree.Op.{Op}
@@ -15,9 +15,8 @@ use Rattle.flow_build.specs.declared.operand.Operand.{Operand}
 use Rattle.flow_build.specs.declared.operand.Operand.TheVariants.{Variable, Constant}
 use Rattle.flow_build.specs.Forms.{Value, Test}
 use Rattle.flow_build.specs.Forms as form
-use Rattle.flow_build.specs.Translation.{has_call, kept_if, kept, overflows, nonzero, value_of, test_of}
+use Rattle.flow_build.specs.Translation.{has_call, kept_if, overflows, nonzero, value_of, test_of}
 use Rattle.flow_build.specs.Operands.{is_operand, constant_of, overflows_in_place}
-use Rattle.flow_build.specs.declared.landing.Landed.{Landed}
 use Rattle.flow_build.specs.Building.{is_operand_landed, copied_operand, operand_where}
 use Rattle.flow_build.specs.Lowering.{operand_at}
 use Rattle.flow_build.specs.Additions.{binary_value, binary_test}

@@ -1,9 +1,9 @@
 -- What values and tests come to.
-use Rattle.std.proofs.Common.{◌≡◌, ℕ, List, [], ◌∷◌, Bool, true, false, not, ◌<◌, ℤ, ◌+ℤ◌, ◌-ℤ◌, ◌*ℤ◌, IsTrue}
+use Rattle.std.proofs.Common.{ℕ, List, [], ◌∷◌, Bool, true, false, not, ◌<◌, ℤ, ◌+ℤ◌, ◌-ℤ◌, ◌*ℤ◌, IsTrue}
 use Rattle.std.specs.Prelude.{int_lt, int_le}
 use Rattle.c_tree.specs.declared.tree.Op.{Op}
 use Rattle.c_tree.specs.declared.tree.Op.TheVariants.{Less, LessEqual, Greater, GreaterEqual, Equal, Unequal}
-use Rattle.c_tree.specs.Meaning.{State, World, Progress, Relation, Gives, Then, Choice, ExactOrStopped, TakesInput, Callee, is_value, is_zero, bit}
+use Rattle.c_tree.specs.Meaning.{State, Relation, Gives, Then, Choice, ExactOrStopped, TakesInput, Callee, is_value, is_zero, bit}
 use Rattle.flow_build.specs.Forms.{Value, literal, read, input, call, scale, sum, difference, truth, Values, no_values, value, Test, compare, opposite, both, either}
 
 abbrev pub comparison : Op → ℤ → ℤ → Bool

@@ -18,7 +18,11 @@ pub mod Linking
 pub mod SmallRows
 pub mod Adding
 pub mod Answering
+pub mod AddingStatements
 pub mod Measures
+pub mod Plain
+pub mod Making
+pub mod Whole
 pub mod Good
 pub mod Coming
 pub mod BackwardValues

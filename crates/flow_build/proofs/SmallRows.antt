@@ -1,5 +1,5 @@
 -- Rows of operands are small.
-use Rattle.std.proofs.Common.{◌≡◌, ℕ, zero, suc, ◌+◌, ◌^◌, ◌<◌, ◌≤◌, nat_lt, nat_le, ◌==◌, List, [], ◌∷◌, length, Bool, true, false, ◌&&◌, T, ℤ, pos, negsuc, ◌+ℤ◌, ◌*ℤ◌, ◌≤ℤ◌, IsTrue, ◌⊎◌, inl, inr, refl, sym, ap, ◌∙◌, subst, arith}
+use Rattle.std.proofs.Common.{◌≡◌, ℕ, ◌^◌, ◌≤◌, nat_lt, nat_le, ◌==◌, List, [], ◌∷◌, length, Bool, true, false, ◌&&◌, T, ℤ, pos, negsuc, ◌+ℤ◌, ◌*ℤ◌, ◌≤ℤ◌, IsTrue, ◌⊎◌, inl, inr, refl, sym, subst, arith}
 use Rattle.std.specs.Int.{w64}
 use Rattle.std.specs.Prelude.{FitsSigned, unsigned_abs, int_le, if◌then◌else◌}
 use Rattle.std.specs.List.{list_all}
@@ -7,8 +7,7 @@ use Rattle.std.proofs.lemmas.Int.{ints}
 use Rattle.std.proofs.lemmas.Bool.{le-leb}
 use Rattle.std.specs.Int.Signed.{le_z_yes}
 use Rattle.c_tree.specs.Meaning.{is_value}
-use Rattle.linear_formula.specs.LinearSum.{LinearSum, is_within, are_coefficients_within}
-use Rattle.linear_formula.specs.Results.{put_part}
+use Rattle.linear_formula.specs.LinearSum.{is_within, are_coefficients_within}
 use Rattle.flow_build.specs.declared.operand.Operand.{Operand}
 use Rattle.flow_build.specs.declared.operand.Operand.TheVariants.{Variable, Constant}
 use Rattle.flow_build.specs.Operands.{is_operand, constant_of, row}

@@ -1,9 +1,9 @@
 -- An expression and its form come to the same.
-use Rattle.std.proofs.Common.{◌≡◌, ℕ, zero, suc, ◌<◌, List, ◌∷◌, Bool, true, false, not, ◌||◌, ◌&&◌, Option, None, Some, ℤ, pos, negsuc, ◌+ℤ◌, ◌-ℤ◌, ◌*ℤ◌, neg_ℤ, IsTrue, refl, sym, ap, ◌∙◌, subst, arith}
-use Rattle.std.specs.Prelude.{int_lt, int_le, option_and_then, if◌then◌else◌}
+use Rattle.std.proofs.Common.{◌≡◌, ℕ, ◌<◌, ◌∷◌, Bool, true, false, not, ◌||◌, ◌&&◌, Option, None, Some, ℤ, pos, negsuc, ◌+ℤ◌, ◌-ℤ◌, ◌*ℤ◌, neg_ℤ, IsTrue, refl, ap, subst, arith}
+use Rattle.std.specs.Prelude.{option_and_then, if◌then◌else◌}
 use Rattle.std.proofs.lemmas.Int.{ints}
 use Rattle.std.proofs.Math.IntN.{*ℤ_comm}
-use Rattle.c_tree.specs.Meaning.{State, World, Progress, goes, ends, stopped, Relation, Gives, Ends, Onward, Then, Choice, ExactOrStopped, RightSide, decided, Applied, Callee, is_value, is_zero, bit, Eval, Evals}
+use Rattle.c_tree.specs.Meaning.{State, Progress, goes, ends, stopped, Relation, Gives, Ends, Onward, Then, Choice, ExactOrStopped, RightSide, decided, Applied, Callee, is_value, is_zero, bit, Eval, Evals}
 use Rattle.c_tree.specs.Syntax.{Expression, literal, read, input, call, negate, not as not_of, binary, Expressions, no_expressions, expression, Statement, block, set, ignore, assume, assert, if_else, loop, do_while, break, continue, return, Statements, no_statements, statement}
 use Rattle.c_tree.specs.WellFormed.{is_arithmetic, is_constant}
 use Rattle.c_tree.specs.declared.tree.Op.{Op}
@@ -13,7 +13,7 @@ use Rattle.flow_build.specs.Forms as form
 use Rattle.flow_build.specs.Translation.{exact, operation, operation_of, negation_of, constant_value, has_call, have_call, kept, kept_if, in_slot, overflows_by, scaled, overflows, added, subtracted, multiplied, compared, nonzero, value_by, test_by, value_of, values_of, test_of}
 use Rattle.flow_build.specs.Lowering.{result_of}
 pub use Rattle.flow_build.proofs.Sameness.{Same}
-use Rattle.flow_build.proofs.Sameness.{itself, swapped, through, then_same, first_same, next_same, then_then, gives_then, then_gives, gives_same, exact_same, choice_same, other_choice, choice_then, Never, never_same}
+use Rattle.flow_build.proofs.Sameness.{itself, swapped, through, then_same, first_same, next_same, then_then, gives_then, then_gives, gives_same, exact_same, other_choice, Never, never_same}
 use Rattle.flow_build.proofs.FormMeaning.{comparison, Yields, YieldsAll, Decides, FitsValue, FitsValues, FitsTest, IsInSlot}
 
 -- a side of a product is constant

@@ -1,6 +1,6 @@
 -- The blocks of values, tests and statements. Each begins at a given node; its other nodes are numbered from `lo` on, and
 -- its slots from `t` on.
-use Rattle.std.specs.Prelude.{ℕ, ◌+◌, max, Bool, true, false, cond, List, [], ◌∷◌, ◌++◌, Option, None, Some, pos}
+use Rattle.std.specs.Prelude.{ℕ, ◌+◌, max, Bool, true, false, List, [], ◌∷◌, ◌++◌, None, Some, pos}
 use Rattle.c_tree.specs.Syntax.{Expression, Statement, block, set, ignore, assume, assert, if_else, loop, do_while, break, continue, return, Statements, no_statements, statement}
 use Rattle.flow_graph.specs.declared.graph.Edge.{Edge}
 use Rattle.flow_graph.specs.declared.graph.Edge.TheVariants.{Assign, Guard, Input, Call, Return}
@@ -11,7 +11,7 @@ use Rattle.flow_build.specs.declared.target.Target.TheVariants.{Node, Fails, Now
 use Rattle.flow_build.specs.Forms.{Value, literal, read, input, call, scale, sum, difference, truth, Values, no_values, value, Test, compare, opposite, both, either}
 use Rattle.flow_build.specs.Translation.{value_of, test_of, in_slot}
 use Rattle.flow_build.specs.Operands.{constant_lin, scaled_lin, operand_lin, sum_lin, difference_lin, rows_where, opposite_op}
-use Rattle.flow_build.specs.Blocks.{Block, one, ways, exit_node, end_node, return_node}
+use Rattle.flow_build.specs.Blocks.{Block, one, ways, exit_node, return_node}
 
 -- A literal or a variable that isn't kept is used in place: it has no blocks.
 abbrev pub operand_at : Value → (t : ℕ) → Operand

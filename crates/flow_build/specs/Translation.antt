@@ -1,8 +1,8 @@
 -- The form of an expression.
-use Rattle.std.specs.Prelude.{ℕ, Bool, true, false, ◌||◌, not as not_bool, Option, None, Some, ℤ, pos, negsuc, ◌+ℤ◌, ◌-ℤ◌, ◌*ℤ◌, neg_ℤ, if◌then◌else◌}
+use Rattle.std.specs.Prelude.{Bool, true, false, ◌||◌, not as not_bool, Option, None, Some, ℤ, pos, negsuc, ◌+ℤ◌, ◌-ℤ◌, ◌*ℤ◌, neg_ℤ, if◌then◌else◌}
 use Rattle.c_tree.specs.Meaning.{is_value}
 use Rattle.c_tree.specs.declared.tree.Op.{Op}
-use Rattle.c_tree.specs.declared.tree.Op.TheVariants.{Add, Subtract, Multiply, Less, LessEqual, Greater, GreaterEqual, Equal, Unequal, And, Or}
+use Rattle.c_tree.specs.declared.tree.Op.TheVariants.{Add, Subtract, Multiply, Unequal, And, Or}
 use Rattle.c_tree.specs.Syntax.{Expression, Expressions, no_expressions, expression}
 use Rattle.c_tree.specs.Syntax as source
 use Rattle.flow_build.specs.Forms.{Value, literal, read, input, call, scale, sum, difference, truth, Values, no_values, value, Test, compare, opposite, both, either}

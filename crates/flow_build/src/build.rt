@@ -1,7 +1,13 @@
 //! The graphs of a program.
 
-ghost use Rattle.std.specs.Prelude.{◌≡◌, ◌∷◌, [], ◌++◌, IfOk, OnOk, IsTrue};
+ghost use Rattle.std.specs.Prelude.{◌≡◌, ◌∷◌, [], pos, IfOk, OnOk, IsTrue};
+ghost use Rattle.c_tree.specs.Syntax.{PureProgram};
 ghost use Rattle.c_tree.specs.View.{program_from, procedure_of};
+ghost use Rattle.c_tree.specs.WellFormed.{is_sound_procedure, all_linear};
+ghost use Rattle.flow_graph.specs.declared.graph.Edge.TheVariants.{Entry, Assign, Guard, Return};
+ghost use Rattle.flow_build.specs.Building.{statements_literals_fit};
+ghost use Rattle.flow_build.specs.Operands.{constant_lin};
+ghost use Rattle.flow_build.specs.Procedures.{IsGraphOf};
 ghost use Rattle.flow_build.specs.Promises.{SameRuns, AreBounded};
 
 use crate::branch::FAIL_NODE;
@@ -28,7 +34,11 @@ const BODY_NODE: u32 = 5;
 const FIRST_FREE: u32 = 6;
 
 /// The edges round the body: a frame begins there, and returns 0 at the body's end.
-fn begin(alloc: Global, procedure: &Procedure) -> Result<Builder, OutOfMemory> {
+fn begin(alloc: Global, procedure: &Procedure) -> Result<Builder, OutOfMemory>
+    ensures edges { IfOk result (λ b. b.edges.items ≡ Entry 4 procedure.now.params ∷ Guard 4 5 (record { atoms = [] }) ∷
+        Assign 2 3 procedure.now.slots (constant_lin (pos 0)) ∷ Return 3 0 procedure.now.slots ∷ []) }
+    ensures next { IfOk result (λ b. b.next ≡ 6) }
+{
     let mut b = Builder {
         edges: Vec::new(alloc),
         next: FIRST_FREE,
@@ -60,7 +70,12 @@ fn begin(alloc: Global, procedure: &Procedure) -> Result<Builder, OutOfMemory> {
 }
 
 /// The graph of a procedure.
-fn graph(alloc: Global, procedure: &Procedure) -> Result<Graph, OutOfMemory> {
+fn graph(alloc: Global, procedure: &Procedure) -> Result<Graph, OutOfMemory>
+    requires sound { (program : PureProgram) × IsTrue (is_sound_procedure program (procedure_of procedure.now)) }
+    requires linear { IsTrue (all_linear (procedure_of procedure.now).body) }
+    ensures graph { IfOk result (λ g. IsGraphOf (procedure_of procedure.now) g) }
+    ensures literals { OnOk result (IsTrue (statements_literals_fit (procedure_of procedure.now).body)) }
+{
     let mut b = begin(alloc, procedure)?;
     let frame = Frame {
         gives: procedure.gives,

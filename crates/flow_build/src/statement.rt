@@ -1,11 +1,11 @@
 //! Statements.
 
-ghost use Rattle.std.specs.Prelude.{◌≡◌, ◌+◌, ◌++◌, ◌∷◌, [], IfOk, OnOk, IsTrue};
+ghost use Rattle.std.specs.Prelude.{◌≡◌, ◌+◌, ◌<◌, ◌^◌, not, ◌++◌, ◌∷◌, [], IfOk, OnOk, IsTrue};
 ghost use Rattle.c_tree.specs.Syntax.{block, if_else, loop, do_while};
 ghost use Rattle.c_tree.specs.View.{expression_of, statement_of, statements_of};
 ghost use Rattle.c_tree.specs.WellFormed.{nodes, statement_nodes, statements_nodes};
 ghost use Rattle.flow_graph.specs.declared.graph.Edge.TheVariants.{Guard};
-ghost use Rattle.flow_build.specs.Building.{literals_fit, statement_literals_fit, statements_literals_fit};
+ghost use Rattle.flow_build.specs.Building.{node_where, one_if, literals_fit, statement_literals_fit, statements_literals_fit};
 ghost use Rattle.flow_build.specs.Additions.{HasRoom, TakesFew};
 ghost use Rattle.flow_build.specs.StatementAdditions.{AddsSet, AddsResult, AddsStatement};
 
@@ -51,6 +51,16 @@ fn skip(b: &mut Builder, alloc: Global, from: u32, to: u32) -> Result<(), AllocE
         atoms: Atoms::from_vec(Vec::new(alloc)),
     };
     b.push(Edge::Guard { from, to, rows })
+}
+
+/// The node behind a statement: a new one, but behind the last.
+fn next_node(b: &mut Builder, is_last: bool, to: u32) -> u32
+    requires { b.old.next + 1 < 2 ^ 32 }
+    ensures node { result ≡ node_where is_last b.old.next to }
+    ensures next { b.new.next ≡ b.old.next + one_if (not is_last) }
+    ensures edges { b.new.edges.items ≡ b.old.edges.items }
+{
+    if is_last { to } else { b.node() }
 }
 
 /// The return of an expression's value; a `void` procedure returns 0 in its place.
@@ -167,7 +177,7 @@ pub fn block(
     let mut free = frame.free;
     for (i, s) in ss.iter().enumerate() {
         let is_last = i + 1 == ss.len();
-        let to = if is_last { exits.to } else { b.node() };
+        let to = next_node(b, is_last, exits.to);
         let reached = statement(b, alloc, s, frame, node, Exits { to, ..exits })?;
         free = free.max(reached);
         node = to;

@@ -13,3 +13,4 @@ pub mod Searching
 pub mod Evaluating
 pub mod Renamed
 pub mod Laws
+pub mod Replacing

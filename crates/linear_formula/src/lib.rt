@@ -8,6 +8,7 @@ mod exact_sum;
 pub mod formula;
 mod merge;
 pub mod question;
+pub mod reading;
 mod renaming;
 mod sums;
 pub mod term;

@@ -1,0 +1,4 @@
+pub mod Refusing
+pub mod Agreeing
+pub mod Places
+pub mod Crossing

@@ -1,3 +1,4 @@
 pub mod Preimage
 pub mod Predecessors
 pub mod Refusals
+pub mod Sums

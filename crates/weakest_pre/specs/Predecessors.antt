@@ -4,8 +4,7 @@ use Rattle.c_tree.specs.Meaning.{State, entered}
 use Rattle.linear_formula.specs.Formula.{HoldsAll}
 use Rattle.linear_formula.specs.declared.formula.Atom.{Atom}
 use Rattle.flow_graph.specs.declared.graph.Edge.{Edge}
-use Rattle.flow_graph.specs.declared.graph.Edge.TheVariants.{Entry, Assign, Guard, Input, Pick, Call, Assert, Return}
-use Rattle.flow_graph.specs.declared.graph.Graph.{Graph}
+use Rattle.flow_graph.specs.declared.graph.Edge.TheVariants.{Entry, Return}
 use Rattle.flow_graph.specs.Runs.{Place, inside, left, failing, halted, Step, GraphRun}
 use Rattle.flow_graph.specs.WellFormed.{has_slots, max_slots}
 use Rattle.flow_graph.specs.Columns.{is_slot_column, is_entry_column, is_value_column, rows_name_only, columns_of, valuation_of, AreValues, AreAllValues, first_entry}

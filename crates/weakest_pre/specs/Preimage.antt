@@ -1,5 +1,5 @@
 -- The preimage of rows over an edge: which rows a state meets that goes over the edge into them.
-use Rattle.std.specs.Prelude.{ℕ, ◌+◌, ◌==◌, nat_lt, List, [], ◌∷◌, ◌++◌, map, Option, None, ℤ, pos, negsuc, if◌then◌else◌}
+use Rattle.std.specs.Prelude.{ℕ, ◌+◌, ◌==◌, nat_lt, List, [], ◌∷◌, ◌++◌, map, Option, None, pos, negsuc, if◌then◌else◌}
 use Rattle.std.specs.List.{list_all}
 use Rattle.linear_formula.specs.LinearSum.{LinearSum, is_within}
 use Rattle.linear_formula.specs.Results.{combination, constant_sum}

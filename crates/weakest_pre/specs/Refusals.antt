@@ -1,5 +1,5 @@
 -- When a preimage has no answer.
-use Rattle.std.specs.Prelude.{◌≡◌, ℕ, ◌⊎◌, List, [], ◌∷◌, ◌++◌, Contains, map, ℤ, pos, negsuc}
+use Rattle.std.specs.Prelude.{◌≡◌, ℕ, ◌⊎◌, List, [], ◌∷◌, ◌++◌, Contains, map, pos, negsuc}
 use Rattle.linear_formula.specs.LinearSum.{LinearSum}
 use Rattle.linear_formula.specs.Replaced.{column_sum, summands_of}
 use Rattle.linear_formula.specs.declared.formula.Atom.{Atom}

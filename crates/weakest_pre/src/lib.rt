@@ -3,3 +3,7 @@
 
 pub mod error;
 pub mod preimage;
+mod reading;
+mod rows;
+#[cfg(test)]
+mod tests;

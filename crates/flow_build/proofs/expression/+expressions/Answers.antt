@@ -1,4 +1,4 @@
-use Rattle.std.proofs.Common.{◌≡◌, ◌+◌, ◌*◌, ◌<◌, ◌++◌, ◌||◌, not, ◌&&◌, Bool, true, false, IfOk, OnOk, IsTrue, ℕ, ℤ, pos, negsuc, ◌+ℤ◌, ◌-ℤ◌, refl, sym, ap, ◌∙◌, subst, List, [], ◌∷◌, arith}
+use Rattle.std.proofs.Common.{◌≡◌, ◌+◌, ◌++◌, ◌||◌, Bool, false, IfOk, OnOk, IsTrue, ℕ, ℤ, pos, negsuc, ◌+ℤ◌, ◌-ℤ◌, refl, sym, ap, ◌∙◌, subst, List, [], ◌∷◌, arith}
 use Rattle.std.proofs.Common.{take, drop, length, ◌-◌, to_z, of_z}
 use Rattle.std.proofs.lemmas.Int.{ints, to_z-of_z}
 use Rattle.std.specs.Int.{w64}
@@ -8,25 +8,24 @@ use Rattle.c_tree.proofs.Rows.{call_of}
 use Rattle.c_tree.specs.Syntax.{Expression, Expressions}
 use Rattle.c_tree.specs.Syntax as source
 use Rattle.c_tree.specs.View.{expression_of, expressions_of}
-use Rattle.c_tree.specs.WellFormed.{is_arithmetic, nodes, nodes_all}
+use Rattle.c_tree.specs.WellFormed.{nodes, nodes_all}
 use Rattle.c_tree.specs.declared.tree.Op.{Op}
 use Rattle.flow_build.specs.Forms.{Value, Test}
 use Rattle.flow_build.specs.Forms as form
 use Rattle.flow_graph.specs.declared.graph.Edge.TheVariants.{Assign, Call}
 use Rattle.flow_build.specs.declared.operand.Operand.TheVariants.{Variable}
-use Rattle.flow_build.specs.declared.target.Target.TheVariants.{Node}
-use Rattle.flow_build.specs.Operands.{is_operand, is_constant_operand, overflows_in_place, constant_of, scaled_lin, constant_lin}
+use Rattle.flow_build.specs.Operands.{is_constant_operand, overflows_in_place, constant_of, scaled_lin, constant_lin}
 use Rattle.c_tree.specs.Meaning.{is_value}
 use Rattle.flow_build.specs.declared.operand.Operand.{Operand}
 use Rattle.flow_build.specs.declared.landing.BothSides.{BothSides}
-use Rattle.flow_build.specs.Translation.{value_of, values_of, test_of, has_call, have_call, scaled, added, subtracted, overflows, overflows_by, nonzero}
+use Rattle.flow_build.specs.Translation.{value_of, values_of, test_of, has_call, have_call, scaled, overflows, overflows_by, nonzero}
 use Rattle.flow_build.specs.Translation.{kept_if as kept_value_if}
 use Rattle.flow_build.specs.Lowering.{operand_at, slots_of, argument_slots}
-use Rattle.flow_build.specs.Building.{copied, copied_node, copied_nodes, copied_operand, is_landed, literals_fit, all_literals_fit}
-use Rattle.flow_build.specs.Additions.{binary_value, binary_test, argument_of, HasRoom, TakesFew, TakesFewAll, Adds, AddsAll, AddsSlot, AddsBoth, AddsTest}
+use Rattle.flow_build.specs.Building.{copied, copied_node, copied_nodes, copied_operand, literals_fit}
+use Rattle.flow_build.specs.Additions.{binary_test, argument_of, TakesFew, Adds, AddsAll, AddsSlot, AddsBoth, AddsTest}
 use Rattle.flow_build.proofs.Measures.{weight, weight_of_all}
-use Rattle.flow_build.proofs.Adding.{sum_added, difference_added, kept_added, right_kept, scaled_added, sides_added, truth_added, both_tests_added, either_tests_added, compare_added, nonzero_added, slot_added, slots_added, arguments_added, call_added, overflow_same}
-use Rattle.flow_build.proofs.Answering.{if_ok, if_at, on_at, value_is_truth, test_is_compared, test_is_nonzero, other_test, not_false, or_false, first_and_rest, operation_fits, negated_fits, literal_of}
+use Rattle.flow_build.proofs.Adding.{sum_added, difference_added, kept_added, right_kept, scaled_added, sides_added, truth_added, both_tests_added, either_tests_added, compare_added, nonzero_added, slot_added, arguments_added, call_added, overflow_same}
+use Rattle.flow_build.proofs.Answering.{if_ok, if_at, on_at, value_is_truth, test_is_compared, test_is_nonzero, other_test, or_false, first_and_rest, operation_fits, negated_fits, literal_of}
 use Rattle.flow_build.proofs.expression.+expressions.Goals as goal
 use Rattle.flow_build.proofs.expression.+expressions.Goals.{test-in-Binary+else-not-is_arithmetic, test-in_default, sides-then-has_call, sides-else-has_call, argument-then-later_call, argument-else-later_call}
 

@@ -1,5 +1,4 @@
 use Rattle.std.proofs.Common.{◌≡◌, ◌≤◌, ◌^◌, sym, subst, ap, ◌∙◌, arith, unsigned_abs}
-use Rattle.std.proofs.lemmas.Int.{ints}
 use Rattle.linear_formula.specs.LinearSum.{coefficient, listed_at}
 use Rattle.linear_formula.proofs.Limits.{IsTerm-from_test, AllWithin-listed}
 use Rattle.linear_formula.proofs.Finishing.{cast_wide}
