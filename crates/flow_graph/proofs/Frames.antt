@@ -1,5 +1,5 @@
 -- Frames and ends, deeper runs, and inputs behind those of a run.
-use Rattle.std.proofs.Common.{◌≡◌, Bool, true, false, ℕ, zero, suc, List, ◌++◌, Option, Some, None, ℤ, refl, ap, subst}
+use Rattle.std.proofs.Common.{◌≡◌, true, false, ℕ, zero, suc, List, ◌++◌, Option, Some, None, ℤ, refl, ap, subst}
 use Rattle.std.specs.Prelude.{slice_get}
 use Rattle.c_tree.specs.Meaning.{State, entered}
 use Rattle.flow_graph.specs.declared.graph.Edge.{Edge}

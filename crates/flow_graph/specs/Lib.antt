@@ -3,3 +3,4 @@ pub mod WellFormed
 pub mod Linked
 pub mod Runs
 pub mod Columns
+pub mod Sample

@@ -1,5 +1,5 @@
 -- What graphs keep.
-use Rattle.std.specs.Prelude.{◌≡◌, ◌≢◌, ℕ, ◌<◌, ◌≤◌, nat_lt, nat_le, ◌==◌, Bool, false, ◌&&◌, IsTrue, List, [], ◌∷◌, length, None, Some, Option, slice_get, ℤ}
+use Rattle.std.specs.Prelude.{◌≡◌, ◌≢◌, ℕ, ◌<◌, ◌≤◌, nat_lt, nat_le, ◌==◌, Bool, false, ◌&&◌, IsTrue, List, [], ◌∷◌, length, Some, Option, slice_get}
 use Rattle.std.specs.List.{list_all}
 use Rattle.linear_formula.specs.declared.formula.Atom.{Atom}
 use Rattle.flow_graph.specs.declared.graph.Lin.{Lin}

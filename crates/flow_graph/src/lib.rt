@@ -4,3 +4,5 @@
 pub mod graph;
 pub mod graphs;
 pub mod laws;
+#[cfg(test)]
+mod tests;

@@ -1,5 +1,5 @@
 -- What queries ask and not-mays say.
-use Rattle.std.specs.Prelude.{◌≡◌, ℕ, ◌++◌, IsTrue, List, length, ℤ}
+use Rattle.std.specs.Prelude.{◌≡◌, ℕ, ◌++◌, IsTrue, List, ℤ}
 use Rattle.linear_formula.specs.Formula.{HoldsAll}
 use Rattle.summary_form.specs.declared.query.Query.{Query}
 use Rattle.flow_graph.specs.Columns.{valuation_of, rows_name_only, is_entry_column, is_value_column}
