@@ -3,6 +3,8 @@
 
 mod accept;
 mod plain;
+#[cfg(test)]
+mod pre_tests;
 mod reply;
 mod report;
 mod run;

@@ -42,7 +42,7 @@ fn plus(sum: i128, coefficient: i128, slots: &[i64], slot: Slot) -> Option<i128>
 }
 
 /// The exact value, where it is one of 64 bits.
-fn lin_value(slots: &[i64], value: &Lin) -> Option<i64> {
+pub fn lin_value(slots: &[i64], value: &Lin) -> Option<i64> {
     let mut sum = i128::from(value.constant);
     for (coefficient, slot) in value.parts.as_slice() {
         sum = plus(sum, i128::from(*coefficient), slots, *slot)?;
@@ -58,7 +58,7 @@ fn row_value(slots: &[i64], row: &Atom) -> Option<i128> {
     Some(sum)
 }
 
-fn hold(slots: &[i64], rows: &Cube) -> bool {
+pub fn hold(slots: &[i64], rows: &Cube) -> bool {
     rows.atoms.as_slice().iter().all(|row| row_value(slots, row).is_some_and(|value| value <= 0))
 }
 
@@ -596,7 +596,7 @@ const CONTEXTS: &[(&str, &str)] = &[
 const HEAD: &str =
     "int f(int a){ return input() - a; } int g(int a, int b){ return a * 10 + b; } int main(){ int x = input(); ";
 
-fn program_of(rt: &impl Abort, alloc: Global, text: &str) -> Result<Program, Fail> {
+pub fn program_of(rt: &impl Abort, alloc: Global, text: &str) -> Result<Program, Fail> {
     let bytes = text.as_bytes();
     assert!(rt; bytes.len() <= 65_536);
     Ok(accept(alloc, bytes)?)
