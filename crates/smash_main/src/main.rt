@@ -8,6 +8,8 @@ mod report;
 mod run;
 #[cfg(test)]
 mod tests;
+#[cfg(test)]
+mod walk_tests;
 mod words;
 
 use crate::run::run;
