@@ -1,7 +1,8 @@
 #!/bin/sh
 # The graphs of sources of 8, 16, 32 and 64 KiB: bytes, statement and expression nodes of the program, nodes and edges of
-# its graphs, how many of each stand for one syntax node, and the time of one `build` (whose graphs are then dropped);
-# where valgrind is there, also its instructions.
+# its graphs, how many of each there are for a syntax node, and the time of one `build`, whose graphs are then dropped;
+# where valgrind is there, also its instructions, the average of 20, and how many of them, without the C library's, there
+# are for a syntax node.
 # The program that builds them is built, proved, in a copy of the crates that it needs.
 # usage: bench/build.sh [DIRECTORY]   (where the copy is made or found; a temporary one, if none is given)
 top=$(cd "$(dirname "$0")/.." && pwd) || exit 70
@@ -151,24 +152,29 @@ fn main(rt: HostRuntime) -> ExitCode {
 PROGRAM
 }
 
+# all instructions of a run, and those of them that are the program's own, not the C library's
 instructions() {
-    valgrind --tool=callgrind --callgrind-out-file="$work/callgrind" "$program" "$1" < "$work/source.c" 2>&1 > /dev/null |
-        sed -n 's/.*refs: *\([0-9,]*\).*/\1/p' | tr -d ,
+    valgrind --tool=callgrind --callgrind-out-file="$work/callgrind" "$program" "$1" < "$work/source.c" > /dev/null 2>&1
+    callgrind_annotate --threshold=100 "$work/callgrind" | tr -d , |
+        awk '/PROGRAM TOTALS/ { all = $1 } /\/build_bench\]/ { own += $1 } END { printf "%d %d", all, own }'
 }
 
 [ -x "$program" ] || build
 [ -x "$program" ] || { echo "the benchmark could not be built; see $work/build.log" >&2; exit 70; }
-printf '%-6s %6s %7s %7s %7s %6s %6s %12s %13s\n' shape bytes syntax nodes edges nodes/ edges/ 'micros each' instructions
+printf '%-6s %6s %7s %7s %7s %6s %6s %12s %13s %9s\n' shape bytes syntax nodes edges nodes/ edges/ 'micros each' instructions own/
 for shape in deep chain many long; do
     for size in 8192 16384 32768 65536; do
         awk -v shape="$shape" -v size="$size" -v last=0 -f "$top/bench/source.awk" > "$work/source.c"
         count=$((13107200 / size))
         text=$("$program" "$count" < "$work/source.c") || { echo "$shape $size: no graphs" >&2; exit 1; }
-        each=-
+        each=
         if command -v valgrind > /dev/null 2>&1; then
-            each=$(($(instructions 1) - $(instructions 0)))
+            each="$(instructions 0) $(instructions 20)"
         fi
-        echo "$shape $text $count $each" |
-            awk '{ printf "%-6s %6d %7d %7d %7d %6.2f %6.2f %12.1f %13s\n", $1, $2, $3, $4, $5, $4 / $3, $5 / $3, $6 / 1000 / $7, $8 }'
+        echo "$shape $text $count $each" | awk '{
+            printf "%-6s %6d %7d %7d %7d %6.2f %6.2f %12.1f", $1, $2, $3, $4, $5, $4 / $3, $5 / $3, $6 / 1000 / $7
+            if (NF > 7) printf " %13d %9.1f", ($10 - $8) / 20, ($11 - $9) / 20 / $3
+            print ""
+        }'
     done
 done
