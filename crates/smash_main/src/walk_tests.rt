@@ -59,7 +59,13 @@ fn row_value(slots: &[i64], row: &Atom) -> Option<i128> {
 }
 
 pub fn hold(slots: &[i64], rows: &Cube) -> bool {
-    rows.atoms.as_slice().iter().all(|row| row_value(slots, row).is_some_and(|value| value <= 0))
+    for row in rows.atoms.as_slice() {
+        match row_value(slots, row) {
+            Some(value) if value <= 0 => {}
+            _ => return false,
+        }
+    }
+    true
 }
 
 /// Whether there is a step over the edge from a node at these slots.
