@@ -46,7 +46,6 @@ pub fn constant_value(e: &Expr) -> Option<i64>
 }
 
 /// Whether a call stands in the expression.
-
 pub fn has_call(e: &Expr) -> bool
     ensures { result ≡ has_call (expression_of e.now) }
 {

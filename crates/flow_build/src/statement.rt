@@ -223,9 +223,12 @@ fn choice(
     from: u32,
     exits: Exits,
 ) -> Result<u32, AllocError>
-    requires room { HasRoom (1 + nodes (expression_of e.now) + statement_nodes (statement_of met.now) + statement_nodes (statement_of unmet.now)) frame.free b.old }
+    requires room { HasRoom
+        (1 + nodes (expression_of e.now) + statement_nodes (statement_of met.now) + statement_nodes (statement_of unmet.now))
+        frame.free b.old }
     ensures adds { IfOk result
-        (λ l. AddsStatement (if_else (expression_of e.now) (statement_of met.now) (statement_of unmet.now)) frame from exits b.old b.new l) }
+        (λ l. AddsStatement (if_else (expression_of e.now) (statement_of met.now) (statement_of unmet.now))
+        frame from exits b.old b.new l) }
     ensures few { IfOk result (λ l. TakesFew
         (1 + nodes (expression_of e.now) + statement_nodes (statement_of met.now) + statement_nodes (statement_of unmet.now))
         frame.free b.old b.new l) }
@@ -261,9 +264,12 @@ fn repetition(
     from: u32,
     exits: Exits,
 ) -> Result<u32, AllocError>
-    requires room { HasRoom (1 + nodes (expression_of e.now) + statement_nodes (statement_of step.now) + statement_nodes (statement_of body.now)) frame.free b.old }
+    requires room { HasRoom
+        (1 + nodes (expression_of e.now) + statement_nodes (statement_of step.now) + statement_nodes (statement_of body.now))
+        frame.free b.old }
     ensures adds { IfOk result
-        (λ l. AddsStatement (loop (expression_of e.now) (statement_of step.now) (statement_of body.now)) frame from exits b.old b.new l) }
+        (λ l. AddsStatement (loop (expression_of e.now) (statement_of step.now) (statement_of body.now))
+        frame from exits b.old b.new l) }
     ensures few { IfOk result (λ l. TakesFew
         (1 + nodes (expression_of e.now) + statement_nodes (statement_of step.now) + statement_nodes (statement_of body.now))
         frame.free b.old b.new l) }
