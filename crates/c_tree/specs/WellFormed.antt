@@ -1,8 +1,7 @@
 -- The facts that every program keeps.
 use Rattle.std.specs.Prelude.{◌≡◌, ℕ, ◌+◌, ◌<◌, ◌≤◌, List, [], ◌∷◌, ◌++◌, Bool, true, false, ◌&&◌, ◌||◌, not as not_bool, ◌==◌, if◌then◌else◌, Option, Some, None, slice_get, length, nat_lt, nat_le, count_by, IsTrue}
 use Rattle.c_tree.specs.declared.tree.AssertPlace.{AssertPlace}
-use Rattle.c_tree.specs.declared.tree.Op.{Op}
-use Rattle.c_tree.specs.declared.tree.Op.TheVariants.{Add, Subtract, Multiply}
+use Rattle.c_tree.specs.Operators.{is_arithmetic, is_product}
 use Rattle.c_tree.specs.Syntax.{Expression, literal, read, input, call, negate, not as not_of, binary, Expressions, no_expressions, expression, Statement, block, set, ignore, assume, assert, if_else, loop, do_while, break, continue, return, Statements, no_statements, statement, PureProcedure, PureProgram}
 
 abbrev pub count : Expressions → ℕ
@@ -17,51 +16,41 @@ takes (Some p) n = p.params == n
 -- In a procedure with so many slots: each name exists, a call has an argument for each parameter, and `main` isn't called.
 module _ (P : PureProgram) (slots : ℕ) where
   abbrev mutual
-    pub is_sound : Expression → Bool
-    is_sound (literal n) = true
-    is_sound (read x) = nat_lt x slots
-    is_sound input = true
-    is_sound (call p es) = takes (slice_get P.procedures p) (count es) && not_bool (p == P.main) && are_sound es
-    is_sound (negate e) = is_sound e
-    is_sound (not_of e) = is_sound e
-    is_sound (binary op a b) = is_sound a && is_sound b
+    pub is_well_scoped : Expression → Bool
+    is_well_scoped (literal n) = true
+    is_well_scoped (read x) = nat_lt x slots
+    is_well_scoped input = true
+    is_well_scoped (call p es) = takes (slice_get P.procedures p) (count es) && not_bool (p == P.main) && are_well_scoped es
+    is_well_scoped (negate e) = is_well_scoped e
+    is_well_scoped (not_of e) = is_well_scoped e
+    is_well_scoped (binary op a b) = is_well_scoped a && is_well_scoped b
 
-    pub are_sound : Expressions → Bool
-    are_sound no_expressions = true
-    are_sound (expression e es) = is_sound e && are_sound es
+    pub are_well_scoped : Expressions → Bool
+    are_well_scoped no_expressions = true
+    are_well_scoped (expression e es) = is_well_scoped e && are_well_scoped es
 
-  abbrev pub returns_sound : Option Expression → Bool
-  returns_sound None = true
-  returns_sound (Some e) = is_sound e
+  abbrev pub returns_well_scoped : Option Expression → Bool
+  returns_well_scoped None = true
+  returns_well_scoped (Some e) = is_well_scoped e
 
   -- the same of statements; Break and Continue stand in loops
   abbrev mutual
-    pub runs_sound : (in_loop : Bool) → Statement → Bool
-    runs_sound l (block ss) = all_sound l ss
-    runs_sound l (set x e) = nat_lt x slots && is_sound e
-    runs_sound l (ignore e) = is_sound e
-    runs_sound l (assume e) = is_sound e
-    runs_sound l (assert id e) = nat_lt id (length P.asserts) && is_sound e
-    runs_sound l (if_else e a b) = is_sound e && runs_sound l a && runs_sound l b
-    runs_sound l (loop e s b) = is_sound e && runs_sound true s && runs_sound true b
-    runs_sound l (do_while s e) = runs_sound true s && is_sound e
-    runs_sound l break = l
-    runs_sound l continue = l
-    runs_sound l (return o) = returns_sound o
+    pub runs_well_scoped : (in_loop : Bool) → Statement → Bool
+    runs_well_scoped l (block ss) = all_well_scoped l ss
+    runs_well_scoped l (set x e) = nat_lt x slots && is_well_scoped e
+    runs_well_scoped l (ignore e) = is_well_scoped e
+    runs_well_scoped l (assume e) = is_well_scoped e
+    runs_well_scoped l (assert id e) = nat_lt id (length P.asserts) && is_well_scoped e
+    runs_well_scoped l (if_else e a b) = is_well_scoped e && runs_well_scoped l a && runs_well_scoped l b
+    runs_well_scoped l (loop e s b) = is_well_scoped e && runs_well_scoped true s && runs_well_scoped true b
+    runs_well_scoped l (do_while s e) = runs_well_scoped true s && is_well_scoped e
+    runs_well_scoped l break = l
+    runs_well_scoped l continue = l
+    runs_well_scoped l (return o) = returns_well_scoped o
 
-    pub all_sound : (in_loop : Bool) → Statements → Bool
-    all_sound l no_statements = true
-    all_sound l (statement s ss) = runs_sound l s && all_sound l ss
-
-abbrev pub is_arithmetic : Op → Bool
-is_arithmetic Add = true
-is_arithmetic Subtract = true
-is_arithmetic Multiply = true
-is_arithmetic _ = false
-
-abbrev pub is_product : Op → Bool
-is_product Multiply = true
-is_product _ = false
+    pub all_well_scoped : (in_loop : Bool) → Statements → Bool
+    all_well_scoped l no_statements = true
+    all_well_scoped l (statement s ss) = runs_well_scoped l s && all_well_scoped l ss
 
 -- built of literals by negations, sums, differences and products
 abbrev pub is_constant : Expression → Bool
@@ -167,9 +156,9 @@ abbrev mutual
   asserted_in (statement s ss) = asserted_by s ++ asserted_in ss
 
 -- what each procedure keeps
-abbrev pub is_sound_procedure : PureProgram → PureProcedure → Bool
-is_sound_procedure P p =
-    nat_le p.params 8 && nat_le p.params p.slots && nat_le p.slots 24 && all_sound P p.slots false p.body && nat_le (statements_nodes p.body) 8000
+abbrev pub is_well_formed_procedure : PureProgram → PureProcedure → Bool
+is_well_formed_procedure P p =
+    nat_le p.params 8 && nat_le p.params p.slots && nat_le p.slots 24 && all_well_scoped P p.slots false p.body && nat_le (statements_nodes p.body) 8000
 
 abbrev pub has_no_parameters : Option PureProcedure → Bool
 has_no_parameters p = takes p 0
@@ -179,7 +168,7 @@ pub record IsWellFormed (P : PureProgram) : Type 0 where
   -- `main` is one of the procedures and has no parameters
   pub main_takes_none : IsTrue (takes (slice_get P.procedures P.main) 0)
   pub names_apart : (i j : ℕ) (p q : PureProcedure) → i < j → slice_get P.procedures i ≡ Some p → slice_get P.procedures j ≡ Some q → p.name ≡ q.name → ⊥
-  pub procedures_sound : (i : ℕ) (p : PureProcedure) → slice_get P.procedures i ≡ Some p → IsTrue (is_sound_procedure P p)
+  pub procedures_well_formed : (i : ℕ) (p : PureProcedure) → slice_get P.procedures i ≡ Some p → IsTrue (is_well_formed_procedure P p)
   pub products_linear : (i : ℕ) (p : PureProcedure) → slice_get P.procedures i ≡ Some p → IsTrue (all_linear p.body)
   pub few_asserts : length P.asserts ≤ 64
   -- each assertion stands in exactly one `Assert`, which is in the body of its procedure

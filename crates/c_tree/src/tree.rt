@@ -1,6 +1,7 @@
 //! Accepted programs.
 
 ghost use Rattle.std.specs.Prelude.{◌≡◌};
+ghost use Rattle.c_tree.specs.Operators.{is_arithmetic, is_comparison, is_product, operation};
 ghost use Rattle.c_tree.specs.View.{program_from};
 ghost use Rattle.c_tree.specs.WellFormed.{IsWellFormed};
 
@@ -34,6 +35,43 @@ pub enum Op {
     Unequal,
     And,
     Or,
+}
+
+impl Op {
+    /// `+`, `-` or `*`.
+    pub fn is_arithmetic(self) -> bool
+        ensures { result ≡ is_arithmetic self }
+    {
+        matches!(self, Op::Add | Op::Subtract | Op::Multiply)
+    }
+
+    pub fn is_product(self) -> bool
+        ensures { result ≡ is_product self }
+    {
+        matches!(self, Op::Multiply)
+    }
+
+    /// `<`, `<=`, `>`, `>=`, `==` or `!=`.
+    pub fn is_comparison(self) -> bool
+        ensures { result ≡ is_comparison self }
+    {
+        matches!(
+            self,
+            Op::Less | Op::LessEqual | Op::Greater | Op::GreaterEqual | Op::Equal | Op::Unequal
+        )
+    }
+
+    /// What an arithmetic operator gives, where its exact result is a value; none for every other operator.
+    pub fn operation(self, left: i64, right: i64) -> Option<i64>
+        ensures { result ≡ operation self left right }
+    {
+        match self {
+            Op::Add => left.checked_add(right),
+            Op::Subtract => left.checked_sub(right),
+            Op::Multiply => left.checked_mul(right),
+            _ => None,
+        }
+    }
 }
 
 /// An expression. Operands and arguments are evaluated from left to right.

@@ -1,6 +1,6 @@
 -- Faults depend on the names in scope alone, and not on their slots.
 use Rattle.std.proofs.Common.{◌≡◌, ℕ, ◌+◌, Bool, true, false, ◌&&◌, ◌||◌, not as not_bool, List, [], ◌∷◌, ◌++◌, Option, Some, None, is_some, refl, ap, sym, ◌∙◌, bytes_eq, if◌then◌else◌}
-use Rattle.c_tree.specs.WellFormed.{is_product}
+use Rattle.c_tree.specs.Operators.{is_product}
 use Rattle.c_tree.specs.SourceTree.{Identifier, ExpressionTree, literal, name, call, not, negate, plus, binary, ExpressionTrees, no_arguments, argument, SimpleStatement, set, change, add_one, subtract_one, call_statement, Declarator, ForInit, no_init, declaring, starting, StatementTree, block, empty, declare, simple, if_then, if_else, while_loop, do_while, for_loop, break, continue, return, StatementTrees, no_statements, statement, ProcedureTree}
 use Rattle.c_typing.specs.declared.fault.TypeFault.TheVariants.{UnknownName, Duplicate, NotLinear}
 use Rattle.c_typing.specs.Scope.{Scope, slot_in, slot_of, or_outer, with_variable, with_names, names_of, is_declared_here, is_built_in, callee_of, declared_by_init}

@@ -8,7 +8,7 @@ use Rattle.std.proofs.lemmas.Slice.Eq.{bytes_eq-Decides}
 use Rattle.c_tree.specs.declared.tree.Pos.{Pos}
 use Rattle.c_tree.specs.declared.tree.AssertPlace.{AssertPlace}
 use Rattle.c_tree.specs.Syntax.{PureProcedure}
-use Rattle.c_tree.specs.WellFormed.{IsWellFormed, takes, all_sound, all_linear, asserted_in, is_sound_procedure, statements_nodes}
+use Rattle.c_tree.specs.WellFormed.{IsWellFormed, takes, all_well_scoped, all_linear, asserted_in, is_well_formed_procedure, statements_nodes}
 use Rattle.c_tree.specs.SourceNodes.{statement_trees_nodes}
 use Rattle.c_tree.specs.SourceTree.{Identifier, ProcedureTree, FileItem}
 use Rattle.c_typing.specs.declared.fault.TypeFault.TheVariants.{Duplicate, MainShape}
@@ -254,7 +254,7 @@ none-below : (n : ℕ) → Below ([] ∷ []) n
 none-below n = record { below = λ x s e. absurd cc }
 
 procedure-sound : (is : List FileItem) → DefinesMain is → (p : ProcedureTree) (first : ℕ) → IsFaultless (procedures_of is) p → first + length (asserts_in p.body) ≤ length (assert_places 0 (procedures_of is)) →
-    statement_trees_nodes p.body ≤ 8000 → is_sound_procedure (lowered_file is) (lowered_procedure (procedures_of is) first p) ≡ true
+    statement_trees_nodes p.body ≤ 8000 → is_well_formed_procedure (lowered_file is) (lowered_procedure (procedures_of is) first p) ≡ true
 procedure-sound is main p first h few small =
     let ps = procedures_of is in
     let P = lowered_file is in
@@ -268,7 +268,7 @@ procedure-sound is main p first h few small =
     let a = nat_le (length p.params) 8 in
     let b = nat_le (length p.params) slots in
     let c = nat_le slots 24 in
-    let d = all_sound P slots false body in
+    let d = all_well_scoped P slots false body in
     both (a && b && c && d) (nat_le (statements_nodes body) 8000)
     (both (a && b && c) d (both (a && b) c (both a b (le-leb (length p.params) 8 h.few_params) (le-leb (length p.params) slots (omega arith))) (le-leb slots 24 b_few)) sound)
     (le-leb (statements_nodes body) 8000 size)
@@ -408,10 +408,10 @@ well_formed is e main small =
           let x = lowered-at ps 0 ps i p at_i in
           let y = lowered-at ps 0 ps j q at_j in
           apart ps [] ps b.0 i j x.tree y.tree less x.there y.there (sym (ap (λ (r : PureProcedure). r.name) x.made) ∙ same ∙ ap (λ (r : PureProcedure). r.name) y.made);
-      procedures_sound = λ i p at_i.
+      procedures_well_formed = λ i p at_i.
           let x = lowered-at ps 0 ps i p at_i in
           let h = sound i x.tree x.there in
-          subst (λ (r : PureProcedure). is_sound_procedure P r ≡ true) (sym x.made)
+          subst (λ (r : PureProcedure). is_well_formed_procedure P r ≡ true) (sym x.made)
           (procedure-sound is main x.tree x.first h (let up = x.high in omega (arith, length-places 0 ps)) (small.small i x.tree x.there h.short));
       products_linear = λ i p at_i.
           let x = lowered-at ps 0 ps i p at_i in

@@ -2,7 +2,8 @@
 use Rattle.std.proofs.Common.{◌≡◌, ℕ, ◌+◌, Bool, true, false, ◌&&◌, ◌||◌, not as not_bool, List, [], ◌∷◌, ◌++◌, length, Option, Some, None, refl, ap, ◌∙◌}
 use Rattle.c_tree.specs.Syntax as program
 use Rattle.c_tree.specs.Syntax.{Expressions, no_expressions, expression, Statement, Statements}
-use Rattle.c_tree.specs.WellFormed.{is_arithmetic, is_product, is_constant, is_linear, are_linear, returns_linear, runs_linear, all_linear}
+use Rattle.c_tree.specs.WellFormed.{is_constant, is_linear, are_linear, returns_linear, runs_linear, all_linear}
+use Rattle.c_tree.specs.Operators.{is_arithmetic, is_product}
 use Rattle.c_tree.specs.SourceTree.{ExpressionTree, literal, name, call, not, negate, plus, binary, ExpressionTrees, no_arguments, argument, SimpleStatement, set, change, add_one, subtract_one, call_statement, Declarator, ForInit, no_init, declaring, starting, StatementTree, block, empty, declare, simple, if_then, if_else, while_loop, do_while, for_loop, break, continue, return, StatementTrees, no_statements, statement, ProcedureTree}
 use Rattle.c_typing.specs.declared.fault.TypeFault.TheVariants.{NotLinear}
 use Rattle.c_typing.specs.Scope.{Scope, Callee, input, assume, assert, defined, unknown, callee_of, with_variable, declared_by, declared_by_init, asserts_by, asserts_by_init, asserts_by_step}

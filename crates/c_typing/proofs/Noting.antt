@@ -5,7 +5,7 @@ use Rattle.c_tree.specs.declared.tree.Pos.{Pos}
 use Rattle.c_tree.specs.declared.syntax_tree.ExprTree.{ExprTree}
 use Rattle.c_tree.specs.declared.tree.Op.{Op}
 use Rattle.c_typing.specs.declared.fault.TypeFault.TheVariants.{NotLinear}
-use Rattle.c_tree.specs.WellFormed.{is_product}
+use Rattle.c_tree.specs.Operators.{is_product}
 use Rattle.c_tree.specs.SourceTree.{Identifier, ProcedureTree, binary}
 use Rattle.c_tree.specs.SourceView.{tree_of, trees_of}
 use Rattle.c_typing.specs.Scope.{Scope, callee_of, if_assert, asserts_of, asserts_of_all}

@@ -4,7 +4,8 @@ use Rattle.std.proofs.lemmas.List.{append-nil}
 use Rattle.c_tree.specs.declared.tree.Pos.{Pos}
 use Rattle.c_tree.specs.Syntax as program
 use Rattle.c_tree.specs.Syntax.{Expressions, Statement, Statements}
-use Rattle.c_tree.specs.WellFormed.{is_product, asserted_by, asserted_in}
+use Rattle.c_tree.specs.WellFormed.{asserted_by, asserted_in}
+use Rattle.c_tree.specs.Operators.{is_product}
 use Rattle.c_tree.specs.SourceTree.{Identifier, SimpleStatement, set, change, add_one, subtract_one, call_statement, Declarator, ForInit, no_init, declaring, starting, StatementTree, block, empty, declare, simple, if_then, if_else, while_loop, do_while, for_loop, break, continue, return, StatementTrees, no_statements, statement, ProcedureTree}
 use Rattle.c_typing.specs.declared.fault.TypeFault.TheVariants.{NotLinear}
 use Rattle.c_typing.specs.Scope.{Scope, Callee, input, assume, assert, defined, unknown, callee_of, with_variable, declared_by, declared_by_init, asserts_of_all, asserts_by_simple, asserts_by_step, asserts_by_declarators, asserts_by_init, asserts_by, asserts_in}

@@ -1,6 +1,6 @@
 -- A tree without faults is quiet and leaves room.
 use Rattle.std.proofs.Common.{◌≡◌, ℕ, ◌+◌, ◌≤◌, zero, suc, Bool, true, false, ◌&&◌, not as not_bool, List, [], ◌∷◌, ◌++◌, length, slice_get, Option, Some, None, refl, arith, length-append}
-use Rattle.c_tree.specs.WellFormed.{is_product}
+use Rattle.c_tree.specs.Operators.{is_product}
 use Rattle.c_tree.specs.SourceTree.{SimpleStatement, set, change, add_one, subtract_one, call_statement, ForInit, no_init, declaring, starting, StatementTree, block, empty, declare, simple, if_then, if_else, while_loop, do_while, for_loop, break, continue, return, StatementTrees, no_statements, statement, ProcedureTree}
 use Rattle.c_typing.specs.declared.fault.TypeFault.TheVariants.{NotLinear}
 use Rattle.c_typing.specs.Scope.{Scope, callee_of, asserts_in, asserts_in_file}

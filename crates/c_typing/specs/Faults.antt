@@ -1,7 +1,7 @@
 -- All faults of a tree. They stand in any order; the one that is told is the first by position.
 use Rattle.std.specs.Prelude.{ℕ, ◌+◌, ◌==◌, Bool, true, false, ◌&&◌, ◌||◌, not as not_bool, List, [], ◌∷◌, ◌++◌, length, Option, Some, None, is_some, is_none, slice_get}
 use Rattle.c_tree.specs.declared.tree.Pos.{Pos}
-use Rattle.c_tree.specs.WellFormed.{is_arithmetic, is_product}
+use Rattle.c_tree.specs.Operators.{is_arithmetic, is_product}
 use Rattle.c_tree.specs.SourceTree.{Identifier, ExpressionTree, literal, name, call, not, negate, plus, binary, ExpressionTrees, no_arguments, argument, SimpleStatement, set, change, add_one, subtract_one, call_statement, Declarator, ForInit, no_init, declaring, starting, StatementTree, block, empty, declare, simple, if_then, if_else, while_loop, do_while, for_loop, break, continue, return, StatementTrees, no_statements, statement, ProcedureTree, FileItem, prototype, procedure}
 use Rattle.c_typing.specs.declared.fault.TypeFault.{TypeFault}
 use Rattle.c_typing.specs.declared.fault.TypeFault.TheVariants.{UnknownName, Duplicate, WrongCount, VoidValue, NotLinear, MainShape, OutsideLoop, OverLimit}

@@ -2,7 +2,7 @@
 
 ghost use Rattle.std.specs.Prelude.{◌≡◌, [], ◌∷◌, ◌++◌, ◌&&◌, ◌||◌, not, map, length, OnOk, IfOk};
 ghost use Rattle.c_typing.specs.declared.fault.TypeFault.TheVariants.{NotLinear, Duplicate};
-ghost use Rattle.c_tree.specs.WellFormed.{is_arithmetic, is_product};
+ghost use Rattle.c_tree.specs.Operators.{is_arithmetic, is_product};
 ghost use Rattle.c_tree.specs.SourceView.{identifier_of, tree_of, trees_of, optional_tree, simple_of, optional_simple, declarator_of, init_of};
 ghost use Rattle.c_typing.specs.Scope.{callee_of, if_assert, asserts_of, asserts_of_all, asserts_of_optional, asserts_by_simple, asserts_by_step, asserts_by_declarators, asserts_by_init, is_declared_here, is_built_in, with_variable, names_of, declared_by_init};
 ghost use Rattle.c_typing.specs.Faults.{fault_if, is_constant, callee_faults, name_faults, expression_faults, arguments_faults, optional_faults, simple_faults, step_faults, declared_faults, declarators_faults, init_faults};

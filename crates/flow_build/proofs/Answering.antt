@@ -10,7 +10,7 @@ use Rattle.c_tree.specs.declared.tree.Expr.TheVariants.{Literal, Read, Input, Ca
 use Rattle.c_tree.specs.View.{expression_of}
 use Rattle.c_tree.specs.Syntax.{Expression}
 use Rattle.c_tree.specs.Meaning.{is_value}
-use Rattle.c_tree.specs.WellFormed.{is_arithmetic}
+use Rattle.c_tree.specs.Operators.{is_arithmetic}
 use Rattle.flow_build.specs.declared.operand.Operand.{Operand}
 use Rattle.flow_build.specs.declared.operand.Operand.TheVariants.{Variable, Constant}
 use Rattle.flow_build.specs.Forms.{Value, Test}

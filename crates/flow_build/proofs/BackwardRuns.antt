@@ -2,11 +2,11 @@
 use Rattle.std.proofs.Common.{◌≡◌, ℕ, zero, suc, List, [], ◌∷◌, false, Some, ℤ, refl, sym, subst}
 use Rattle.std.specs.Prelude.{slice_get}
 use Rattle.c_tree.specs.Syntax.{block, PureProcedure, PureProgram}
-use Rattle.c_tree.specs.Meaning.{World, Progress, goes, ends, stopped as source_stopped, failed as source_failed, starved, spent, Flow, normal, broken, continued, returned, Gives, Then, Callee, Execs, entered, returned_value, Enters as SourceEnters, Run, Outcome, Returned, Stopped, Failed, uncounted, Runs}
+use Rattle.c_tree.specs.Meaning.{World, Progress, goes, ends, stopped as source_stopped, failed as source_failed, starved, spent, Flow, normal, broken, continued, returned, Gives, Then, Callee, Execs, entered, returned_value, Enters, Run, Outcome, Returned, Stopped, Failed, uncounted, Runs}
 use Rattle.flow_graph.specs.declared.graph.Edge.{Edge}
 use Rattle.flow_graph.specs.declared.graph.Edge.TheVariants.{Entry}
 use Rattle.flow_graph.specs.declared.graph.Graph.{Graph}
-use Rattle.flow_graph.specs.Runs.{End, came, inside, Called, Ends, Enters, GraphRun, GraphRuns}
+use Rattle.flow_graph.specs.Runs.{End, came, inside, Called, EndsIn, EntersGraph, GraphRun, GraphRuns}
 use Rattle.flow_build.specs.Blocks.{end_node, entry_node, body_node, first_free}
 use Rattle.flow_build.specs.Procedures.{procedure_blocks, procedure_edges, IsGraphOf, AreGraphsOf}
 use Rattle.flow_build.specs.Outcomes.{end_of}
@@ -18,8 +18,8 @@ use Rattle.flow_build.proofs.Coming.{le_self, Hears, Heard, Covers, Comes, then_
 use Rattle.flow_build.proofs.BackwardStatements.{BehindFlow, exec_comes, zero_returned}
 
 -- The graph of a number is its procedure's.
-graph_at : (C : Called) (procedures : List PureProcedure) (gs : List Graph) → AreGraphsOf procedures gs → (i : ℕ) (args ins rest : List ℤ) (e : End) → Enters C (slice_get gs i) args ins rest e
-    → (p : PureProcedure) × (g : Graph) × (slice_get procedures i ≡ Some p) × IsGraphOf p g × Enters C (Some g) args ins rest e
+graph_at : (C : Called) (procedures : List PureProcedure) (gs : List Graph) → AreGraphsOf procedures gs → (i : ℕ) (args ins rest : List ℤ) (e : End) → EntersGraph C (slice_get gs i) args ins rest e
+    → (p : PureProcedure) × (g : Graph) × (slice_get procedures i ≡ Some p) × IsGraphOf p g × EntersGraph C (Some g) args ins rest e
 graph_at C [] [] are i args ins rest e h = absurd h
 graph_at C [] (g ∷ gs) are i args ins rest e h = absurd are
 graph_at C (p ∷ ps) [] are i args ins rest e h = absurd are
@@ -46,7 +46,7 @@ module _ (C : Called) (rest : List ℤ) (end : End) (p : PureProcedure) (at : At
   flow_closes D hears K w (continued s) b = zero_returned C edges rest end p.gives p.slots D hears p.slots (le_self p.slots) at.1.1.0 b.3.0 end_node b.0 w.inputs at.1.0 b.3.2
   flow_closes D hears K w (returned v) b = b
 
-  procedure_comes : (D : Callee) → Hears C D → AllPlain p.slots p.body → (args : List ℤ) → IsArguments args → (w : World) (k : ℕ) → Ends C edges k (inside entry_node (entered args)) w.inputs rest end
+  procedure_comes : (D : Callee) → Hears C D → AllPlain p.slots p.body → (args : List ℤ) → IsArguments args → (w : World) (k : ℕ) → EndsIn C edges k (inside entry_node (entered args)) w.inputs rest end
       → Comes C edges rest end (Then (Execs false D p.body (entered args)) (λ f. Gives (returned_value p.gives f))) w Closes
   procedure_comes D hears plain args ok w k h =
       let σ = entered args in
@@ -75,10 +75,10 @@ module _ (P : PureProgram) (gs : List Graph) (graphs : AreGraphsOf P.procedures 
       let p = c.0 in
       let run = c.4 in
       let first = subst (λ es. slice_get es 0 ≡ Some (Entry run.0 run.1)) c.3.edges run.3 in
-      let start = subst (λ es. Ends C es run.2 (inside run.0 (entered args)) w.inputs mid e) c.3.edges run.4 in
-      let start' = subst (λ n. Ends C (procedure_edges p) run.2 (inside n (entered args)) w.inputs mid e) (entry_leads p run.1 run.0 first) start in
+      let start = subst (λ es. EndsIn C es run.2 (inside run.0 (entered args)) w.inputs mid e) c.3.edges run.4 in
+      let start' = subst (λ n. EndsIn C (procedure_edges p) run.2 (inside n (entered args)) w.inputs mid e) (entry_leads p run.1 run.0 first) start in
       let r = procedure_comes C mid e p (at p) D hears (plain i p c.2) args ok w run.2 start' in
-      (r.0, subst (λ o. SourceEnters false D o args w r.0) (sym c.2) r.1, heard_from C mid e p (at p) r.0 r.2)
+      (r.0, subst (λ o. Enters false D o args w r.0) (sym c.2) r.1, heard_from C mid e p (at p) r.0 r.2)
 
   pub run_heard : (d : ℕ) → Hears (GraphRun gs d) (Run false P d)
   run_heard zero = record { good = λ i args w mid e ok h. absurd h; result = λ i args w mid e ok h. absurd h }

@@ -1,10 +1,10 @@
 -- From an end of the graph to a result of the source: statements.
 use Rattle.std.proofs.Common.{◌≡◌, ℕ, zero, suc, ◌+◌, ◌<◌, ◌≤◌, List, [], ◌∷◌, Bool, true, false, cond, Some, None, ℤ, pos, IsTrue, refl, sym, ap, ◌∙◌, subst, arith}
 use Rattle.c_tree.specs.Syntax.{Expression, Statement, block, set, ignore, assume, assert, if_else, loop, do_while, break, continue, return, Statements, no_statements, statement}
-use Rattle.c_tree.specs.Meaning.{State, with_slot, World, Progress, goes, ends, stopped as source_stopped, failed as source_failed, Flow, normal, broken, continued, returned, Relation, Gives, Ends as SourceEnds, Onward, Then, Choice, is_value, is_zero, Callee, Eval, AfterNormal, AfterBody, Turns, DoTurns, Exec, Execs}
+use Rattle.c_tree.specs.Meaning.{State, with_slot, World, Progress, goes, ends, stopped as source_stopped, failed as source_failed, Flow, normal, broken, continued, returned, Relation, Gives, Ends, Onward, Then, Choice, is_value, is_zero, Callee, Eval, AfterNormal, AfterBody, Turns, DoTurns, Exec, Execs}
 use Rattle.flow_graph.specs.declared.graph.Edge.{Edge}
 use Rattle.flow_graph.specs.declared.graph.Edge.TheVariants.{Assign, Guard, Return}
-use Rattle.flow_graph.specs.Runs.{End, came, inside, Called, Ends, lin_value}
+use Rattle.flow_graph.specs.Runs.{End, came, inside, Called, EndsIn, lin_value}
 use Rattle.flow_build.specs.declared.target.Target.{Target}
 use Rattle.flow_build.specs.declared.target.Target.TheVariants.{Node, Fails, Nowhere}
 use Rattle.flow_build.specs.Translation.{value_of, test_of}
@@ -135,7 +135,7 @@ module _ (C : Called) (g : List Edge) (rest : List ℤ) (end : End) (gives : Boo
   -- what is proved of statements
   abbrev pub RunComes : (State → Relation Flow) → (from to brk con : ℕ) → Type 0
   RunComes S from to brk con =
-      (s σ : State) → Matches vars σ s → HasValues σ → (w : World) (K k : ℕ) → k ≤ K → Ends C g k (inside from σ) w.inputs rest end
+      (s σ : State) → Matches vars σ s → HasValues σ → (w : World) (K k : ℕ) → k ≤ K → EndsIn C g k (inside from σ) w.inputs rest end
       → Comes C g rest end (S s) w (BehindFlow K to brk con)
 
   wider : (j K n : ℕ) (w : World) (s : State) → j ≤ K → StandsAt j n w s → StandsAt K n w s
@@ -163,7 +163,7 @@ module _ (C : Called) (g : List Edge) (rest : List ℤ) (end : End) (gives : Boo
   module _ (D : Callee) (t : ℕ) (low : vars ≤ t) where
     -- what follows a test of the source
     decided_comes : (e : Expression) (from : ℕ) (met unmet : Target) (lo : ℕ) → IsPlain vars e → TestComes C g rest end D vars (test_of e) from met unmet t lo
-        → (P Q : Relation Flow) (L : World → Flow → Type 0) (s σ : State) → Matches vars σ s → HasValues σ → (w : World) (K k : ℕ) → k ≤ K → Ends C g k (inside from σ) w.inputs rest end
+        → (P Q : Relation Flow) (L : World → Flow → Type 0) (s σ : State) → Matches vars σ s → HasValues σ → (w : World) (K k : ℕ) → k ≤ K → EndsIn C g k (inside from σ) w.inputs rest end
         → ((w1 : World) (σ1 : State) → Matches vars σ1 s → HasValues σ1 → Led C g rest end K unmet σ1 w1.inputs → Comes C g rest end P w1 L)
         → ((w1 : World) (σ1 : State) → Matches vars σ1 s → HasValues σ1 → Led C g rest end K met σ1 w1.inputs → Comes C g rest end Q w1 L)
         → Comes C g rest end (Then (Eval false D e s) (λ v. Choice (is_zero v) P Q)) w L
@@ -184,7 +184,7 @@ module _ (C : Called) (g : List Edge) (rest : List ℤ) (end : End) (gives : Boo
 
       loop_comes : (bound from lo lo2 : ℕ) → TestComes C g rest end D vars (test_of e) from (Node lo) (Node to) t lo2
           → RunComes B lo (lo + 1) to (lo + 1) → RunComes S (lo + 1) from to from
-          → (s σ : State) → Matches vars σ s → HasValues σ → (w : World) (K k : ℕ) → k < bound → k ≤ K → Ends C g k (inside from σ) w.inputs rest end
+          → (s σ : State) → Matches vars σ s → HasValues σ → (w : World) (K k : ℕ) → k < bound → k ≤ K → EndsIn C g k (inside from σ) w.inputs rest end
           → Comes C g rest end (Looping s) w (BehindFlow K to brk con)
       loop_comes zero from lo lo2 test body step s σ m vals w K k lt le h = absurd (none_below k lt)
       loop_comes (suc bound) from lo lo2 test body step s σ m vals w K k lt le h =
@@ -205,7 +205,7 @@ module _ (C : Called) (g : List Edge) (rest : List ℤ) (end : End) (gives : Boo
       DoLooping = DoLoops D (Eval false D e) B
 
       do_comes : (bound from lo lo2 : ℕ) → RunComes B from lo to lo → TestComes C g rest end D vars (test_of e) lo (Node from) (Node to) t lo2
-          → (s σ : State) → Matches vars σ s → HasValues σ → (w : World) (K k : ℕ) → k < bound → k ≤ K → Ends C g k (inside from σ) w.inputs rest end
+          → (s σ : State) → Matches vars σ s → HasValues σ → (w : World) (K k : ℕ) → k < bound → k ≤ K → EndsIn C g k (inside from σ) w.inputs rest end
           → Comes C g rest end (DoLooping s) w (BehindFlow K to brk con)
       do_comes zero from lo lo2 body test s σ m vals w K k lt le h = absurd (none_below k lt)
       do_comes (suc bound) from lo lo2 body test s σ m vals w K k lt le h =
@@ -222,7 +222,7 @@ module _ (C : Called) (g : List Edge) (rest : List ℤ) (end : End) (gives : Boo
 
   module _ (D : Callee) (hears : Hears C D) (t : ℕ) (low : vars ≤ t) (returning : out return_node g ≡ Return return_node exit_node t ∷ []) where
     -- 0 is returned
-    pub zero_returned : (k n : ℕ) (σ : State) (ins : List ℤ) → out n g ≡ Assign n return_node t (constant_lin (pos 0)) ∷ [] → Ends C g k (inside n σ) ins rest end → (end ≡ came (pos 0 ∷ [])) × (rest ≡ ins)
+    pub zero_returned : (k n : ℕ) (σ : State) (ins : List ℤ) → out n g ≡ Assign n return_node t (constant_lin (pos 0)) ∷ [] → EndsIn C g k (inside n σ) ins rest end → (end ≡ came (pos 0 ∷ [])) × (rest ≡ ins)
     zero_returned k n σ ins h f =
         let z = lin_value σ (constant_lin (pos 0)) in
         let is : z ≡ pos 0 = constant_is σ (pos 0) in
@@ -230,7 +230,7 @@ module _ (C : Called) (g : List Edge) (rest : List ℤ) (end : End) (gives : Boo
         let r = over_return C g rest end b.0 return_node t (with_slot σ t z) ins returning b.2 in
         (r.0 ∙ ap (λ y. came (y ∷ [])) (slot_there σ t z ∙ is), r.1)
 
-    over_result : (b : Bool) (k n slot : ℕ) (σ : State) (ins : List ℤ) → out n g ≡ return_edge b n slot t ∷ [] → Ends C g k (inside n σ) ins rest end → (end ≡ came (cond b (σ slot) (pos 0) ∷ [])) × (rest ≡ ins)
+    over_result : (b : Bool) (k n slot : ℕ) (σ : State) (ins : List ℤ) → out n g ≡ return_edge b n slot t ∷ [] → EndsIn C g k (inside n σ) ins rest end → (end ≡ came (cond b (σ slot) (pos 0) ∷ [])) × (rest ≡ ins)
     over_result true k n slot σ ins h f = over_return C g rest end k n slot σ ins h f
     over_result false k n slot σ ins h f = zero_returned k n σ ins h f
 
@@ -267,13 +267,13 @@ module _ (C : Called) (g : List Edge) (rest : List ℤ) (end : End) (gives : Boo
 
     assume_comes : (e : Expression) (from to brk con lo : ℕ) → IsPlain vars e → At g (statement_blocks gives t (assume e) from to brk con lo) → RunComes (Exec false D (assume e)) from to brk con
     assume_comes e from to brk con lo plain at s σ m vals w K k le h =
-        decided_comes D t low e from (Node to) Nowhere lo plain (tested e from (Node to) Nowhere lo plain at) (SourceEnds source_stopped) (Gives (normal s)) (BehindFlow K to brk con) s σ m vals w K k le h
+        decided_comes D t low e from (Node to) Nowhere lo plain (tested e from (Node to) Nowhere lo plain at) (Ends source_stopped) (Gives (normal s)) (BehindFlow K to brk con) s σ m vals w K k le h
         (λ w1 σ1 m1 vals1 led. (ends w1 source_stopped, refl, led))
         (λ w1 σ1 m1 vals1 led. (goes w1 (normal s), refl, (σ1, m1, vals1, within C g rest end K (inside to σ1) w1.inputs led)))
 
     assert_comes : (id : ℕ) (e : Expression) (from to brk con lo : ℕ) → IsPlain vars e → At g (statement_blocks gives t (assert id e) from to brk con lo) → RunComes (Exec false D (assert id e)) from to brk con
     assert_comes id e from to brk con lo plain at s σ m vals w K k le h =
-        decided_comes D t low e from (Node to) (Fails id) lo plain (tested e from (Node to) (Fails id) lo plain at) (SourceEnds (source_failed id)) (Gives (normal s)) (BehindFlow K to brk con) s σ m vals w K k le h
+        decided_comes D t low e from (Node to) (Fails id) lo plain (tested e from (Node to) (Fails id) lo plain at) (Ends (source_failed id)) (Gives (normal s)) (BehindFlow K to brk con) s σ m vals w K k le h
         (λ w1 σ1 m1 vals1 led. (ends w1 (source_failed id), refl, led))
         (λ w1 σ1 m1 vals1 led. (goes w1 (normal s), refl, (σ1, m1, vals1, within C g rest end K (inside to σ1) w1.inputs led)))
 
@@ -298,7 +298,7 @@ module _ (C : Called) (g : List Edge) (rest : List ℤ) (end : End) (gives : Boo
         (goes w1 (returned z), refl, (r.0 ∙ ap (λ y. came (cond gives y (pos 0) ∷ [])) is, r.1))) in
         (c.0, (by_result vars D e s (λ z. Gives (returned z)) plain).back w c.0 c.1, c.2)
 
-    skip_stands : (K k from n : ℕ) (s σ : State) (w : World) → out from g ≡ Guard from n (record { atoms = [] }) ∷ [] → Matches vars σ s → HasValues σ → k ≤ K → Ends C g k (inside from σ) w.inputs rest end → StandsAt K n w s
+    skip_stands : (K k from n : ℕ) (s σ : State) (w : World) → out from g ≡ Guard from n (record { atoms = [] }) ∷ [] → Matches vars σ s → HasValues σ → k ≤ K → EndsIn C g k (inside from σ) w.inputs rest end → StandsAt K n w s
     skip_stands K k from n s σ w h m vals le f = (σ, m, vals, within C g rest end K (inside n σ) w.inputs (over_skip C g rest end K k from n σ w.inputs h le f))
 
     mutual
@@ -342,7 +342,7 @@ module _ (C : Called) (g : List Edge) (rest : List ℤ) (end : End) (gives : Boo
 
       pub execs_come : (ss : Statements) (from to brk con lo : ℕ) → Begins ss from to → AllPlain vars ss → At g (statements_blocks gives t ss from to brk con lo) → RunComes (Execs false D ss) from to brk con
       execs_come no_statements from to brk con lo begins plain at s σ m vals w K k le h =
-          (goes w (normal s), refl, (σ, m, vals, (k, le, subst (λ n. Ends C g k (inside n σ) w.inputs rest end) begins h)))
+          (goes w (normal s), refl, (σ, m, vals, (k, le, subst (λ n. EndsIn C g k (inside n σ) w.inputs rest end) begins h)))
       execs_come (statement a ss) from to brk con lo begins plain at s σ m vals w K k le h =
           let n = between ss to lo in
           let l = lo + nodes_between ss in

@@ -1,11 +1,11 @@
 -- From an end of the graph to a result of the source: values, arguments and tests.
 use Rattle.std.proofs.Common.{◌≡◌, ℕ, ◌+◌, ◌≤◌, List, [], ◌∷◌, Bool, true, false, not, cond, ℤ, pos, ◌+ℤ◌, ◌-ℤ◌, ◌*ℤ◌, IsTrue, refl, sym, ap, ◌∙◌, subst, inl, inr, arith, map}
 use Rattle.c_tree.specs.declared.tree.Op.{Op}
-use Rattle.c_tree.specs.Meaning.{State, with_slot, World, Progress, goes, ends, stopped as source_stopped, Relation, Gives, Ends as SourceEnds, Then, Choice, is_value, ExactOrStopped, TakesInput, bit, Callee}
+use Rattle.c_tree.specs.Meaning.{State, with_slot, World, Progress, goes, ends, stopped as source_stopped, Relation, Gives, Ends, Then, Choice, is_value, ExactOrStopped, TakesInput, bit, Callee}
 use Rattle.flow_graph.specs.declared.graph.Edge.{Edge}
 use Rattle.flow_graph.specs.declared.graph.Edge.TheVariants.{Assign, Call, Input}
 use Rattle.flow_graph.specs.declared.graph.Lin.{Lin}
-use Rattle.flow_graph.specs.Runs.{End, inside, Called, Ends, lin_value}
+use Rattle.flow_graph.specs.Runs.{End, inside, Called, EndsIn, lin_value}
 use Rattle.flow_build.specs.declared.operand.Operand.{Operand}
 use Rattle.flow_build.specs.declared.operand.Operand.TheVariants.{Variable}
 use Rattle.flow_build.specs.declared.target.Target.{Target}
@@ -36,25 +36,25 @@ module _ (C : Called) (g : List Edge) (rest : List ℤ) (end : End) where
   BehindTest K met unmet t σ w b = (σ' : State) × Keeps t σ σ' × HasValues σ' × Led C g rest end K (cond b met unmet) σ' w.inputs
 
   -- the exact value, assigned to the slot
-  exact_comes : (K k n to t : ℕ) (l : Lin) (z : ℤ) (σ σ0 : State) (w : World) → out n g ≡ Assign n to t l ∷ [] → lin_value σ l ≡ z → Keeps t σ0 σ → HasValues σ → k ≤ K → Ends C g k (inside n σ) w.inputs rest end → Comes C g rest end (ExactOrStopped z) w (Behind K to (Variable t) t σ0)
+  exact_comes : (K k n to t : ℕ) (l : Lin) (z : ℤ) (σ σ0 : State) (w : World) → out n g ≡ Assign n to t l ∷ [] → lin_value σ l ≡ z → Keeps t σ0 σ → HasValues σ → k ≤ K → EndsIn C g k (inside n σ) w.inputs rest end → Comes C g rest end (ExactOrStopped z) w (Behind K to (Variable t) t σ0)
   exact_comes K k n to t l z σ σ0 w h e keep vals le f = on (over_assign C g rest end K k n to t l σ w.inputs h le f)
     where
       on : Assigned C g rest end K to t l σ w.inputs → Comes C g rest end (ExactOrStopped z) w (Behind K to (Variable t) t σ0)
       on (inl y) = (
         goes w z,
-        subst (λ b. Choice b (Gives z) (SourceEnds source_stopped) w (goes w z)) (sym (ap is_value (sym e) ∙ y.0)) refl,
+        subst (λ b. Choice b (Gives z) (Ends source_stopped) w (goes w z)) (sym (ap is_value (sym e) ∙ y.0)) refl,
         (with_slot σ t (lin_value σ l), keeps_on t t σ0 σ (with_slot σ t (lin_value σ l)) (le_self t) keep (keeps_with t t σ (lin_value σ l) (le_self t)), values_with σ t (lin_value σ l) vals y.0, slot_there σ t (lin_value σ l) ∙ e, within C g rest end K (inside to (with_slot σ t (lin_value σ l))) w.inputs y.1),
       )
-      on (inr n) = (ends w source_stopped, subst (λ b. Choice b (Gives z) (SourceEnds source_stopped) w (ends w source_stopped)) (sym (ap is_value (sym e) ∙ n.0)) refl, n.1)
+      on (inr n) = (ends w source_stopped, subst (λ b. Choice b (Gives z) (Ends source_stopped) w (ends w source_stopped)) (sym (ap is_value (sym e) ∙ n.0)) refl, n.1)
 
   -- what is a value, assigned to the slot
-  gives_comes : (K k n to t : ℕ) (l : Lin) (z : ℤ) (σ σ0 : State) (w : World) → out n g ≡ Assign n to t l ∷ [] → lin_value σ l ≡ z → IsTrue (is_value z) → Keeps t σ0 σ → HasValues σ → k ≤ K → Ends C g k (inside n σ) w.inputs rest end → Comes C g rest end (Gives z) w (Behind K to (Variable t) t σ0)
+  gives_comes : (K k n to t : ℕ) (l : Lin) (z : ℤ) (σ σ0 : State) (w : World) → out n g ≡ Assign n to t l ∷ [] → lin_value σ l ≡ z → IsTrue (is_value z) → Keeps t σ0 σ → HasValues σ → k ≤ K → EndsIn C g k (inside n σ) w.inputs rest end → Comes C g rest end (Gives z) w (Behind K to (Variable t) t σ0)
   gives_comes K k n to t l z σ σ0 w h e ok keep vals le f =
       let ok' = subst (λ y. IsTrue (is_value y)) (sym e) ok in
       let σ1 = with_slot σ t (lin_value σ l) in
       (goes w z, refl, (σ1, keeps_on t t σ0 σ σ1 (le_self t) keep (keeps_with t t σ (lin_value σ l) (le_self t)), values_with σ t (lin_value σ l) vals ok', slot_there σ t (lin_value σ l) ∙ e, within C g rest end K (inside to σ1) w.inputs (over_value C g rest end K k n to t l σ w.inputs h ok' le f)))
 
-  input_comes : (K k n to t : ℕ) (σ : State) (w : World) → out n g ≡ Input n to t ∷ [] → HasValues σ → k ≤ K → Ends C g k (inside n σ) w.inputs rest end → Comes C g rest end (λ w o. TakesInput w.inputs w o) w (Behind K to (Variable t) t σ)
+  input_comes : (K k n to t : ℕ) (σ : State) (w : World) → out n g ≡ Input n to t ∷ [] → HasValues σ → k ≤ K → EndsIn C g k (inside n σ) w.inputs rest end → Comes C g rest end (λ w o. TakesInput w.inputs w o) w (Behind K to (Variable t) t σ)
   input_comes K k n to t σ w h vals le f =
       let c = over_input C g rest end K k n to t σ w.inputs h le f in
       let v = c.0 in
@@ -66,23 +66,23 @@ module _ (C : Called) (g : List Edge) (rest : List ℤ) (end : End) where
     -- what is proved of values, arguments and tests
     abbrev pub ValueComes : Value → (from t lo : ℕ) → Type 0
     ValueComes v from t lo =
-        (s σ : State) → Matches vars σ s → HasValues σ → (w : World) (K k : ℕ) → k ≤ K → Ends C g k (inside from σ) w.inputs rest end
+        (s σ : State) → Matches vars σ s → HasValues σ → (w : World) (K k : ℕ) → k ≤ K → EndsIn C g k (inside from σ) w.inputs rest end
         → Comes C g rest end (Yields D v s) w (Behind K (landing v from lo) (operand_at v t) t σ)
 
     abbrev pub ValuesCome : Values → (from t lo : ℕ) → Type 0
     ValuesCome vs from t lo =
-        (s σ : State) → Matches vars σ s → HasValues σ → (w : World) (K k : ℕ) → k ≤ K → Ends C g k (inside from σ) w.inputs rest end
+        (s σ : State) → Matches vars σ s → HasValues σ → (w : World) (K k : ℕ) → k ≤ K → EndsIn C g k (inside from σ) w.inputs rest end
         → Comes C g rest end (YieldsAll D vs s) w (BehindAll K (landing_of_all vs from lo) t vs σ)
 
     abbrev pub TestComes : Test → (from : ℕ) (met unmet : Target) (t lo : ℕ) → Type 0
     TestComes c from met unmet t lo =
-        (s σ : State) → Matches vars σ s → HasValues σ → (w : World) (K k : ℕ) → k ≤ K → Ends C g k (inside from σ) w.inputs rest end
+        (s σ : State) → Matches vars σ s → HasValues σ → (w : World) (K k : ℕ) → k ≤ K → EndsIn C g k (inside from σ) w.inputs rest end
         → Comes C g rest end (Decides D c s) w (BehindTest K met unmet t σ)
 
     -- one side's value, and what is done with it
     one_comes : {A : Type 0} (v : Value) (from t lo : ℕ) (F : ℤ → Relation A) (L : World → A → Type 0) → ValueComes v from t lo
-        → (s σ : State) → Matches vars σ s → HasValues σ → (w : World) (K k : ℕ) → k ≤ K → Ends C g k (inside from σ) w.inputs rest end
-        → ((w1 : World) (σ1 : State) (x : ℤ) (j : ℕ) → Keeps t σ σ1 → HasValues σ1 → operand_value σ1 (operand_at v t) ≡ x → j ≤ K → Ends C g j (inside (landing v from lo) σ1) w1.inputs rest end → Comes C g rest end (F x) w1 L)
+        → (s σ : State) → Matches vars σ s → HasValues σ → (w : World) (K k : ℕ) → k ≤ K → EndsIn C g k (inside from σ) w.inputs rest end
+        → ((w1 : World) (σ1 : State) (x : ℤ) (j : ℕ) → Keeps t σ σ1 → HasValues σ1 → operand_value σ1 (operand_at v t) ≡ x → j ≤ K → EndsIn C g j (inside (landing v from lo) σ1) w1.inputs rest end → Comes C g rest end (F x) w1 L)
         → Comes C g rest end (Then (Yields D v s) F) w L
     one_comes v from t lo F L comes s σ m vals w K k le h next =
         then_comes C g rest end (Yields D v s) F w (Behind K (landing v from lo) (operand_at v t) t σ) L (comes s σ m vals w K k le h)
@@ -91,9 +91,9 @@ module _ (C : Called) (g : List Edge) (rest : List ℤ) (end : End) where
     -- both sides' values, and what is done with them
     both_come : {A : Type 0} (v u : Value) (from t lo : ℕ) (F : ℤ → ℤ → Relation A) (L : World → A → Type 0) → vars ≤ t → FitsValue vars v
         → ValueComes v from t lo → ValueComes u (landing v from lo) (t + slots_of v) (lo + nodes_of v)
-        → (s σ : State) → Matches vars σ s → HasValues σ → (w : World) (K k : ℕ) → k ≤ K → Ends C g k (inside from σ) w.inputs rest end
+        → (s σ : State) → Matches vars σ s → HasValues σ → (w : World) (K k : ℕ) → k ≤ K → EndsIn C g k (inside from σ) w.inputs rest end
         → ((w2 : World) (σ2 : State) (x y : ℤ) (j : ℕ) → Keeps t σ σ2 → HasValues σ2 → operand_value σ2 (operand_at v t) ≡ x → operand_value σ2 (operand_at u (t + slots_of v)) ≡ y
-        → j ≤ K → Ends C g j (inside (landing u (landing v from lo) (lo + nodes_of v)) σ2) w2.inputs rest end → Comes C g rest end (F x y) w2 L)
+        → j ≤ K → EndsIn C g j (inside (landing u (landing v from lo) (lo + nodes_of v)) σ2) w2.inputs rest end → Comes C g rest end (F x y) w2 L)
         → Comes C g rest end (Then (Yields D v s) (λ x. Then (Yields D u s) (F x))) w L
     both_come v u from t lo F L low fits first second s σ m vals w K k le h next =
         let t2 = t + slots_of v in

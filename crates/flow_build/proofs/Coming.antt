@@ -8,14 +8,15 @@ use Rattle.linear_formula.specs.declared.formula.Atom.{Atom}
 use Rattle.flow_graph.specs.declared.graph.Edge.{Edge}
 use Rattle.flow_graph.specs.declared.graph.Edge.TheVariants.{Assign, Guard, Input, Call, Assert, Return}
 use Rattle.flow_graph.specs.declared.graph.Lin.{Lin}
-use Rattle.flow_graph.specs.Runs.{End, came, stopped, failed, Place, inside, left, failing, halted, Called, Step, Ends, lin_value, after_call}
+use Rattle.flow_graph.specs.Runs.{End, came, stopped, failed, Place, inside, left, failing, halted, Called, Step, EndsIn, lin_value, after_call}
 use Rattle.flow_graph.specs.Shapes.{is_call}
 use Rattle.flow_build.specs.declared.operand.Operand.{Operand}
 use Rattle.flow_build.specs.declared.target.Target.{Target}
 use Rattle.flow_build.specs.declared.target.Target.TheVariants.{Node, Fails, Nowhere}
 use Rattle.flow_build.specs.Operands.{rows_where, opposite_op}
 use Rattle.flow_build.specs.Blocks.{ways, exit_node, fail_node}
-use Rattle.flow_build.proofs.FormMeaning.{comparison, is_comparison}
+use Rattle.flow_build.proofs.FormMeaning.{comparison}
+use Rattle.c_tree.specs.Operators.{is_comparison}
 use Rattle.flow_build.proofs.Outgoing.{out, Member}
 use Rattle.flow_build.proofs.Moves.{Went, went}
 use Rattle.flow_build.proofs.Slots.{IsArguments, operand_value}
@@ -80,10 +81,10 @@ module _ (C : Called) (g : List Edge) (rest : List ℤ) (end : End) where
 
   -- fewer than K edges from a place, and at most K
   abbrev pub Before : ℕ → Place → List ℤ → Type 0
-  Before K a ins = (j : ℕ) × (j < K) × Ends C g j a ins rest end
+  Before K a ins = (j : ℕ) × (j < K) × EndsIn C g j a ins rest end
 
   abbrev pub Within : ℕ → Place → List ℤ → Type 0
-  Within K a ins = (j : ℕ) × (j ≤ K) × Ends C g j a ins rest end
+  Within K a ins = (j : ℕ) × (j ≤ K) × EndsIn C g j a ins rest end
 
   pub within : (K : ℕ) (a : Place) (ins : List ℤ) → Before K a ins → Within K a ins
   within K a ins h = (h.0, lt_le h.0 K h.1, h.2)
@@ -91,19 +92,19 @@ module _ (C : Called) (g : List Edge) (rest : List ℤ) (end : End) where
   abbrev pub Stops : List ℤ → Type 0
   Stops ins = (end ≡ stopped) × (rest ≡ ins)
 
-  before : (K k j : ℕ) (a b : Place) (ins mid : List ℤ) → k ≤ K → k ≡ suc j → b ≡ a → mid ≡ ins → Ends C g j b mid rest end → Before K a ins
+  before : (K k j : ℕ) (a b : Place) (ins mid : List ℤ) → k ≤ K → k ≡ suc j → b ≡ a → mid ≡ ins → EndsIn C g j b mid rest end → Before K a ins
   before K k j a b ins mid le e p q h =
-      (j, at_most_by_one j k K e le, subst (λ x. Ends C g j x ins rest end) p (subst (λ x. Ends C g j b x rest end) q h))
+      (j, at_most_by_one j k K e le, subst (λ x. EndsIn C g j x ins rest end) p (subst (λ x. EndsIn C g j b x rest end) q h))
 
-  over_left : (j : ℕ) (vs ins : List ℤ) → Ends C g j (left vs) ins rest end → (end ≡ came vs) × (rest ≡ ins)
+  over_left : (j : ℕ) (vs ins : List ℤ) → EndsIn C g j (left vs) ins rest end → (end ≡ came vs) × (rest ≡ ins)
   over_left zero vs ins h = (h.0, h.1)
   over_left (suc j) vs ins h = absurd h.2
 
-  over_halt : (j : ℕ) (ins : List ℤ) → Ends C g j halted ins rest end → (end ≡ stopped) × (rest ≡ ins)
+  over_halt : (j : ℕ) (ins : List ℤ) → EndsIn C g j halted ins rest end → (end ≡ stopped) × (rest ≡ ins)
   over_halt zero ins h = (h.0, h.1)
   over_halt (suc j) ins h = absurd h.2
 
-  over_fail : (j id : ℕ) (σ : State) (ins : List ℤ) → Ends C g j (failing id σ) ins rest end → (end ≡ failed id) × (rest ≡ ins)
+  over_fail : (j id : ℕ) (σ : State) (ins : List ℤ) → EndsIn C g j (failing id σ) ins rest end → (end ≡ failed id) × (rest ≡ ins)
   over_fail zero id σ ins h = (h.0, h.1)
   over_fail (suc j) id σ ins h = absurd h.2
 
@@ -112,12 +113,12 @@ module _ (C : Called) (g : List Edge) (rest : List ℤ) (end : End) where
   Blocked e σ = (is_call e ≡ false) × ((ins rest : List ℤ) (b : Place) → Step C e σ ins b rest → ⊥)
 
   -- over the one edge that leaves a node
-  over_one : (P : Type 0) (k n : ℕ) (e : Edge) (σ : State) (ins : List ℤ) → out n g ≡ e ∷ [] → Ends C g k (inside n σ) ins rest end
-      → ((j : ℕ) (b : Place) (mid : List ℤ) → k ≡ suc j → Step C e σ ins b mid → Ends C g j b mid rest end → P)
+  over_one : (P : Type 0) (k n : ℕ) (e : Edge) (σ : State) (ins : List ℤ) → out n g ≡ e ∷ [] → EndsIn C g k (inside n σ) ins rest end
+      → ((j : ℕ) (b : Place) (mid : List ℤ) → k ≡ suc j → Step C e σ ins b mid → EndsIn C g j b mid rest end → P)
       → (Stops ins → Blocked e σ → P) → P
   over_one P k n e σ ins h f step stuck = on (went C g k n (e ∷ []) σ ins rest end h f)
     where
-      over : (j : ℕ) (x : Edge) (b : Place) (mid : List ℤ) → k ≡ suc j → Member x (e ∷ []) → Step C x σ ins b mid → Ends C g j b mid rest end → P
+      over : (j : ℕ) (x : Edge) (b : Place) (mid : List ℤ) → k ≡ suc j → Member x (e ∷ []) → Step C x σ ins b mid → EndsIn C g j b mid rest end → P
       over j x b mid eq (inl same) st more = step j b mid eq (subst (λ y. Step C y σ ins b mid) same st) more
       over j x b mid eq (inr none) st more = absurd none
 
@@ -131,37 +132,37 @@ module _ (C : Called) (g : List Edge) (rest : List ℤ) (end : End) where
       ((is_value (lin_value σ l) ≡ true) × Before K (inside to (with_slot σ t (lin_value σ l))) ins)
       ⊎ ((is_value (lin_value σ l) ≡ false) × Stops ins)
 
-  pub over_assign : (K k n to t : ℕ) (l : Lin) (σ : State) (ins : List ℤ) → out n g ≡ Assign n to t l ∷ [] → k ≤ K → Ends C g k (inside n σ) ins rest end → Assigned K to t l σ ins
+  pub over_assign : (K k n to t : ℕ) (l : Lin) (σ : State) (ins : List ℤ) → out n g ≡ Assign n to t l ∷ [] → k ≤ K → EndsIn C g k (inside n σ) ins rest end → Assigned K to t l σ ins
   over_assign K k n to t l σ ins h le f =
       over_one (Assigned K to t l σ ins) k n (Assign n to t l) σ ins h f
       (λ j b mid eq st more. inl (st.0, before K k j (inside to (with_slot σ t (lin_value σ l))) b ins mid le eq st.1 st.2 more))
       (λ ends no. inr (is_false (is_value (lin_value σ l)) (λ ok. no.1 ins ins (inside to (with_slot σ t (lin_value σ l))) (ok, refl, refl)), ends))
 
   -- over an assignment of what is a value
-  pub over_value : (K k n to t : ℕ) (l : Lin) (σ : State) (ins : List ℤ) → out n g ≡ Assign n to t l ∷ [] → IsTrue (is_value (lin_value σ l)) → k ≤ K → Ends C g k (inside n σ) ins rest end → Before K (inside to (with_slot σ t (lin_value σ l))) ins
+  pub over_value : (K k n to t : ℕ) (l : Lin) (σ : State) (ins : List ℤ) → out n g ≡ Assign n to t l ∷ [] → IsTrue (is_value (lin_value σ l)) → k ≤ K → EndsIn C g k (inside n σ) ins rest end → Before K (inside to (with_slot σ t (lin_value σ l))) ins
   over_value K k n to t l σ ins h ok le f = on (over_assign K k n to t l σ ins h le f)
     where
       on : Assigned K to t l σ ins → Before K (inside to (with_slot σ t (lin_value σ l))) ins
       on (inl y) = y.1
       on (inr n) = absurd (true≢false (sym ok ∙ n.0))
 
-  pub over_skip : (K k n to : ℕ) (σ : State) (ins : List ℤ) → out n g ≡ Guard n to (record { atoms = [] }) ∷ [] → k ≤ K → Ends C g k (inside n σ) ins rest end → Before K (inside to σ) ins
+  pub over_skip : (K k n to : ℕ) (σ : State) (ins : List ℤ) → out n g ≡ Guard n to (record { atoms = [] }) ∷ [] → k ≤ K → EndsIn C g k (inside n σ) ins rest end → Before K (inside to σ) ins
   over_skip K k n to σ ins h le f =
       over_one (Before K (inside to σ) ins) k n (Guard n to (record { atoms = [] })) σ ins h f
       (λ j b mid eq st more. before K k j (inside to σ) b ins mid le eq st.1 st.2 more)
       (λ ends no. absurd (no.1 ins ins (inside to σ) (tt, refl, refl)))
 
-  pub over_return : (k n t : ℕ) (σ : State) (ins : List ℤ) → out n g ≡ Return n exit_node t ∷ [] → Ends C g k (inside n σ) ins rest end → (end ≡ came (σ t ∷ [])) × (rest ≡ ins)
+  pub over_return : (k n t : ℕ) (σ : State) (ins : List ℤ) → out n g ≡ Return n exit_node t ∷ [] → EndsIn C g k (inside n σ) ins rest end → (end ≡ came (σ t ∷ [])) × (rest ≡ ins)
   over_return k n t σ ins h f =
       over_one ((end ≡ came (σ t ∷ [])) × (rest ≡ ins)) k n (Return n exit_node t) σ ins h f
-      (λ j b mid eq st more. over_left j (σ t ∷ []) ins (subst (λ x. Ends C g j x ins rest end) st.0 (subst (λ x. Ends C g j b x rest end) st.1 more)))
+      (λ j b mid eq st more. over_left j (σ t ∷ []) ins (subst (λ x. EndsIn C g j x ins rest end) st.0 (subst (λ x. EndsIn C g j b x rest end) st.1 more)))
       (λ ends no. absurd (no.1 ins ins (left (σ t ∷ [])) (refl, refl)))
 
   -- the next input, in its slot
   abbrev pub Taken : ℕ → ℕ → ℕ → State → List ℤ → Type 0
   Taken K to t σ ins = (v : ℤ) × (mid : List ℤ) × IsTrue (is_value v) × (ins ≡ v ∷ mid) × Before K (inside to (with_slot σ t v)) mid
 
-  pub over_input : (K k n to t : ℕ) (σ : State) (ins : List ℤ) → out n g ≡ Input n to t ∷ [] → k ≤ K → Ends C g k (inside n σ) ins rest end → Taken K to t σ ins
+  pub over_input : (K k n to t : ℕ) (σ : State) (ins : List ℤ) → out n g ≡ Input n to t ∷ [] → k ≤ K → EndsIn C g k (inside n σ) ins rest end → Taken K to t σ ins
   over_input K k n to t σ ins h le f =
       over_one (Taken K to t σ ins) k n (Input n to t) σ ins h f
       (λ j b mid eq st more. (st.0, mid, st.1, st.2, before K k j (inside to (with_slot σ t st.0)) b mid mid le eq st.3 refl more))
@@ -172,7 +173,7 @@ module _ (C : Called) (g : List Edge) (rest : List ℤ) (end : End) where
   CameBack K to t σ w v = IsTrue (is_value v) × Before K (inside to (with_slot σ t v)) w.inputs
 
   -- over a call whose results are the source's
-  pub over_call : (D : Callee) → Hears C D → (K k n to t p : ℕ) (args : List ℕ) (σ : State) (w : World) → out n g ≡ Call n to p args t ∷ [] → IsArguments (map σ args) → k ≤ K → Ends C g k (inside n σ) w.inputs rest end
+  pub over_call : (D : Callee) → Hears C D → (K k n to t p : ℕ) (args : List ℕ) (σ : State) (w : World) → out n g ≡ Call n to p args t ∷ [] → IsArguments (map σ args) → k ≤ K → EndsIn C g k (inside n σ) w.inputs rest end
       → Comes (D p (map σ args)) w (CameBack K to t σ)
   over_call D hears K k n to t p args σ w h are le f =
       over_one (Comes (D p (map σ args)) w (CameBack K to t σ)) k n (Call n to p args t) σ w.inputs h f
@@ -181,11 +182,11 @@ module _ (C : Called) (g : List Edge) (rest : List ℤ) (end : End) where
       ended j st.0 b mid eq (hears.good p (map σ args) w mid st.0 are st.1) st.2 more c.0 c.1 c.2)
       (λ ends no. absurd (true≢false no.0))
     where
-      lead : (j : ℕ) (e e' : End) (b : Place) (mid mid' : List ℤ) → b ≡ after_call to t σ e → e ≡ e' → mid ≡ mid' → Ends C g j b mid rest end → Ends C g j (after_call to t σ e') mid' rest end
+      lead : (j : ℕ) (e e' : End) (b : Place) (mid mid' : List ℤ) → b ≡ after_call to t σ e → e ≡ e' → mid ≡ mid' → EndsIn C g j b mid rest end → EndsIn C g j (after_call to t σ e') mid' rest end
       lead j e e' b mid mid' at same is more =
-          subst (λ x. Ends C g j (after_call to t σ x) mid' rest end) same (subst (λ m. Ends C g j (after_call to t σ e) m rest end) is (subst (λ x. Ends C g j x mid rest end) at more))
+          subst (λ x. EndsIn C g j (after_call to t σ x) mid' rest end) same (subst (λ m. EndsIn C g j (after_call to t σ e) m rest end) is (subst (λ x. EndsIn C g j x mid rest end) at more))
 
-      ended : (j : ℕ) (e : End) (b : Place) (mid : List ℤ) → k ≡ suc j → IsGood e → b ≡ after_call to t σ e → Ends C g j b mid rest end → (r : Progress ℤ) → D p (map σ args) w r → Heard mid e r → Comes (D p (map σ args)) w (CameBack K to t σ)
+      ended : (j : ℕ) (e : End) (b : Place) (mid : List ℤ) → k ≡ suc j → IsGood e → b ≡ after_call to t σ e → EndsIn C g j b mid rest end → (r : Progress ℤ) → D p (map σ args) w r → Heard mid e r → Comes (D p (map σ args)) w (CameBack K to t σ)
       ended j e b mid eq ok at more (goes w' v) d hd =
           (goes w' v, d, (subst IsGood hd.1 ok, (j, at_most_by_one j k K eq le, lead j e (came (v ∷ [])) b mid w'.inputs at hd.1 hd.0 more)))
       ended j e b mid eq ok at more (ends w' source_stopped) d hd =
@@ -202,7 +203,7 @@ module _ (C : Called) (g : List Edge) (rest : List ℤ) (end : End) where
   Led K Nowhere σ ins = (end ≡ stopped) × (rest ≡ ins)
 
   -- a step to the target, over an edge of some rows that hold
-  over_way : (K k j n : ℕ) (target : Target) (lists : List (List Atom)) (e : Edge) (σ : State) (ins mid : List ℤ) (b : Place) → k ≤ K → k ≡ suc j → Member e (ways n target lists) → Step C e σ ins b mid → Ends C g j b mid rest end
+  over_way : (K k j n : ℕ) (target : Target) (lists : List (List Atom)) (e : Edge) (σ : State) (ins mid : List ℤ) (b : Place) → k ≤ K → k ≡ suc j → Member e (ways n target lists) → Step C e σ ins b mid → EndsIn C g j b mid rest end
       → ((rows : List Atom) × OneOf rows lists × HoldsAll σ rows) × Led K target σ ins
   over_way K k j n target [] e σ ins mid b le eq m st more = absurd m
   over_way K k j n (Node to) (l ∷ ls) e σ ins mid b le eq (inl same) st more =
@@ -213,7 +214,7 @@ module _ (C : Called) (g : List Edge) (rest : List ℤ) (end : End) where
       ((c.0.0, inr c.0.1, c.0.2), c.1)
   over_way K k j n (Fails id) (l ∷ ls) e σ ins mid b le eq (inl same) st more =
       let s = subst (λ x. Step C x σ ins b mid) same st in
-      ((l, inl refl, s.0), over_fail j id σ ins (subst (λ x. Ends C g j x ins rest end) s.1 (subst (λ x. Ends C g j b x rest end) s.2 more)))
+      ((l, inl refl, s.0), over_fail j id σ ins (subst (λ x. EndsIn C g j x ins rest end) s.1 (subst (λ x. EndsIn C g j b x rest end) s.2 more)))
   over_way K k j n (Fails id) (l ∷ ls) e σ ins mid b le eq (inr m) st more =
       let c = over_way K k j n (Fails id) ls e σ ins mid b le eq m st more in
       ((c.0.0, inr c.0.1, c.0.2), c.1)
@@ -275,7 +276,7 @@ module _ (C : Called) (g : List Edge) (rest : List ℤ) (end : End) where
     opposite : IsTrue (is_comparison op) → (IsTrue (is_comparison (opposite_op op))) × (comparison (opposite_op op) (operand_value σ a) (operand_value σ b) ≡ not holds)
     opposite is = opposite_comparison op (operand_value σ a) (operand_value σ b) is
 
-    compare_step : (k j : ℕ) (e : Edge) (p : Place) (mid : List ℤ) → IsTrue (is_comparison op) → k ≤ K → k ≡ suc j → Member e met_ways ⊎ Member e unmet_ways → Step C e σ ins p mid → Ends C g j p mid rest end → IsLed
+    compare_step : (k j : ℕ) (e : Edge) (p : Place) (mid : List ℤ) → IsTrue (is_comparison op) → k ≤ K → k ≡ suc j → Member e met_ways ⊎ Member e unmet_ways → Step C e σ ins p mid → EndsIn C g j p mid rest end → IsLed
     compare_step k j e p mid is le eq (inl m) st more =
         let c = over_way K k j n met (rows_where op a b) e σ ins mid p le eq m st more in
         led_by true (rows_tell op a b σ c.0.0 c.0.1 c.0.2) c.1
@@ -292,7 +293,7 @@ module _ (C : Called) (g : List Edge) (rest : List ℤ) (end : End) where
         led_by false e (no_way K n unmet (rows_where (opposite_op op) a b) σ ins r.0 r.1 r.2 stop (λ x m. none x (in_right met_ways unmet_ways x m)))
 
     -- over the two ways of a comparison
-    pub over_compare : (k : ℕ) → IsTrue (is_comparison op) → out n g ≡ met_ways ++ unmet_ways → k ≤ K → Ends C g k (inside n σ) ins rest end → IsLed
+    pub over_compare : (k : ℕ) → IsTrue (is_comparison op) → out n g ≡ met_ways ++ unmet_ways → k ≤ K → EndsIn C g k (inside n σ) ins rest end → IsLed
     over_compare k is h le f = on (went C g k n (met_ways ++ unmet_ways) σ ins rest end h f)
       where
         on : Went C g k n (met_ways ++ unmet_ways) σ ins rest end → IsLed

@@ -3,6 +3,7 @@ use Rattle.std.proofs.Common.{ℕ, List, [], ◌∷◌, Bool, true, false, not, 
 use Rattle.std.specs.Prelude.{int_lt, int_le}
 use Rattle.c_tree.specs.declared.tree.Op.{Op}
 use Rattle.c_tree.specs.declared.tree.Op.TheVariants.{Less, LessEqual, Greater, GreaterEqual, Equal, Unequal}
+use Rattle.c_tree.specs.Operators.{is_comparison}
 use Rattle.c_tree.specs.Meaning.{State, Relation, Gives, Then, Choice, ExactOrStopped, TakesInput, Callee, is_value, is_zero, bit}
 use Rattle.flow_build.specs.Forms.{Value, literal, read, input, call, scale, sum, difference, truth, Values, no_values, value, Test, compare, opposite, both, either}
 
@@ -14,15 +15,6 @@ comparison GreaterEqual x y = int_le y x
 comparison Equal x y = is_zero (x -ℤ y)
 comparison Unequal x y = not (is_zero (x -ℤ y))
 comparison _ x y = false
-
-abbrev pub is_comparison : Op → Bool
-is_comparison Less = true
-is_comparison LessEqual = true
-is_comparison Greater = true
-is_comparison GreaterEqual = true
-is_comparison Equal = true
-is_comparison Unequal = true
-is_comparison _ = false
 
 module _ (D : Callee) where
   abbrev mutual

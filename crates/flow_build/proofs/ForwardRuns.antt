@@ -4,7 +4,7 @@ use Rattle.std.specs.Prelude.{slice_get}
 use Rattle.c_tree.specs.Syntax.{block, PureProcedure, PureProgram}
 use Rattle.c_tree.specs.Meaning.{World, Progress, goes, ends, stopped as source_stopped, failed as source_failed, starved, spent, Flow, normal, broken, continued, returned, Gives, Then, Callee, Execs, entered, returned_value, Enters, Run, Outcome, ComesOut, uncounted, Runs}
 use Rattle.flow_graph.specs.declared.graph.Graph.{Graph}
-use Rattle.flow_graph.specs.Runs.{End, came, stopped, failed, inside, Called, Ends, Enters as GraphEnters, GraphRun, GraphRuns}
+use Rattle.flow_graph.specs.Runs.{End, came, stopped, failed, inside, Called, EndsIn, EntersGraph, GraphRun, GraphRuns}
 use Rattle.flow_build.specs.Blocks.{end_node, entry_node, body_node, first_free}
 use Rattle.flow_build.specs.Procedures.{procedure_blocks, procedure_edges, IsGraphOf, AreGraphsOf}
 use Rattle.flow_build.specs.Outcomes.{end_of}
@@ -38,9 +38,9 @@ module _ (p : PureProcedure) (at : At (procedure_edges p) (procedure_blocks p)) 
       (exec_reaches C (procedure_edges p) rest end p.slots at.1.1.0 p.gives D told (block p.body) body_node end_node end_node end_node first_free plain at.1.1.1 (entered args) (entered args) (record { each = λ x lt. refl }) (record { each = ok.each }) w h.0 h.1
       (then_covers C (procedure_edges p) rest end (λ f. Gives (returned_value p.gives f)) Closes (AfterFlow C (procedure_edges p) rest end p.slots at.1.1.0 p.gives end_node end_node end_node) r (λ w1 f q. flow_closes p.gives w1 f (subst (Covers C (procedure_edges p) rest end Closes) q cov)) h.0 h.2 cov))
 
-  enters_graph : (g : Graph) → g.edges ≡ procedure_edges p → (args ins : List ℤ) → Reach C (procedure_edges p) rest end (inside entry_node (entered args)) ins → GraphEnters C (Some g) args ins rest end
+  enters_graph : (g : Graph) → g.edges ≡ procedure_edges p → (args ins : List ℤ) → Reach C (procedure_edges p) rest end (inside entry_node (entered args)) ins → EntersGraph C (Some g) args ins rest end
   enters_graph g e args ins k =
-      (entry_node, p.params, k.0, ap (λ es. slice_get es 0) e, subst (λ es. Ends C es k.0 (inside entry_node (entered args)) ins rest end) (sym e) k.1)
+      (entry_node, p.params, k.0, ap (λ es. slice_get es 0) e, subst (λ es. EndsIn C es k.0 (inside entry_node (entered args)) ins rest end) (sym e) k.1)
 
 module _ (P : PureProgram) (gs : List Graph) (are : AreGraphsOf P.procedures gs) (at : (p : PureProcedure) → At (procedure_edges p) (procedure_blocks p)) (plain : (i : ℕ) (p : PureProcedure) → slice_get P.procedures i ≡ Some p → AllPlain p.slots p.body) where
   module _ (d : ℕ) (told : (q : ℕ) (args : List ℤ) (w : World) (r : Progress ℤ) → IsArguments args → Run false P d q args w r → Told (GraphRun gs d q args w.inputs) r) where
@@ -51,7 +51,7 @@ module _ (P : PureProgram) (gs : List Graph) (are : AreGraphsOf P.procedures gs)
         run : (rest : List ℤ) (end : End) → Reach (GraphRun gs d) (procedure_edges p) rest end (inside entry_node (entered args)) w.inputs → GraphRun gs (suc d) i args w.inputs rest end
         run rest end k =
             let found = graph_at P.procedures gs are i p e in
-            subst (λ o. GraphEnters (GraphRun gs d) o args w.inputs rest end) (sym found.1) (enters_graph p (at p) (GraphRun gs d) rest end found.0 found.2.edges args w.inputs k)
+            subst (λ o. EntersGraph (GraphRun gs d) o args w.inputs rest end) (sym found.1) (enters_graph p (at p) (GraphRun gs d) rest end found.0 found.2.edges args w.inputs k)
 
         on : (r : Progress ℤ) → Then (Execs false (Run false P d) p.body (entered args)) (λ f. Gives (returned_value p.gives f)) w r → Told (GraphRun gs (suc d) i args w.inputs) r
         on (goes w' v) h =

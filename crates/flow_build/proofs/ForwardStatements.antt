@@ -1,7 +1,7 @@
 -- From what the source's step comes to, to an end of the graph: statements.
 use Rattle.std.proofs.Common.{◌≡◌, ℕ, zero, suc, ◌+◌, List, [], ◌∷◌, Bool, true, false, cond, Some, None, ℤ, pos, IsTrue, refl, sym, ◌∙◌, subst, arith}
 use Rattle.c_tree.specs.Syntax.{Expression, Statement, block, set, ignore, assume, assert, if_else, loop, do_while, break, continue, return, Statements, no_statements, statement}
-use Rattle.c_tree.specs.Meaning.{State, with_slot, World, Progress, ends, Ending, stopped as source_stopped, failed as source_failed, Flow, normal, broken, continued, returned, Relation, Gives, Ends as SourceEnds, Then, Choice, is_value, is_zero, Callee, Eval, AfterNormal, AfterBody, Turns, DoTurns, Exec, Execs}
+use Rattle.c_tree.specs.Meaning.{State, with_slot, World, Progress, ends, Ending, stopped as source_stopped, failed as source_failed, Flow, normal, broken, continued, returned, Relation, Gives, Ends, Then, Choice, is_value, is_zero, Callee, Eval, AfterNormal, AfterBody, Turns, DoTurns, Exec, Execs}
 use Rattle.flow_graph.specs.declared.graph.Edge.{Edge}
 use Rattle.flow_graph.specs.declared.graph.Edge.TheVariants.{Assign, Guard, Return}
 use Rattle.flow_graph.specs.Runs.{lin_value, End, came, inside, Called}
@@ -147,11 +147,11 @@ module _ (C : Called) (g : List Edge) (rest : List ℤ) (end : End) (t : ℕ) (a
             (then_covers C g rest end (λ z. Gives (normal s)) (AfterFlow to brk con) (AfterValue C g rest end D told t v n t σ) r (λ w1 z q σ1 keep1 vals1 z_is.
             passed C g rest end n to σ1 w1.inputs parts.1.0 (goes_on C g rest end (AfterFlow to brk con) w1 (normal s) r q cov σ1 (matches_on t t σ σ1 s (omega arith) keep1 ms) vals1)) h'.0 h'.2 cov)
         exec_reaches (assume e) from to brk con lo plain at s σ ms vals w r h cov =
-            condition_reaches e from (Node to) Nowhere lo plain at (SourceEnds source_stopped) (Gives (normal s)) (AfterFlow to brk con) s σ ms vals w r h cov
+            condition_reaches e from (Node to) Nowhere lo plain at (Ends source_stopped) (Gives (normal s)) (AfterFlow to brk con) s σ ms vals w r h cov
             (λ w1 σ1 m1 vals1 q. goes_on C g rest end (AfterFlow to brk con) w1 (normal s) r q cov σ1 m1 vals1)
             (λ w1 σ1 m1 vals1 q. ended (AfterFlow to brk con) w1 source_stopped r q cov)
         exec_reaches (assert id e) from to brk con lo plain at s σ ms vals w r h cov =
-            condition_reaches e from (Node to) (Fails id) lo plain at (SourceEnds (source_failed id)) (Gives (normal s)) (AfterFlow to brk con) s σ ms vals w r h cov
+            condition_reaches e from (Node to) (Fails id) lo plain at (Ends (source_failed id)) (Gives (normal s)) (AfterFlow to brk con) s σ ms vals w r h cov
             (λ w1 σ1 m1 vals1 q. goes_on C g rest end (AfterFlow to brk con) w1 (normal s) r q cov σ1 m1 vals1)
             (λ w1 σ1 m1 vals1 q. ended (AfterFlow to brk con) w1 (source_failed id) r q cov)
         exec_reaches (if_else e a b) from to brk con lo plain at s σ ms vals w r h cov =

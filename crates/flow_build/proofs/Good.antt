@@ -6,7 +6,7 @@ use Rattle.c_tree.specs.Meaning.{State, is_value, entered}
 use Rattle.flow_graph.specs.declared.graph.Edge.{Edge}
 use Rattle.flow_graph.specs.declared.graph.Edge.TheVariants.{Entry, Assign, Guard, Input, Pick, Call, Assert, Return}
 use Rattle.flow_graph.specs.declared.graph.Graph.{Graph}
-use Rattle.flow_graph.specs.Runs.{End, came, stopped, failed, Place, inside, left, failing, halted, Called, Step, Ends, Enters, GraphRun, after_call}
+use Rattle.flow_graph.specs.Runs.{End, came, stopped, failed, Place, inside, left, failing, halted, Called, Step, EndsIn, EntersGraph, GraphRun, after_call}
 use Rattle.flow_build.proofs.Slots.{HasValues, values_with, IsArguments, arguments_map}
 
 -- what is returned is a value
@@ -40,7 +40,7 @@ step_good C good (Call from to p args x) s ins rest b h st =
 step_good C good (Assert from to id rows) s ins rest b h st = subst IsGoodPlace (sym st.1) tt
 step_good C good (Return from to x) s ins rest b h st = subst IsGoodPlace (sym st.0) (h.each x)
 
-pub ends_good : (C : Called) → AllGood C → (g : List Edge) (k : ℕ) (a : Place) (ins rest : List ℤ) (e : End) → IsGoodPlace a → Ends C g k a ins rest e → IsGood e
+pub ends_good : (C : Called) → AllGood C → (g : List Edge) (k : ℕ) (a : Place) (ins rest : List ℤ) (e : End) → IsGoodPlace a → EndsIn C g k a ins rest e → IsGood e
 ends_good C good g zero (inside n s) ins rest e h f = subst IsGood (sym f.0.0) tt
 ends_good C good g zero (left vs) ins rest e h f = subst IsGood (sym f.0) h
 ends_good C good g zero (failing id s) ins rest e h f = subst IsGood (sym f.0) tt
@@ -50,7 +50,7 @@ ends_good C good g (suc k) (left vs) ins rest e h f = absurd f.2
 ends_good C good g (suc k) (failing id s) ins rest e h f = absurd f.2
 ends_good C good g (suc k) halted ins rest e h f = absurd f.2
 
-enters_good : (C : Called) → AllGood C → (o : Option Graph) (args ins rest : List ℤ) (e : End) → IsArguments args → Enters C o args ins rest e → IsGood e
+enters_good : (C : Called) → AllGood C → (o : Option Graph) (args ins rest : List ℤ) (e : End) → IsArguments args → EntersGraph C o args ins rest e → IsGood e
 enters_good C good None args ins rest e h f = absurd f
 enters_good C good (Some g) args ins rest e h f = ends_good C good g.edges f.2 (inside f.0 (entered args)) ins rest e (record { each = h.each }) f.4
 

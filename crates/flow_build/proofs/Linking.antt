@@ -3,7 +3,7 @@ use Rattle.std.proofs.Common.{◌≡◌, ℕ, Bool, true, false, ◌||◌, ◌&&
 use Rattle.std.specs.Prelude.{slice_get, nat_lt, nat_le, not as not_bool}
 use Rattle.std.proofs.lemmas.Bool.{eqb-true}
 use Rattle.c_tree.specs.Syntax.{Expression, literal, read, input, call, negate, not as not_of, binary, Expressions, no_expressions, expression, Statement, block, set, ignore, assume, assert, if_else, loop, do_while, break, continue, return, Statements, no_statements, statement, PureProcedure, PureProgram}
-use Rattle.c_tree.specs.WellFormed.{count, takes, is_sound, are_sound, returns_sound, runs_sound, all_sound, statements_nodes, is_sound_procedure, IsWellFormed}
+use Rattle.c_tree.specs.WellFormed.{count, takes, is_well_scoped, are_well_scoped, returns_well_scoped, runs_well_scoped, all_well_scoped, statements_nodes, is_well_formed_procedure, IsWellFormed}
 use Rattle.flow_graph.specs.declared.graph.Edge.TheVariants.{Call}
 use Rattle.flow_graph.specs.declared.graph.Graph.{Graph}
 use Rattle.flow_graph.specs.Linked.{AreGraphs}
@@ -46,47 +46,47 @@ module _ (P : PureProgram) (slots q n : ℕ) where
       subst G many (subst F same h)
 
   mutual
-    expression_takes : (e : Expression) → IsTrue (is_sound P slots e) → IsTrue (calls q n e) → Takes
+    expression_takes : (e : Expression) → IsTrue (is_well_scoped P slots e) → IsTrue (calls q n e) → Takes
     expression_takes (literal m) s h = absurd cc
     expression_takes (read x) s h = absurd cc
     expression_takes input s h = absurd cc
     expression_takes (call p es) s h =
-        by_either (takes (slice_get P.procedures p) (count es) && not_bool (p == P.main)) (are_sound P slots es) (p == q && count es == n) (calls_any q n es) (λ x y. at_call p es (and_left (takes (slice_get P.procedures p) (count es)) (not_bool (p == P.main)) x) y) (λ x y. expressions_take es x y) s h
+        by_either (takes (slice_get P.procedures p) (count es) && not_bool (p == P.main)) (are_well_scoped P slots es) (p == q && count es == n) (calls_any q n es) (λ x y. at_call p es (and_left (takes (slice_get P.procedures p) (count es)) (not_bool (p == P.main)) x) y) (λ x y. expressions_take es x y) s h
     expression_takes (negate e) s h = expression_takes e s h
     expression_takes (not_of e) s h = expression_takes e s h
-    expression_takes (binary op a b) s h = by_either (is_sound P slots a) (is_sound P slots b) (calls q n a) (calls q n b) (λ x y. expression_takes a x y) (λ x y. expression_takes b x y) s h
+    expression_takes (binary op a b) s h = by_either (is_well_scoped P slots a) (is_well_scoped P slots b) (calls q n a) (calls q n b) (λ x y. expression_takes a x y) (λ x y. expression_takes b x y) s h
 
-    expressions_take : (es : Expressions) → IsTrue (are_sound P slots es) → IsTrue (calls_any q n es) → Takes
+    expressions_take : (es : Expressions) → IsTrue (are_well_scoped P slots es) → IsTrue (calls_any q n es) → Takes
     expressions_take no_expressions s h = absurd cc
-    expressions_take (expression e es) s h = by_either (is_sound P slots e) (are_sound P slots es) (calls q n e) (calls_any q n es) (λ x y. expression_takes e x y) (λ x y. expressions_take es x y) s h
+    expressions_take (expression e es) s h = by_either (is_well_scoped P slots e) (are_well_scoped P slots es) (calls q n e) (calls_any q n es) (λ x y. expression_takes e x y) (λ x y. expressions_take es x y) s h
 
-  result_takes : (o : Option Expression) → IsTrue (returns_sound P slots o) → IsTrue (result_calls q n o) → Takes
+  result_takes : (o : Option Expression) → IsTrue (returns_well_scoped P slots o) → IsTrue (result_calls q n o) → Takes
   result_takes None s h = absurd cc
   result_takes (Some e) s h = expression_takes e s h
 
   mutual
-    statement_takes : (l : Bool) (a : Statement) → IsTrue (runs_sound P slots l a) → IsTrue (statement_calls q n a) → Takes
+    statement_takes : (l : Bool) (a : Statement) → IsTrue (runs_well_scoped P slots l a) → IsTrue (statement_calls q n a) → Takes
     statement_takes l (block ss) s h = statements_take l ss s h
-    statement_takes l (set x e) s h = expression_takes e (and_right (nat_lt x slots) (is_sound P slots e) s) h
+    statement_takes l (set x e) s h = expression_takes e (and_right (nat_lt x slots) (is_well_scoped P slots e) s) h
     statement_takes l (ignore e) s h = expression_takes e s h
     statement_takes l (assume e) s h = expression_takes e s h
-    statement_takes l (assert id e) s h = expression_takes e (and_right (nat_lt id (length P.asserts)) (is_sound P slots e) s) h
+    statement_takes l (assert id e) s h = expression_takes e (and_right (nat_lt id (length P.asserts)) (is_well_scoped P slots e) s) h
     statement_takes l (if_else e a b) s h =
-        by_either (is_sound P slots e && runs_sound P slots l a) (runs_sound P slots l b) (calls q n e || statement_calls q n a) (statement_calls q n b)
-        (λ x y. by_either (is_sound P slots e) (runs_sound P slots l a) (calls q n e) (statement_calls q n a) (λ i j. expression_takes e i j) (λ i j. statement_takes l a i j) x y)
+        by_either (is_well_scoped P slots e && runs_well_scoped P slots l a) (runs_well_scoped P slots l b) (calls q n e || statement_calls q n a) (statement_calls q n b)
+        (λ x y. by_either (is_well_scoped P slots e) (runs_well_scoped P slots l a) (calls q n e) (statement_calls q n a) (λ i j. expression_takes e i j) (λ i j. statement_takes l a i j) x y)
         (λ x y. statement_takes l b x y) s h
     statement_takes l (loop e step body) s h =
-        by_either (is_sound P slots e && runs_sound P slots true step) (runs_sound P slots true body) (calls q n e || statement_calls q n step) (statement_calls q n body)
-        (λ x y. by_either (is_sound P slots e) (runs_sound P slots true step) (calls q n e) (statement_calls q n step) (λ i j. expression_takes e i j) (λ i j. statement_takes true step i j) x y)
+        by_either (is_well_scoped P slots e && runs_well_scoped P slots true step) (runs_well_scoped P slots true body) (calls q n e || statement_calls q n step) (statement_calls q n body)
+        (λ x y. by_either (is_well_scoped P slots e) (runs_well_scoped P slots true step) (calls q n e) (statement_calls q n step) (λ i j. expression_takes e i j) (λ i j. statement_takes true step i j) x y)
         (λ x y. statement_takes true body x y) s h
-    statement_takes l (do_while body e) s h = by_either (runs_sound P slots true body) (is_sound P slots e) (statement_calls q n body) (calls q n e) (λ x y. statement_takes true body x y) (λ x y. expression_takes e x y) s h
+    statement_takes l (do_while body e) s h = by_either (runs_well_scoped P slots true body) (is_well_scoped P slots e) (statement_calls q n body) (calls q n e) (λ x y. statement_takes true body x y) (λ x y. expression_takes e x y) s h
     statement_takes l break s h = absurd cc
     statement_takes l continue s h = absurd cc
     statement_takes l (return o) s h = result_takes o s h
 
-    statements_take : (l : Bool) (ss : Statements) → IsTrue (all_sound P slots l ss) → IsTrue (statements_call q n ss) → Takes
+    statements_take : (l : Bool) (ss : Statements) → IsTrue (all_well_scoped P slots l ss) → IsTrue (statements_call q n ss) → Takes
     statements_take l no_statements s h = absurd cc
-    statements_take l (statement a ss) s h = by_either (runs_sound P slots l a) (all_sound P slots l ss) (statement_calls q n a) (statements_call q n ss) (λ x y. statement_takes l a x y) (λ x y. statements_take l ss x y) s h
+    statements_take l (statement a ss) s h = by_either (runs_well_scoped P slots l a) (all_well_scoped P slots l ss) (statement_calls q n a) (statements_call q n ss) (λ x y. statement_takes l a x y) (λ x y. statements_take l ss x y) s h
 
 -- what the graph of a procedure takes
 graph_takes : (ps : List PureProcedure) (gs : List Graph) → AreGraphsOf ps gs → (q n : ℕ) (o : Option PureProcedure) → slice_get ps q ≡ o → IsTrue (takes o n) → IsTrue (linked.takes (slice_get gs q) n)
@@ -98,10 +98,10 @@ graph_takes ps gs are q n (Some p) e h =
     subst F (sym found.1) (ap (λ k. k == n) same ∙ h)
 
 -- the parts of what each procedure keeps
-sound_body : (P : PureProgram) (p : PureProcedure) → IsTrue (is_sound_procedure P p) → IsTrue (all_sound P p.slots false p.body)
+sound_body : (P : PureProgram) (p : PureProcedure) → IsTrue (is_well_formed_procedure P p) → IsTrue (all_well_scoped P p.slots false p.body)
 sound_body P p h =
-    and_right (nat_le p.params 8 && nat_le p.params p.slots && nat_le p.slots 24) (all_sound P p.slots false p.body)
-    (and_left (nat_le p.params 8 && nat_le p.params p.slots && nat_le p.slots 24 && all_sound P p.slots false p.body) (nat_le (statements_nodes p.body) 8000) h)
+    and_right (nat_le p.params 8 && nat_le p.params p.slots && nat_le p.slots 24) (all_well_scoped P p.slots false p.body)
+    (and_left (nat_le p.params 8 && nat_le p.params p.slots && nat_le p.slots 24 && all_well_scoped P p.slots false p.body) (nat_le (statements_nodes p.body) 8000) h)
 
 pub graphs_kept : (P : PureProgram) → IsWellFormed P → ((i : ℕ) (p : PureProcedure) → slice_get P.procedures i ≡ Some p → AllPlain p.slots p.body) → (gs : List Graph) → AreGraphsOf P.procedures gs → AreGraphs gs
 graphs_kept P ok plain gs are k g h i from to q args slot e =
@@ -109,4 +109,4 @@ graphs_kept P ok plain gs are k g h i from to q args slot e =
     let p = found.0 in
     let called = (bounded p g (plain k p found.1) found.2).edges i (Call from to q args slot) e in
     graph_takes P.procedures gs are q (length args) (slice_get P.procedures q) refl
-    (statements_take P p.slots q (length args) false p.body (sound_body P p (ok.procedures_sound k p found.1)) called)
+    (statements_take P p.slots q (length args) false p.body (sound_body P p (ok.procedures_well_formed k p found.1)) called)

@@ -7,14 +7,15 @@ use Rattle.linear_formula.specs.declared.formula.Atom.{Atom}
 use Rattle.flow_graph.specs.declared.graph.Edge.{Edge}
 use Rattle.flow_graph.specs.declared.graph.Edge.TheVariants.{Assign, Guard, Input, Call, Assert, Return}
 use Rattle.flow_graph.specs.declared.graph.Lin.{Lin}
-use Rattle.flow_graph.specs.Runs.{lin_value, End, came, stopped, failed, Place, inside, left, failing, halted, Called, Step, Ends}
+use Rattle.flow_graph.specs.Runs.{lin_value, End, came, stopped, failed, Place, inside, left, failing, halted, Called, Step, EndsIn}
 use Rattle.flow_graph.specs.Shapes.{is_call}
 use Rattle.flow_build.specs.declared.operand.Operand.{Operand}
 use Rattle.flow_build.specs.declared.target.Target.{Target}
 use Rattle.flow_build.specs.declared.target.Target.TheVariants.{Node, Fails, Nowhere}
 use Rattle.flow_build.specs.Operands.{rows_where, opposite_op}
 use Rattle.flow_build.specs.Blocks.{way, ways, exit_node, fail_node}
-use Rattle.flow_build.proofs.FormMeaning.{comparison, is_comparison}
+use Rattle.flow_build.proofs.FormMeaning.{comparison}
+use Rattle.c_tree.specs.Operators.{is_comparison}
 use Rattle.flow_build.proofs.Comparing.{OneOf, some_rows_hold, rows_tell, opposite_comparison}
 use Rattle.flow_build.proofs.Outgoing.{out, Member}
 use Rattle.flow_build.proofs.Moves.{goes as moves, sticks}
@@ -79,7 +80,7 @@ assign_shut C σ n to t l h e (inr q) = absurd q
 
 module _ (C : Called) (g : List Edge) (rest : List ℤ) (end : End) where
   abbrev pub Reach : Place → List ℤ → Type 0
-  Reach a ins = (k : ℕ) × Ends C g k a ins rest end
+  Reach a ins = (k : ℕ) × EndsIn C g k a ins rest end
 
   -- the result goes on as K says, or ends as the graph does
   abbrev pub Covers : {A : Type 0} → (World → A → Type 0) → Progress A → Type 0
@@ -112,7 +113,7 @@ module _ (C : Called) (g : List Edge) (rest : List ℤ) (end : End) where
 
   stops : (n : ℕ) (es : List Edge) (σ : State) (ins : List ℤ) → out n g ≡ es → ((e : Edge) → Member e es → IsShut C σ e) → IsOver ins → Reach (inside n σ) ins
   stops n es σ ins h shut e =
-      (0, subst (λ x. Ends C g 0 (inside n σ) ins rest x) (sym e.0) (subst (λ r. Ends C g 0 (inside n σ) ins r stopped) (sym e.1) (sticks C g n es σ ins h shut)))
+      (0, subst (λ x. EndsIn C g 0 (inside n σ) ins rest x) (sym e.0) (subst (λ r. EndsIn C g 0 (inside n σ) ins r stopped) (sym e.1) (sticks C g n es σ ins h shut)))
 
   pub guarded : (n to : ℕ) (rows : List Atom) (es : List Edge) (σ : State) (ins : List ℤ) → out n g ≡ es → Member (Guard n to (record { atoms = rows })) es → HoldsAll σ rows → Reach (inside to σ) ins → Reach (inside n σ) ins
   guarded n to rows es σ ins h m ok more =

@@ -5,12 +5,14 @@ use Rattle.std.proofs.lemmas.Int.{ints}
 use Rattle.std.proofs.Math.IntN.{*ℤ_comm}
 use Rattle.c_tree.specs.Meaning.{State, Progress, goes, ends, stopped, Relation, Gives, Ends, Onward, Then, Choice, ExactOrStopped, RightSide, decided, Applied, Callee, is_value, is_zero, bit, Eval, Evals}
 use Rattle.c_tree.specs.Syntax.{Expression, literal, read, input, call, negate, not as not_of, binary, Expressions, no_expressions, expression, Statement, block, set, ignore, assume, assert, if_else, loop, do_while, break, continue, return, Statements, no_statements, statement}
-use Rattle.c_tree.specs.WellFormed.{is_arithmetic, is_constant}
+use Rattle.c_tree.specs.WellFormed.{is_constant}
+use Rattle.c_tree.specs.Operators.{is_arithmetic}
 use Rattle.c_tree.specs.declared.tree.Op.{Op}
 use Rattle.c_tree.specs.declared.tree.Op.TheVariants.{Add, Subtract, Multiply, Less, LessEqual, Greater, GreaterEqual, Equal, Unequal, And, Or}
 use Rattle.flow_build.specs.Forms.{Value, Values, no_values, value, Test, compare, opposite, both, either}
 use Rattle.flow_build.specs.Forms as form
-use Rattle.flow_build.specs.Translation.{exact, operation, operation_of, negation_of, constant_value, has_call, have_call, kept, kept_if, in_slot, overflows_by, scaled, overflows, added, subtracted, multiplied, compared, nonzero, value_by, test_by, value_of, values_of, test_of}
+use Rattle.flow_build.specs.Translation.{operation_of, negation_of, constant_value, has_call, have_call, kept, kept_if, in_slot, overflows_by, scaled, overflows, added, subtracted, multiplied, compared, nonzero, value_by, test_by, value_of, values_of, test_of}
+use Rattle.c_tree.specs.Operators.{exact, operation}
 use Rattle.flow_build.specs.Lowering.{result_of}
 pub use Rattle.flow_build.proofs.Sameness.{Same}
 use Rattle.flow_build.proofs.Sameness.{itself, swapped, through, then_same, first_same, next_same, then_then, gives_then, then_gives, gives_same, exact_same, other_choice, Never, never_same}

@@ -79,7 +79,7 @@ procedure_there (y ∷ ps) (suc i) x lt is = procedure_there ps i x (omega arith
 
 module _ (P : PureProgram) (well : IsWellFormed P) (gs : List Graph) (graphs : AreGraphsOf P.procedures gs) (literals : AllFit P.procedures) where
   plain : (i : ℕ) (p : PureProcedure) → slice_get P.procedures i ≡ Some p → AllPlain p.slots p.body
-  plain i p e = body_plain P p (well.procedures_sound i p e) (well.products_linear i p e) (literals i p e)
+  plain i p e = body_plain P p (well.procedures_well_formed i p e) (well.products_linear i p e) (literals i p e)
 
   pub are_graphs : AreGraphs gs
   are_graphs = graphs_kept P well plain gs graphs

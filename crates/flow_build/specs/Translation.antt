@@ -1,21 +1,12 @@
 -- The form of an expression.
 use Rattle.std.specs.Prelude.{Bool, true, false, ◌||◌, not as not_bool, Option, None, Some, ℤ, pos, negsuc, ◌+ℤ◌, ◌-ℤ◌, ◌*ℤ◌, neg_ℤ, if◌then◌else◌}
 use Rattle.c_tree.specs.Meaning.{is_value}
+use Rattle.c_tree.specs.Operators.{exact, operation}
 use Rattle.c_tree.specs.declared.tree.Op.{Op}
 use Rattle.c_tree.specs.declared.tree.Op.TheVariants.{Add, Subtract, Multiply, Unequal, And, Or}
 use Rattle.c_tree.specs.Syntax.{Expression, Expressions, no_expressions, expression}
 use Rattle.c_tree.specs.Syntax as source
 use Rattle.flow_build.specs.Forms.{Value, literal, read, input, call, scale, sum, difference, truth, Values, no_values, value, Test, compare, opposite, both, either}
-
--- an operation of literals, where its exact value is one
-abbrev pub exact : ℤ → Option ℤ
-exact z = if is_value z then Some z else None
-
-abbrev pub operation : Op → ℤ → ℤ → Option ℤ
-operation Add x y = exact (x +ℤ y)
-operation Subtract x y = exact (x -ℤ y)
-operation Multiply x y = exact (x *ℤ y)
-operation _ x y = None
 
 abbrev pub operation_of : Op → Option ℤ → Option ℤ → Option ℤ
 operation_of op (Some x) (Some y) = operation op x y

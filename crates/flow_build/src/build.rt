@@ -3,7 +3,7 @@
 ghost use Rattle.std.specs.Prelude.{◌≡◌, ◌∷◌, [], pos, IfOk, OnOk, IsTrue};
 ghost use Rattle.c_tree.specs.Syntax.{PureProgram};
 ghost use Rattle.c_tree.specs.View.{program_from, procedure_of};
-ghost use Rattle.c_tree.specs.WellFormed.{is_sound_procedure, all_linear};
+ghost use Rattle.c_tree.specs.WellFormed.{is_well_formed_procedure, all_linear};
 ghost use Rattle.flow_graph.specs.declared.graph.Edge.TheVariants.{Entry, Assign, Guard, Return};
 ghost use Rattle.flow_build.specs.Building.{statements_literals_fit};
 ghost use Rattle.flow_build.specs.Operands.{constant_lin};
@@ -71,7 +71,7 @@ fn begin(alloc: Global, procedure: &Procedure) -> Result<Builder, OutOfMemory>
 
 /// The graph of a procedure.
 fn graph(alloc: Global, procedure: &Procedure) -> Result<Graph, OutOfMemory>
-    requires sound { (program : PureProgram) × IsTrue (is_sound_procedure program (procedure_of procedure.now)) }
+    requires sound { (program : PureProgram) × IsTrue (is_well_formed_procedure program (procedure_of procedure.now)) }
     requires linear { IsTrue (all_linear (procedure_of procedure.now).body) }
     ensures graph { IfOk result (λ g. IsGraphOf (procedure_of procedure.now) g) }
     ensures literals { OnOk result (IsTrue (statements_literals_fit (procedure_of procedure.now).body)) }

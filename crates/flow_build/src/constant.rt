@@ -2,8 +2,9 @@
 
 ghost use Rattle.std.specs.Prelude.{◌≡◌, ◌+ℤ◌, ◌-ℤ◌, OnSome, IsTrue};
 ghost use Rattle.c_tree.specs.View.{expression_of, expressions_of};
-ghost use Rattle.c_tree.specs.WellFormed.{is_arithmetic};
-ghost use Rattle.flow_build.specs.Translation.{operation, constant_value, has_call, have_call, value_of, overflows};
+ghost use Rattle.c_tree.specs.Operators.{is_arithmetic};
+ghost use Rattle.flow_build.specs.Translation.{constant_value, has_call, have_call, value_of, overflows};
+ghost use Rattle.c_tree.specs.Operators.{operation};
 ghost use Rattle.flow_build.specs.Operands.{overflows_in_place};
 ghost use Rattle.flow_build.specs.Building.{literals_fit};
 

@@ -2,7 +2,8 @@
 
 ghost use Rattle.std.specs.Prelude.{◌≡◌, ◌+◌, ◌*◌, ◌<◌, ◌++◌, ◌||◌, true, false, IfOk, OnOk, IsTrue};
 ghost use Rattle.c_tree.specs.View.{expression_of, expressions_of};
-ghost use Rattle.c_tree.specs.WellFormed.{is_arithmetic, nodes, nodes_all};
+ghost use Rattle.c_tree.specs.WellFormed.{nodes, nodes_all};
+ghost use Rattle.c_tree.specs.Operators.{is_arithmetic};
 ghost use Rattle.flow_build.specs.Forms.{call};
 ghost use Rattle.flow_build.specs.Operands.{is_operand};
 ghost use Rattle.flow_build.specs.Translation.{value_of, values_of, test_of, has_call, scaled, added, subtracted, kept_if as kept_value_if};

@@ -6,14 +6,14 @@ use Rattle.flow_graph.specs.declared.graph.Edge.{Edge}
 use Rattle.flow_graph.specs.declared.graph.Edge.TheVariants.{Entry, Assign, Guard, Input, Pick, Call, Assert, Return}
 use Rattle.flow_graph.specs.declared.graph.Graph.{Graph}
 use Rattle.flow_graph.specs.Shapes.{is_call}
-use Rattle.flow_graph.specs.Runs.{End, Place, inside, left, failing, halted, Called, Step, Moves, Frame, Finishes, Ends, Enters, GraphRun}
+use Rattle.flow_graph.specs.Runs.{End, Place, inside, left, failing, halted, Called, Step, Moves, Frame, Finishes, EndsIn, EntersGraph, GraphRun}
 
 module _ (C : Called) (g : List Edge) where
-  pub frame_ends : (k : ℕ) (a b : Place) (ins rest : List ℤ) (end : End) → Frame C g k a ins b rest → Finishes C g b end → Ends C g k a ins rest end
+  pub frame_ends : (k : ℕ) (a b : Place) (ins rest : List ℤ) (end : End) → Frame C g k a ins b rest → Finishes C g b end → EndsIn C g k a ins rest end
   frame_ends zero a b ins rest end f h = (subst (λ x. Finishes C g x end) f.0 h, f.1)
   frame_ends (suc k) a b ins rest end f h = (f.0, f.1, f.2, frame_ends k f.0 b f.1 rest end f.3 h)
 
-  pub ends_frame : (k : ℕ) (a : Place) (ins rest : List ℤ) (end : End) → Ends C g k a ins rest end → (b : Place) × Frame C g k a ins b rest × Finishes C g b end
+  pub ends_frame : (k : ℕ) (a : Place) (ins rest : List ℤ) (end : End) → EndsIn C g k a ins rest end → (b : Place) × Frame C g k a ins b rest × Finishes C g b end
   ends_frame zero a ins rest end h = (a, (refl, h.1), h.0)
   ends_frame (suc k) a ins rest end h = let b = ends_frame k h.0 h.1 rest end h.3 in (b.0, (h.0, h.1, h.2, b.1), b.2)
 
@@ -60,11 +60,11 @@ module _ (C D : Called) (sub : SubCalled C D) (g : List Edge) where
   finishes_more (failing id s) end h = h
   finishes_more halted end h = h
 
-  pub ends_more : (k : ℕ) (a : Place) (ins rest : List ℤ) (end : End) → Ends C g k a ins rest end → Ends D g k a ins rest end
+  pub ends_more : (k : ℕ) (a : Place) (ins rest : List ℤ) (end : End) → EndsIn C g k a ins rest end → EndsIn D g k a ins rest end
   ends_more zero a ins rest end h = (finishes_more a end h.0, h.1)
   ends_more (suc k) a ins rest end h = (h.0, h.1, moves_more a h.0 ins h.1 h.2, ends_more k h.0 h.1 rest end h.3)
 
-enters_more : (C D : Called) → SubCalled C D → (g : Option Graph) (args ins rest : List ℤ) (end : End) → Enters C g args ins rest end → Enters D g args ins rest end
+enters_more : (C D : Called) → SubCalled C D → (g : Option Graph) (args ins rest : List ℤ) (end : End) → EntersGraph C g args ins rest end → EntersGraph D g args ins rest end
 enters_more C D sub None args ins rest end h = h
 enters_more C D sub (Some g) args ins rest end h = (h.0, h.1, h.2, h.3, ends_more C D sub g.edges h.2 (inside h.0 (entered args)) ins rest end h.4)
 
@@ -94,11 +94,11 @@ module _ (C : Called) (longer : Longer C) where
   moves_longer g (failing id s) b ins rest more h = h
   moves_longer g halted b ins rest more h = h
 
-  pub ends_longer : (g : List Edge) (k : ℕ) (a : Place) (ins rest : List ℤ) (end : End) (more : List ℤ) → Ends C g k a ins rest end → Ends C g k a (ins ++ more) (rest ++ more) end
+  pub ends_longer : (g : List Edge) (k : ℕ) (a : Place) (ins rest : List ℤ) (end : End) (more : List ℤ) → EndsIn C g k a ins rest end → EndsIn C g k a (ins ++ more) (rest ++ more) end
   ends_longer g zero a ins rest end more h = (h.0, ap (λ l. l ++ more) h.1)
   ends_longer g (suc k) a ins rest end more h = (h.0, h.1 ++ more, moves_longer g a h.0 ins h.1 more h.2, ends_longer g k h.0 h.1 rest end more h.3)
 
-  enters_longer : (g : Option Graph) (args ins rest : List ℤ) (end : End) (more : List ℤ) → Enters C g args ins rest end → Enters C g args (ins ++ more) (rest ++ more) end
+  enters_longer : (g : Option Graph) (args ins rest : List ℤ) (end : End) (more : List ℤ) → EntersGraph C g args ins rest end → EntersGraph C g args (ins ++ more) (rest ++ more) end
   enters_longer None args ins rest end more h = h
   enters_longer (Some g) args ins rest end more h = (h.0, h.1, h.2, h.3, ends_longer g.edges h.2 (inside h.0 (entered args)) ins rest end more h.4)
 

@@ -8,13 +8,13 @@ use Rattle.flow_graph.specs.declared.graph.Lin.{Lin}
 use Rattle.flow_graph.specs.declared.graph.Graph.{Graph}
 use Rattle.flow_graph.specs.Shapes.{source, is_call}
 
-abbrev pub value_of_parts : State → List (ℤ × ℕ) → ℤ
-value_of_parts s [] = pos 0
-value_of_parts s (part ∷ parts) = (part.0 *ℤ s part.1) +ℤ value_of_parts s parts
+abbrev pub value_of_slots : State → List (ℤ × ℕ) → ℤ
+value_of_slots s [] = pos 0
+value_of_slots s (part ∷ parts) = (part.0 *ℤ s part.1) +ℤ value_of_slots s parts
 
 -- the exact value at the slots
 abbrev pub lin_value : State → Lin → ℤ
-lin_value s value = value_of_parts s value.parts +ℤ value.constant
+lin_value s value = value_of_slots s value.parts +ℤ value.constant
 
 -- how a graph run ends: with exit values, stopped, or failed at an assertion
 pub data End : Type 0 where
@@ -79,20 +79,20 @@ module _ (C : Called) (edges : List Edge) where
   Finishes halted end = end ≡ stopped
 
   -- from a place to an end, over k edges
-  abbrev pub Ends : ℕ → Place → List ℤ → List ℤ → End → Type 0
-  Ends zero a ins rest end = Finishes a end × (rest ≡ ins)
-  Ends (suc k) a ins rest end = (b : Place) × (mid : List ℤ) × Moves a ins b mid × Ends k b mid rest end
+  abbrev pub EndsIn : ℕ → Place → List ℤ → List ℤ → End → Type 0
+  EndsIn zero a ins rest end = Finishes a end × (rest ≡ ins)
+  EndsIn (suc k) a ins rest end = (b : Place) × (mid : List ℤ) × Moves a ins b mid × EndsIn k b mid rest end
 
 -- a frame begins over edge 0, with the arguments in the first slots and 0 in the others
-abbrev pub Enters : Called → Option Graph → List ℤ → List ℤ → List ℤ → End → Type 0
-Enters C None args ins rest end = ⊥
-Enters C (Some g) args ins rest end =
-    (to params k : ℕ) × (slice_get g.edges 0 ≡ Some (Entry to params)) × Ends C g.edges k (inside to (entered args)) ins rest end
+abbrev pub EntersGraph : Called → Option Graph → List ℤ → List ℤ → List ℤ → End → Type 0
+EntersGraph C None args ins rest end = ⊥
+EntersGraph C (Some g) args ins rest end =
+    (to params k : ℕ) × (slice_get g.edges 0 ≡ Some (Entry to params)) × EndsIn C g.edges k (inside to (entered args)) ins rest end
 
 -- the runs of depth at most d
 abbrev pub GraphRun : List Graph → ℕ → Called
 GraphRun gs zero p args ins rest end = ⊥
-GraphRun gs (suc d) p args ins rest end = Enters (GraphRun gs d) (slice_get gs p) args ins rest end
+GraphRun gs (suc d) p args ins rest end = EntersGraph (GraphRun gs d) (slice_get gs p) args ins rest end
 
 -- the run consumes exactly these inputs
 abbrev pub GraphRuns : List Graph → ℕ → ℕ → List ℤ → List ℤ → End → Type 0

@@ -168,7 +168,7 @@ pub struct Graph {
     pub params: u32,
     pub slots: u32,
     pub edges: Edges,
-    pub ghost kept: { IsGraph nodes exit fail params slots edges },
+    pub ghost well_formed: { IsGraph nodes exit fail params slots edges },
 }
 
 impl Graph {

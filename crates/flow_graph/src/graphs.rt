@@ -9,7 +9,7 @@ use crate::graph::Graph;
 #[derive(Drop)]
 pub struct Graphs {
     pub graphs: Vec<Graph>,
-    pub ghost kept: { AreGraphs graphs.items },
+    pub ghost well_formed: { AreGraphs graphs.items },
 }
 
 impl Graphs {

@@ -3,7 +3,7 @@ use Rattle.std.proofs.Common.{◌≡◌, ℕ, ◌+◌, ◌-◌, ◌≤◌, List,
 use Rattle.std.specs.Prelude.{slice_get, nat_lt, nat_le, length, neg_ℤ, get_or}
 use Rattle.c_tree.specs.declared.tree.Op.{Op}
 use Rattle.c_tree.specs.Syntax.{Expression, literal, read, input, call, negate, not, binary, Expressions, no_expressions, expression, Statement, block, set, ignore, assume, assert, if_else, loop, do_while, break, continue, return, Statements, no_statements, statement, PureProcedure, PureProgram}
-use Rattle.c_tree.specs.WellFormed.{count, is_sound, are_sound, runs_sound, all_sound, IsWellFormed, statements_nodes}
+use Rattle.c_tree.specs.WellFormed.{count, is_well_scoped, are_well_scoped, runs_well_scoped, all_well_scoped, IsWellFormed, statements_nodes}
 use Rattle.c_tree.specs.Meaning.{is_zero, decided, ReplayOutcome, Comes, Starved, Fuel, Stopped, Failed}
 use Rattle.run_replay.specs.Machine.{Waiting, to_negate, to_invert, left_of, right_of, next_argument, to_set, to_ignore, to_assume, to_assert, to_return, to_choose, to_test, to_test_again, rest_of, body_of, step_of, turn_of, back_to, Exit, normally, by_break, by_continue, by_return, Control, begins, gives_value, runs, leaves, over, Snapshot, Moment, with_wait, counted, exact, applied, value_or_stop, enters_procedure, goes_through, begun, turned, ran, decides, given, valued, goes_on, after_normal, loop_exit, after_body, left, exited, stepped}
 use Rattle.run_replay.specs.Standing.{IsSound, AreSound, IsSoundStatement, AreSoundStatements, HasParameters, TakesValue, TakesExit, Fits}
@@ -19,7 +19,7 @@ module _ (P : PureProgram) (formed : IsWellFormed P) where
 
   body_sound : (p : ℕ) (q : PureProcedure) → slice_get P.procedures p ≡ Some q → AreSoundStatements P q.body
   body_sound p q found =
-      let s = formed.procedures_sound p q found in
+      let s = formed.procedures_well_formed p q found in
       record { slots = q.slots; in_loop = false; sound = and_right (nat_le q.params 8 && nat_le q.params q.slots && nat_le q.slots 24) _ (and_left _ (nat_le (statements_nodes q.body) 8000) s) }
 
   pub enters_fits : (p : ℕ) (f : Option PureProcedure) (m : Snapshot) → slice_get P.procedures p ≡ f → TakesValue P m.waits → FitsAt (enters_procedure f m)
@@ -29,7 +29,7 @@ module _ (P : PureProgram) (formed : IsWellFormed P) where
   through_fits : (p : ℕ) (es : Expressions) (m : Snapshot) → HasParameters P p (count es) → AreSound P es → TakesValue P m.waits → FitsAt (goes_through P p es m)
   through_fits p no_expressions m has s k = enters_fits p (slice_get P.procedures p) m refl k
   through_fits p (expression e es) m has s k =
-      (record { slots = s.slots; sound = and_left (is_sound P s.slots e) (are_sound P s.slots es) s.sound }, (has, record { slots = s.slots; sound = and_right (is_sound P s.slots e) (are_sound P s.slots es) s.sound }, k))
+      (record { slots = s.slots; sound = and_left (is_well_scoped P s.slots e) (are_well_scoped P s.slots es) s.sound }, (has, record { slots = s.slots; sound = and_right (is_well_scoped P s.slots e) (are_well_scoped P s.slots es) s.sound }, k))
 
   input_fits : (b : Bool) (v : ℤ) (m n : Snapshot) → n.waits ≡ m.waits → TakesValue P m.waits → FitsAt (cond b (gives_value v, n) (over Starved, m))
   input_fits true v m n e k = subst (TakesValue P) (sym e) k
@@ -42,11 +42,11 @@ module _ (P : PureProgram) (formed : IsWellFormed P) where
   begun_fits (call p es) m s k =
       let c = called P s.slots p es s.sound in
       let e : c.0.params ≡ count es = c.2 in
-      through_fits p es m (record { procedure = c.0; found = c.1; enough = omega arith }) (record { slots = s.slots; sound = and_right _ (are_sound P s.slots es) s.sound }) k
+      through_fits p es m (record { procedure = c.0; found = c.1; enough = omega arith }) (record { slots = s.slots; sound = and_right _ (are_well_scoped P s.slots es) s.sound }) k
   begun_fits (negate e) m s k = (record { slots = s.slots; sound = s.sound }, k)
   begun_fits (not e) m s k = (record { slots = s.slots; sound = s.sound }, k)
   begun_fits (binary op a b) m s k =
-      (record { slots = s.slots; sound = and_left _ (is_sound P s.slots b) s.sound }, (record { slots = s.slots; sound = and_right (is_sound P s.slots a) _ s.sound }, k))
+      (record { slots = s.slots; sound = and_left _ (is_well_scoped P s.slots b) s.sound }, (record { slots = s.slots; sound = and_right (is_well_scoped P s.slots a) _ s.sound }, k))
 
   turned_fits : (t : Expression) (a b : Statement) (m : Snapshot) → IsSound P t → IsSoundStatement P a → IsSoundStatement P b → TakesExit P m.waits → FitsAt (turned t a b m)
   turned_fits t a b m x y z k =
@@ -61,15 +61,15 @@ module _ (P : PureProgram) (formed : IsWellFormed P) where
   ran_fits (if_else e a b) m s k =
       let n = s.slots in
       let l = s.in_loop in
-      let both = and_left (is_sound P n e && runs_sound P n l a) (runs_sound P n l b) s.sound in
-      (record { slots = n; sound = and_left _ (runs_sound P n l a) both }, (record { slots = n; in_loop = l; sound = and_right (is_sound P n e) _ both }, record { slots = n; in_loop = l; sound = and_right _ (runs_sound P n l b) s.sound }, k))
+      let both = and_left (is_well_scoped P n e && runs_well_scoped P n l a) (runs_well_scoped P n l b) s.sound in
+      (record { slots = n; sound = and_left _ (runs_well_scoped P n l a) both }, (record { slots = n; in_loop = l; sound = and_right (is_well_scoped P n e) _ both }, record { slots = n; in_loop = l; sound = and_right _ (runs_well_scoped P n l b) s.sound }, k))
   ran_fits (loop t a b) m s k =
       let n = s.slots in
-      let both = and_left (is_sound P n t && runs_sound P n true a) (runs_sound P n true b) s.sound in
-      turned_fits t a b m (record { slots = n; sound = and_left _ (runs_sound P n true a) both }) (record { slots = n; in_loop = true; sound = and_right (is_sound P n t) _ both }) (record { slots = n; in_loop = true; sound = and_right _ (runs_sound P n true b) s.sound }) k
+      let both = and_left (is_well_scoped P n t && runs_well_scoped P n true a) (runs_well_scoped P n true b) s.sound in
+      turned_fits t a b m (record { slots = n; sound = and_left _ (runs_well_scoped P n true a) both }) (record { slots = n; in_loop = true; sound = and_right (is_well_scoped P n t) _ both }) (record { slots = n; in_loop = true; sound = and_right _ (runs_well_scoped P n true b) s.sound }) k
   ran_fits (do_while b t) m s k =
-      let body : IsSoundStatement P b = record { slots = s.slots; in_loop = true; sound = and_left _ (is_sound P s.slots t) s.sound } in
-      (body, (body, record { slots = s.slots; sound = and_right (runs_sound P s.slots true b) _ s.sound }, k))
+      let body : IsSoundStatement P b = record { slots = s.slots; in_loop = true; sound = and_left _ (is_well_scoped P s.slots t) s.sound } in
+      (body, (body, record { slots = s.slots; sound = and_right (runs_well_scoped P s.slots true b) _ s.sound }, k))
   ran_fits break m s k = k
   ran_fits continue m s k = k
   ran_fits (return None) m s k = k
@@ -124,7 +124,7 @@ module _ (P : PureProgram) (formed : IsWellFormed P) where
   goes_on_fits : (ss : Statements) (m : Snapshot) → AreSoundStatements P ss → TakesExit P m.waits → FitsAt (goes_on ss m)
   goes_on_fits no_statements m s k = k
   goes_on_fits (statement a ss) m s k =
-      (record { slots = s.slots; in_loop = s.in_loop; sound = and_left _ (all_sound P s.slots s.in_loop ss) s.sound }, (record { slots = s.slots; in_loop = s.in_loop; sound = and_right (runs_sound P s.slots s.in_loop a) _ s.sound }, k))
+      (record { slots = s.slots; in_loop = s.in_loop; sound = and_left _ (all_well_scoped P s.slots s.in_loop ss) s.sound }, (record { slots = s.slots; in_loop = s.in_loop; sound = and_right (runs_well_scoped P s.slots s.in_loop a) _ s.sound }, k))
 
   rest_fits : (f : Exit) (ss : Statements) (m : Snapshot) → AreSoundStatements P ss → TakesExit P m.waits → FitsAt (after_normal f (goes_on ss) m)
   rest_fits normally ss m s k = goes_on_fits ss m s k

@@ -10,7 +10,7 @@ use Rattle.std.proofs.Math.Dec.{eqb-suc-zero, eqb-zero-suc, eqb-suc-suc}
 use Rattle.std.proofs.Math.Seq.{take-append_seam, drop-append_seam}
 use Rattle.std.proofs.lemmas.List.{length-append, length-take-le, take-append-drop}
 use Rattle.c_tree.proofs.Deep.{any_enters}
-use Rattle.c_tree.specs.WellFormed.{count, takes, is_sound, are_sound}
+use Rattle.c_tree.specs.WellFormed.{count, takes, is_well_scoped, are_well_scoped}
 use Rattle.run_replay.specs.Results.{arity}
 use Rattle.run_replay.specs.Machine.{enters_procedure}
 use Rattle.std.specs.Prelude.{slice_get, ◌+ℤ◌, ◌-ℤ◌, ◌*ℤ◌}
@@ -54,9 +54,9 @@ taken None n h = cc
 taken (Some q) n h = (q, refl, eqb-true q.params n h)
 
 -- a call that is sound names a procedure with as many parameters
-pub called : (P : PureProgram) (slots p : ℕ) (es : Expressions) → IsTrue (is_sound P slots (call p es)) → (q : PureProcedure) × (slice_get P.procedures p ≡ Some q) × (q.params ≡ count es)
+pub called : (P : PureProgram) (slots p : ℕ) (es : Expressions) → IsTrue (is_well_scoped P slots (call p es)) → (q : PureProcedure) × (slice_get P.procedures p ≡ Some q) × (q.params ≡ count es)
 called P slots p es h =
-    taken (slice_get P.procedures p) (count es) (and_left _ (not_bool (p == P.main)) (and_left _ (are_sound P slots es) h))
+    taken (slice_get P.procedures p) (count es) (and_left _ (not_bool (p == P.main)) (and_left _ (are_well_scoped P slots es) h))
 
 pub still_takes : (e : Expression) (m : Snapshot) (n : ℕ) → TakesValues e m → TakesValues e (record m { steps_left = n })
 still_takes (literal x) m n h = h

@@ -1,7 +1,7 @@
 -- What comes next fits what waits: what waits for a value gets one, and calls name procedures that exist.
 use Rattle.std.specs.Prelude.{◌≡◌, ℕ, ◌+◌, ◌≤◌, List, [], ◌∷◌, Bool, Some, pos, ◌<◌, length, get_or, slice_get, IsTrue}
 use Rattle.c_tree.specs.Syntax.{Expression, literal, read, input, call, negate, not, binary, Expressions, Statement, Statements, PureProcedure, PureProgram}
-use Rattle.c_tree.specs.WellFormed.{count, is_sound, are_sound, runs_sound, all_sound}
+use Rattle.c_tree.specs.WellFormed.{count, is_well_scoped, are_well_scoped, runs_well_scoped, all_well_scoped}
 use Rattle.c_tree.specs.Meaning.{is_value}
 use Rattle.run_replay.specs.Machine.{Waiting, to_negate, to_invert, left_of, right_of, next_argument, to_set, to_ignore, to_assume, to_assert, to_return, to_choose, to_test, to_test_again, rest_of, body_of, step_of, turn_of, back_to, Control, begins, gives_value, runs, leaves, over, Snapshot}
 
@@ -9,21 +9,21 @@ module _ (P : PureProgram) where
   -- the names exist in a procedure of some number of slots
   pub record IsSound (e : Expression) : Type 0 where
     pub slots : ℕ
-    pub sound : IsTrue (is_sound P slots e)
+    pub sound : IsTrue (is_well_scoped P slots e)
 
   pub record AreSound (es : Expressions) : Type 0 where
     pub slots : ℕ
-    pub sound : IsTrue (are_sound P slots es)
+    pub sound : IsTrue (are_well_scoped P slots es)
 
   pub record IsSoundStatement (a : Statement) : Type 0 where
     pub slots : ℕ
     pub in_loop : Bool
-    pub sound : IsTrue (runs_sound P slots in_loop a)
+    pub sound : IsTrue (runs_well_scoped P slots in_loop a)
 
   pub record AreSoundStatements (ss : Statements) : Type 0 where
     pub slots : ℕ
     pub in_loop : Bool
-    pub sound : IsTrue (all_sound P slots in_loop ss)
+    pub sound : IsTrue (all_well_scoped P slots in_loop ss)
 
   -- the procedure has at least so many parameters
   pub record HasParameters (p n : ℕ) : Type 0 where

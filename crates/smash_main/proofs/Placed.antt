@@ -6,7 +6,7 @@ use Rattle.c_tree.specs.declared.tree.Op.{Op}
 use Rattle.c_tree.specs.declared.tree.Op.TheVariants.{Add, Subtract, Multiply, Less, LessEqual, Greater, GreaterEqual, Equal, Unequal, And, Or}
 use Rattle.c_tree.specs.Syntax.{Expression, literal, read, input, call, negate, not as not_of, binary, Expressions, no_expressions, expression, Statement, block, set, ignore, assume, assert, if_else, loop, do_while, break, continue, return, Statements, no_statements, statement, PureProcedure, PureProgram}
 use Rattle.c_tree.specs.Meaning.{State, World, Progress, goes, ends, Ending, stopped, failed, starved, spent, Flow, normal, broken, continued, returned, Relation, Gives, Ends, Onward, Then, Ticked, Counted, Choice, is_value, ExactOrStopped, decided, Applied, is_zero, RightSide, TakesInput, Callee, Eval, Evals, Returns, Turns, DoTurns, AfterNormal, AfterBody, Exec, Execs, UnlessZero, entered, returned_value, Enters, Run, Replays, ReplayOutcome, replay_of}
-use Rattle.c_tree.specs.WellFormed.{IsWellFormed, runs_sound, all_sound, is_sound_procedure}
+use Rattle.c_tree.specs.WellFormed.{IsWellFormed, runs_well_scoped, all_well_scoped, is_well_formed_procedure}
 use Rattle.smash_main.specs.Asked.{HasPlace}
 use Rattle.smash_main.proofs.Bare.{and_first, and_second}
 
@@ -133,7 +133,7 @@ module _ (c : Bool) (C : Callee) (P : PureProgram) (slots : ℕ) (called : (p : 
   returns_placed (Some e) s = then_placed n _ _ (eval_placed e s) (λ v. gives_placed n _)
 
   mutual
-    exec_placed : (l : Bool) (a : Statement) (s : State) → IsTrue (runs_sound P slots l a) → IsPlaced n (Exec c C a s)
+    exec_placed : (l : Bool) (a : Statement) (s : State) → IsTrue (runs_well_scoped P slots l a) → IsPlaced n (Exec c C a s)
     exec_placed l (block ss) s h = counted_placed n c _ (execs_placed l ss s h)
     exec_placed l (set x e) s h = counted_placed n c _ (then_placed n _ _ (eval_placed e s) (λ v. gives_placed n _))
     exec_placed l (ignore e) s h = counted_placed n c _ (then_placed n _ _ (eval_placed e s) (λ v. gives_placed n _))
@@ -157,19 +157,19 @@ module _ (c : Bool) (C : Callee) (P : PureProgram) (slots : ℕ) (called : (p : 
     exec_placed l continue s h = counted_placed n c _ (gives_placed n _)
     exec_placed l (return o) s h = counted_placed n c _ (returns_placed o s)
 
-    execs_placed : (l : Bool) (ss : Statements) (s : State) → IsTrue (all_sound P slots l ss) → IsPlaced n (Execs c C ss s)
+    execs_placed : (l : Bool) (ss : Statements) (s : State) → IsTrue (all_well_scoped P slots l ss) → IsPlaced n (Execs c C ss s)
     execs_placed l no_statements s h = gives_placed n _
     execs_placed l (statement a ss) s h =
         then_placed n _ _ (exec_placed l a s (and_first _ _ h)) (λ f. next_placed n f _ (λ s1. execs_placed l ss s1 (and_second _ _ h)))
 
-body_sound : (P : PureProgram) (q : PureProcedure) → IsTrue (is_sound_procedure P q) → IsTrue (all_sound P q.slots false q.body)
+body_sound : (P : PureProgram) (q : PureProcedure) → IsTrue (is_well_formed_procedure P q) → IsTrue (all_well_scoped P q.slots false q.body)
 body_sound P q h = and_second _ _ (and_first _ _ h)
 
 entered_placed : (c : Bool) (P : PureProgram) → IsWellFormed P → (d p : ℕ) (args : List ℤ) → ((p : ℕ) (args : List ℤ) → IsPlaced (length P.asserts) (Run c P d p args)) → (o : Option PureProcedure) → slice_get P.procedures p ≡ o → IsPlaced (length P.asserts) (Run c P (suc d) p args)
 entered_placed c P fine d p args below None e = record { placed = λ w r h. absurd (subst (λ z. Enters c (Run c P d) z args w r) e h) }
-entered_placed c P fine d p args below (Some q) e = record { placed = λ w r h. (inside (fine.procedures_sound p q e)).placed w r (subst (λ z. Enters c (Run c P d) z args w r) e h) }
+entered_placed c P fine d p args below (Some q) e = record { placed = λ w r h. (inside (fine.procedures_well_formed p q e)).placed w r (subst (λ z. Enters c (Run c P d) z args w r) e h) }
   where
-    inside : IsTrue (is_sound_procedure P q) → IsPlaced (length P.asserts) (Then (Execs c (Run c P d) q.body (entered args)) (λ f. Gives (returned_value q.gives f)))
+    inside : IsTrue (is_well_formed_procedure P q) → IsPlaced (length P.asserts) (Then (Execs c (Run c P d) q.body (entered args)) (λ f. Gives (returned_value q.gives f)))
     inside sound =
         then_placed (length P.asserts) (Execs c (Run c P d) q.body (entered args)) (λ f. Gives (returned_value q.gives f)) (execs_placed c (Run c P d) P q.slots below false q.body (entered args) (body_sound P q sound)) (λ f. gives_placed (length P.asserts) (returned_value q.gives f))
 

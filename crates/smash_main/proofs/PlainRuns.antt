@@ -6,7 +6,7 @@ use Rattle.std.proofs.lemmas.Bool.{leb-true, eqb-true}
 use Rattle.c_tree.specs.Syntax.{Expression, literal, read, input, call, negate, not as not_of, binary, Statement, block, set, ignore, assume, assert, if_else, loop, do_while, break, continue, return, Statements, no_statements, statement, PureProcedure, PureProgram}
 use Rattle.c_tree.specs.Meaning.{World, Progress, goes, ends, Ending, stopped, failed, starved, spent, Flow, Relation, Gives, Then, Callee, Execs, entered, returned_value, Run, Runs, Reaches, ComesOut, Outcome as Ended, Replays, ReplayOutcome, Comes, replay_of, uncounted, world_of}
 use Rattle.c_tree.specs.Meaning as meaning
-use Rattle.c_tree.specs.WellFormed.{IsWellFormed, takes, is_sound, returns_sound, runs_sound, all_sound, is_sound_procedure, statements_nodes}
+use Rattle.c_tree.specs.WellFormed.{IsWellFormed, takes, is_well_scoped, returns_well_scoped, runs_well_scoped, all_well_scoped, is_well_formed_procedure, statements_nodes}
 use Rattle.smash_main.specs.Plain.{has_no_input, returns_no_input, is_plain_statement, are_plain, all_plain, is_plain}
 use Rattle.smash_main.proofs.Bare.{and_first, and_second, not_true, is_bare, returns_bare, is_bare_statement, are_bare, inputs_of, IsOwn, then_within, gives_within, execs_within, then_quiet, gives_quiet, execs_quiet}
 
@@ -16,7 +16,7 @@ and_both false b h k = absurd (not_true h)
 
 -- No call is sound: then what has no input has no call.
 module _ (P : PureProgram) (slots : ℕ) (no_call : (q n : ℕ) → IsTrue (takes (slice_get P.procedures q) n && not_bool (q == P.main)) → ⊥) where
-  bare_expression : (e : Expression) → IsTrue (is_sound P slots e) → IsTrue (has_no_input e) → IsTrue (is_bare e)
+  bare_expression : (e : Expression) → IsTrue (is_well_scoped P slots e) → IsTrue (has_no_input e) → IsTrue (is_bare e)
   bare_expression (literal n) s h = refl
   bare_expression (read x) s h = refl
   bare_expression input s h = absurd (not_true h)
@@ -26,12 +26,12 @@ module _ (P : PureProgram) (slots : ℕ) (no_call : (q n : ℕ) → IsTrue (take
   bare_expression (binary op a b) s h =
       and_both _ _ (bare_expression a (and_first _ _ s) (and_first _ _ h)) (bare_expression b (and_second _ _ s) (and_second _ _ h))
 
-  bare_returns : (o : Option Expression) → IsTrue (returns_sound P slots o) → IsTrue (returns_no_input o) → IsTrue (returns_bare o)
+  bare_returns : (o : Option Expression) → IsTrue (returns_well_scoped P slots o) → IsTrue (returns_no_input o) → IsTrue (returns_bare o)
   bare_returns None s h = refl
   bare_returns (Some e) s h = bare_expression e s h
 
   mutual
-    bare_statement : (l : Bool) (a : Statement) → IsTrue (runs_sound P slots l a) → IsTrue (is_plain_statement a) → IsTrue (is_bare_statement a)
+    bare_statement : (l : Bool) (a : Statement) → IsTrue (runs_well_scoped P slots l a) → IsTrue (is_plain_statement a) → IsTrue (is_bare_statement a)
     bare_statement l (block ss) s h = bare_statements l ss s h
     bare_statement l (set x e) s h = bare_expression e (and_second _ _ s) h
     bare_statement l (ignore e) s h = bare_expression e s h
@@ -45,7 +45,7 @@ module _ (P : PureProgram) (slots : ℕ) (no_call : (q n : ℕ) → IsTrue (take
     bare_statement l continue s h = refl
     bare_statement l (return o) s h = bare_returns o s h
 
-    bare_statements : (l : Bool) (ss : Statements) → IsTrue (all_sound P slots l ss) → IsTrue (are_plain ss) → IsTrue (are_bare ss)
+    bare_statements : (l : Bool) (ss : Statements) → IsTrue (all_well_scoped P slots l ss) → IsTrue (are_plain ss) → IsTrue (are_bare ss)
     bare_statements l no_statements s h = refl
     bare_statements l (statement a ss) s h =
         and_both _ _ (bare_statement l a (and_first _ _ s) (and_first _ _ h)) (bare_statements l ss (and_second _ _ s) (and_second _ _ h))
@@ -87,8 +87,8 @@ bare_program P fine plain = at P.procedures refl P.main refl (and_first _ _ plai
         found : slice_get P.procedures P.main ≡ Some p
         found = subst (λ z. slice_get z P.main ≡ Some p) e (subst (λ z. slice_get (p ∷ []) z ≡ Some p) k refl)
 
-        sound : IsTrue (is_sound_procedure P p)
-        sound = fine.procedures_sound P.main p found
+        sound : IsTrue (is_well_formed_procedure P p)
+        sound = fine.procedures_well_formed P.main p found
 
         few : IsTrue (nat_le (statements_nodes p.body) 8000) → statements_nodes p.body ≤ 8000
         few t = leb-true _ _ t

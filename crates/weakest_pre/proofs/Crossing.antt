@@ -22,7 +22,7 @@ use Rattle.flow_graph.specs.Runs.{inside, left, failing, lin_value}
 use Rattle.flow_graph.specs.WellFormed.{max_slots, names_slots}
 use Rattle.flow_graph.specs.Columns.{first_entry, first_exit, first_symbol, columns_of, valuation_of, is_slot_column, is_value_column, AreValues, AreAllValues, value_at}
 use Rattle.weakest_pre.specs.Preimage.{entry_reading, one_reading, value_sum, upper_row, lower_row, measured, read_rows, assigned_rows}
-use Rattle.weakest_pre.specs.Predecessors.{Fits, Lies, HoldsPredecessors, HoldsNoOther}
+use Rattle.weakest_pre.specs.Predecessors.{FitsEdge, Lies, HoldsPredecessors, HoldsNoOther}
 use Rattle.weakest_pre.proofs.Agreeing.{value-bounds, bounds-value, value-is64, is64-value, holds-agree, agree-back, holds-same, holds-append, holds-split, met-split, read-met, met-read, measured-same, rows-hold, rows-met, rows-absent, other}
 use Rattle.weakest_pre.proofs.Places.{slots-agree, entry-reads, one-reads, behind-agrees, changed, value-assigned, return-reads}
 
@@ -148,7 +148,7 @@ module _ (from to slot : ℕ) (value : Lin) (target atoms : List Atom) (e : meas
   abbrev all_rows : List LinearSum
   all_rows = assigned_rows slot sum target
 
-  assigned : (s : State) (entry : List ℤ) → Fits (Assign from to slot value) target → value_of (columns_of s entry []) sum ≡ lin_value s value
+  assigned : (s : State) (entry : List ℤ) → FitsEdge (Assign from to slot value) target → value_of (columns_of s entry []) sum ≡ lin_value s value
   assigned s entry f =
       value-assigned s entry value (both _ _ (both _ _ f.slots).1).1
 

@@ -14,7 +14,7 @@ use Rattle.linear_formula.proofs.Replacing.{value-column}
 use Rattle.linear_formula.proofs.Values.{value-combination}
 use Rattle.flow_graph.specs.declared.graph.Lin.{Lin}
 use Rattle.flow_graph.specs.Columns.{first_entry, first_exit, first_symbol, value_at, columns_of, no_slots, valuation_of, is_among, is_value_column, is_slot_column}
-use Rattle.flow_graph.specs.Runs.{value_of_parts, lin_value}
+use Rattle.flow_graph.specs.Runs.{value_of_slots, lin_value}
 use Rattle.weakest_pre.specs.Preimage.{entry_reading, one_reading, value_sum}
 use Rattle.weakest_pre.proofs.Agreeing.{Agree, other}
 use Rattle.weakest_pre.proofs.Refusing.{multiples_of}
@@ -87,7 +87,7 @@ module _ (s : State) (entry : List ℤ) (slot : ℕ) (z : ℤ) (small : nat_lt s
     by_test false d = a x (eqb_apart x slot d) ∙ sym (behind-other x d)
 
 -- ---- the value of an assignment
-multiples-value : (s : State) (v : Valuation) (parts : List (ℤ × ℕ)) (c : ℤ) → Agree is_slot_column s v → IsTrue (list_all (λ p. nat_lt p.1 first_entry) parts) → combination_value v (multiples_of parts) c ≡ value_of_parts s parts +ℤ c
+multiples-value : (s : State) (v : Valuation) (parts : List (ℤ × ℕ)) (c : ℤ) → Agree is_slot_column s v → IsTrue (list_all (λ p. nat_lt p.1 first_entry) parts) → combination_value v (multiples_of parts) c ≡ value_of_slots s parts +ℤ c
 multiples-value s v [] c a n = omega (arith, ints)
 multiples-value s v (p ∷ parts) c a n =
     let ns = both (nat_lt p.1 first_entry) (list_all (λ q. nat_lt q.1 first_entry) parts) n in

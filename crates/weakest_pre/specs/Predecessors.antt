@@ -22,7 +22,7 @@ is_region_column (Return from to slot) x = is_value_column first_entry first_ent
 is_region_column _ x = is_slot_column x || is_entry_column first_entry x
 
 -- the edge names slots, and the target is a region behind it
-pub record Fits (edge : Edge) (target : List Atom) : Type 0 where
+pub record FitsEdge (edge : Edge) (target : List Atom) : Type 0 where
   pub slots : IsTrue (has_slots max_slots edge)
   pub columns : IsTrue (rows_name_only (is_region_column edge) target)
 
@@ -34,16 +34,16 @@ GoesInto edge target s entry =
     (ins rest : List ℤ) × (b : Place) × Step (GraphRun [] 0) edge s ins b rest × Lies entry target b
 
 -- the state before the edge meets the rows
-abbrev pub Meets : Edge → List Atom → State → (entry : List ℤ) → Type 0
-Meets (Entry to params) rows s entry = (length entry ≡ params) × HoldsAll (valuation_of entry []) rows
-Meets edge rows s entry = HoldsAll (columns_of s entry []) rows
+abbrev pub MeetsBefore : Edge → List Atom → State → (entry : List ℤ) → Type 0
+MeetsBefore (Entry to params) rows s entry = (length entry ≡ params) × HoldsAll (valuation_of entry []) rows
+MeetsBefore edge rows s entry = HoldsAll (columns_of s entry []) rows
 
 -- every state that goes over the edge into the target meets the rows
 abbrev pub HoldsPredecessors : Edge → List Atom → List Atom → Type 0
 HoldsPredecessors edge target rows =
-    Fits edge target → (s : State) (entry : List ℤ) → AreValues s → AreAllValues entry → GoesInto edge target s entry → Meets edge rows s entry
+    FitsEdge edge target → (s : State) (entry : List ℤ) → AreValues s → AreAllValues entry → GoesInto edge target s entry → MeetsBefore edge rows s entry
 
 -- each state that meets the rows goes over the edge into the target
 abbrev pub HoldsNoOther : Edge → List Atom → List Atom → Type 0
 HoldsNoOther edge target rows =
-    Fits edge target → (s : State) (entry : List ℤ) → AreValues s → AreAllValues entry → Meets edge rows s entry → GoesInto edge target s entry
+    FitsEdge edge target → (s : State) (entry : List ℤ) → AreValues s → AreAllValues entry → MeetsBefore edge rows s entry → GoesInto edge target s entry

@@ -19,7 +19,7 @@ at_item program ps i x same lt is = let P : List Procedure → Type 0 = λ l. sl
 pub graph-requires-clause-sound : goal.graph-requires-clause-sound
 graph-requires-clause-sound c = (
   program_of c.args.program.now,
-  c.args.program.now.well_formed.procedures_sound c.loop-procedure.procedure-index (procedure_of c.procedure-item.result) (at_item c.args.program.now c.deref-procedure-items.result.now c.loop-procedure.procedure-index c.procedure-item.result c.deref-procedure-items.ensures.value c.loop-procedure-test.true c.procedure-item.is),
+  c.args.program.now.well_formed.procedures_well_formed c.loop-procedure.procedure-index (procedure_of c.procedure-item.result) (at_item c.args.program.now c.deref-procedure-items.result.now c.loop-procedure.procedure-index c.procedure-item.result c.deref-procedure-items.ensures.value c.loop-procedure-test.true c.procedure-item.is),
 )
 
 pub graph-requires-clause-linear : goal.graph-requires-clause-linear
