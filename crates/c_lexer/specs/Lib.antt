@@ -2,3 +2,4 @@ pub mod Lexing
 pub mod Scanning
 pub mod Answer
 pub mod Pure
+pub mod Faults

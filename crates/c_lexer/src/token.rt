@@ -113,17 +113,42 @@ pub struct Place {
     pub line_is_blank: bool,
 }
 
+/// What a fault is called: one text for one fault.
+pub const BAD_BYTE: &str = "bad byte";
+pub const OPEN_COMMENT: &str = "comment not closed";
+pub const TOO_WIDE: &str = "literal too wide";
+pub const NO_MEMORY: &str = "out of memory";
+
 /// Why a text has no tokens.
 #[derive(Clone, Copy, PartialEq, Eq, Debug, Error)]
 pub enum LexError {
-    #[error("{}:{}: no token begins or goes on with this byte", .0.line, .0.column)]
+    /// No token begins or goes on with this byte (C11 6.4). The place is that of the byte.
+    #[error("{}:{}: {text}", .0.line, .0.column, text = BAD_BYTE)]
     BadByte(Pos),
-    #[error("{}:{}: this comment has no end", .0.line, .0.column)]
+    /// A comment without an end (C11 6.4.9). The place is that of its `/*`.
+    #[error("{}:{}: {text}", .0.line, .0.column, text = OPEN_COMMENT)]
     OpenComment(Pos),
-    #[error("{}:{}: this literal is past the greatest value", .0.line, .0.column)]
+    /// A literal past 2^63 - 1, which no type of the language holds (C11 6.4.4). The place is that of its first digit.
+    #[error("{}:{}: {text}", .0.line, .0.column, text = TOO_WIDE)]
     TooWide(Pos),
-    #[error("no memory is left")]
+    #[error("{text}", text = NO_MEMORY)]
     Memory,
+}
+
+impl LexError {
+    ghost use Rattle.c_lexer.specs.Faults.{lex_error_text};
+
+    /// What the fault is called, without its place.
+    pub fn text(self) -> &'static str
+        ensures { result.now ≡ lex_error_text self }
+    {
+        match self {
+            LexError::BadByte(_) => BAD_BYTE,
+            LexError::OpenComment(_) => OPEN_COMMENT,
+            LexError::TooWide(_) => TOO_WIDE,
+            LexError::Memory => NO_MEMORY,
+        }
+    }
 }
 
 impl From<AllocError> for LexError {
