@@ -6,3 +6,4 @@ pub mod Least
 pub mod Tables
 pub mod LoweringSteps
 pub mod Meanings
+pub mod Texts

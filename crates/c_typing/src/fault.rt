@@ -1,6 +1,7 @@
 //! What may be wrong with a tree.
 
 ghost use Rattle.std.specs.Prelude.{◌≡◌};
+ghost use Rattle.c_typing.specs.Texts.{type_fault_text};
 ghost use Rattle.c_typing.specs.declared.fault.TypeError.TheVariants.{Memory};
 
 use c_tree::tree::Pos;
@@ -36,11 +37,34 @@ pub enum TypeFault {
     OverLimit(Which),
 }
 
+impl TypeFault {
+    /// The text of a refusal for this fault.
+    pub fn text(self) -> &'static str
+        ensures { result.now ≡ type_fault_text self }
+    {
+        match self {
+            TypeFault::UnknownName => "unknown name",
+            TypeFault::Duplicate => "duplicate name",
+            TypeFault::WrongCount => "wrong number of arguments",
+            TypeFault::VoidValue => "void used as value",
+            TypeFault::NotLinear => "product of two non-constants",
+            TypeFault::NoMain => "no main",
+            TypeFault::MainShape => "main has the wrong shape",
+            TypeFault::OutsideLoop => "break or continue outside a loop",
+            TypeFault::OverLimit(Which::Procedures) => "too many procedures",
+            TypeFault::OverLimit(Which::Parameters) => "too many parameters",
+            TypeFault::OverLimit(Which::Variables) => "too many variables",
+            TypeFault::OverLimit(Which::Tokens) => "too many tokens",
+            TypeFault::OverLimit(Which::Assertions) => "too many assertions",
+        }
+    }
+}
+
 /// Why there is no program.
 #[derive(Clone, Copy, PartialEq, Eq, Debug, Error)]
 pub enum TypeError {
     /// The fault of the first position; at one position the first in the order of `TypeFault`.
-    #[error("refused")]
+    #[error("{}:{}: {text}", .1.line, .1.column, text = .0.text())]
     Refused(TypeFault, Pos),
     #[error("out of memory")]
     Memory,
