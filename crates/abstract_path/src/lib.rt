@@ -1,0 +1,7 @@
+//! Shortest paths between regions.
+#![tactic(auto)]
+
+pub mod frontier;
+pub mod laws;
+mod network;
+mod search;
