@@ -3,4 +3,7 @@ pub mod WellFormed
 pub mod Linked
 pub mod Runs
 pub mod Columns
+pub mod Regions
+pub mod Readings
+pub mod Laws
 pub mod Sample

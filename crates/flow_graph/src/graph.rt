@@ -1,6 +1,7 @@
 //! Graphs, edge by edge.
 
 ghost use Rattle.std.specs.Prelude.{◌≡◌};
+ghost use Rattle.flow_graph.specs.Shapes.{source, target, is_call};
 ghost use Rattle.flow_graph.specs.WellFormed.{IsGraph};
 
 use c_tree::tree::{AssertId, ProcId, Slot};
@@ -127,6 +128,46 @@ pub enum Edge {
         to: u32,
         slot: Slot,
     },
+}
+
+impl Edge {
+    /// The node that it leaves; the entry leaves none.
+    pub fn source(&self) -> Option<u32>
+        ensures { result ≡ source self.now }
+    {
+        match self {
+            Edge::Entry { .. } => None,
+            Edge::Assign { from, .. }
+            | Edge::Guard { from, .. }
+            | Edge::Input { from, .. }
+            | Edge::Pick { from, .. }
+            | Edge::Call { from, .. }
+            | Edge::Assert { from, .. }
+            | Edge::Return { from, .. } => Some(*from),
+        }
+    }
+
+    /// The node that it leads to. A call leads to `fail` too.
+    pub fn target(&self) -> u32
+        ensures { result ≡ target self.now }
+    {
+        match self {
+            Edge::Entry { to, .. }
+            | Edge::Assign { to, .. }
+            | Edge::Guard { to, .. }
+            | Edge::Input { to, .. }
+            | Edge::Pick { to, .. }
+            | Edge::Call { to, .. }
+            | Edge::Assert { to, .. }
+            | Edge::Return { to, .. } => *to,
+        }
+    }
+
+    pub fn is_call(&self) -> bool
+        ensures { result ≡ is_call self.now }
+    {
+        matches!(self, Edge::Call { .. })
+    }
 }
 
 /// Edges in order.
