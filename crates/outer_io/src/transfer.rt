@@ -8,12 +8,16 @@ use crate::fault::Failed;
 use crate::sink::Sink;
 use crate::source::Source;
 use std::alloc::Global;
+use thiserror::Error;
 
 /// Why not all bytes were read.
-#[derive(Debug, Clone, Copy, PartialEq, Eq)]
+#[derive(Debug, Clone, Copy, PartialEq, Eq, Error)]
 pub enum ReadError {
+    #[error("a read failed")]
     ReadFault,
+    #[error("longer than the limit")]
     TooLong,
+    #[error("out of memory")]
     Memory,
 }
 
