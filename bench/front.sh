@@ -1,27 +1,50 @@
 #!/bin/sh
-# Lexing, parsing and typing of sources of 8, 16, 32 and 64 KiB: seconds, and, where valgrind is there, instructions and
-# by how much they grow at each doubling.
-# Each source is refused by its last line alone, so that all before it is read, parsed and checked.
-# usage: bench/front.sh [PROGRAM]
-top=$(cd "$(dirname "$0")/.." && pwd) || exit 70
-program=${1:-$top/crates/smash_main/out/smash_main}
-work=$(mktemp -d) || exit 70
-trap 'rm -rf "$work"' EXIT
+# Lexing, parsing and typing of sources of 8, 16, 32 and 64 KiB: the least user and system time of five runs, and, where
+# valgrind is there, instructions and by how much they grow at each doubling.
+# Each shape is measured refused, by its last line alone so that all before it is read, parsed and checked, and accepted:
+# then it is replayed too, and `main` returns at once. Two shapes are refused by their names: so many of one procedure, and
+# as many whose hashes collide in the map of names.
+# It fails where a run does anything else, and where a limit of bench/limits.tsv is missed.
+# usage: bench/front.sh [--limits] [PROGRAM]   (with --limits only the sources of 64 KiB, for their limits)
+. "$(dirname "$0")/common.sh"
+sizes='8192 16384 32768 65536'
+if [ "$1" = --limits ]; then
+    sizes=65536
+    shift
+fi
+program_or_end "$@"
+work_in
+refused='refused [0-9]+:[0-9]+: '
 
-printf '%-6s %8s %10s %14s %6s\n' shape bytes seconds instructions growth
-for shape in deep chain many long; do
+# shape, words of the program, wanted status, wanted text, and what `main` returns
+shape() {
+    label=$1-$5
     before=-
-    for size in 8192 16384 32768 65536; do
-        awk -v shape="$shape" -v size="$size" -v last=x -f "$top/bench/source.awk" > "$work/source.c"
-        begin=$(date +%s.%N)
-        "$program" check < "$work/source.c" > /dev/null
-        end=$(date +%s.%N)
-        count=-
-        if command -v valgrind > /dev/null 2>&1; then
-            count=$(valgrind --tool=callgrind --callgrind-out-file="$work/out" "$program" check < "$work/source.c" 2>&1 > /dev/null | sed -n 's/.*refs: *\([0-9,]*\).*/\1/p' | tr -d ,)
-        fi
-        echo "$shape $(wc -c < "$work/source.c") $begin $end $count $before" |
-            awk '{ printf "%-6s %8d %10.4f %14s %6s\n", $1, $2, $4 - $3, $5, ($6 > 0 ? sprintf("%.2f", $5 / $6) : "-") }'
-        before=$count
+    for size in $sizes; do
+        case $1 in
+            collide) "$work/collide" "$size" > "$work/source.c" ;;
+            *) awk -v shape="$1" -v size="$size" -v last="$6" -f "$top/bench/source.awk" > "$work/source.c" ;;
+        esac
+        taken=$(measure --status "$3" --text "$4" --input "$work/source.c" --count -- "$program" $2) || exit 1
+        set -- "$1" "$2" "$3" "$4" "$5" "$6" $taken
+        growth=$(echo "$9 $before" | awk '{ print ($2 > 0 ? sprintf("%.2f", $1 / $2) : "-") }')
+        printf '%-14s %8d %10s %14s %6s\n' "$label" "$(wc -c < "$work/source.c")" "$7" "$9" "$growth"
+        hold front "$label" "$size" instructions "$9"
+        hold front any any growth "$growth"
+        before=$9
+        set -- "$1" "$2" "$3" "$4" "$5" "$6"
     done
+}
+
+printf '%-14s %8s %10s %14s %6s\n' shape bytes seconds instructions growth
+for name in deep chain many long empty nest; do
+    shape $name check 3 "${refused}unknown name" refused x
+    shape $name 'replay []' 0 'returned 0, inputs used 0' accepted 0
 done
+shape names check 3 "${refused}too many variables" refused x
+if cc -O2 -o "$work/collide" "$top/bench/collide.c" 2> /dev/null; then
+    shape collide check 3 "${refused}too many variables" refused x
+else
+    echo 'collide: no C compiler, so not measured'
+fi
+exit $missed
