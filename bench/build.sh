@@ -1,28 +1,13 @@
 #!/bin/sh
 # The graphs of sources of 8, 16, 32 and 64 KiB: bytes, statement and expression nodes of the program, nodes and edges of
-# its graphs, how many of each there are for a syntax node, and the time of one `build`, whose graphs are then dropped;
-# where valgrind is there, also its instructions, the average of 20, and how many of them, without the C library's, there
-# are for a syntax node.
-# The program that builds them is built, proved, in a copy of the crates that it needs.
+# its graphs, how many of each there are for a syntax node, and the time of one `build`, whose graphs are then dropped (the
+# least of five runs of many); where valgrind is there, also its instructions, the average of 20, and how many of them,
+# without the C library's, there are for a syntax node.
+# The program that builds them is built, proved, in a copy of the crates that it needs. It fails where a run does anything
+# else, and where a limit of bench/limits.tsv is missed.
 # usage: bench/build.sh [DIRECTORY]   (where the copy is made or found; a temporary one, if none is given)
-top=$(cd "$(dirname "$0")/.." && pwd) || exit 70
-work=${1:-$(mktemp -d)} || exit 70
-[ $# -gt 0 ] || trap 'rm -rf "$work"' EXIT
-program=$work/crates/build_bench/out/build_bench
-
-build() {
-    mkdir -p "$work/crates/build_bench/src"
-    for name in outer_io linear_formula c_tree flow_graph flow_build c_lexer c_parser c_typing; do
-        mkdir -p "$work/crates/$name"
-        cp -r "$top/crates/$name/src" "$top/crates/$name/specs" "$top/crates/$name/proofs" "$work/crates/$name/"
-    done
-    cp "$top/HANDLES" "$work/"
-    grep -E '^(outer_io|linear_formula|c_tree|flow_graph|flow_build|c_lexer|c_parser|c_typing):' "$top/crates.txt" > "$work/crates.txt"
-    echo 'build_bench: outer_io linear_formula c_tree flow_graph flow_build c_lexer c_parser c_typing' >> "$work/crates.txt"
-    source_of > "$work/crates/build_bench/src/main.rt"
-    echo 'int main() { return 0; }' > "$work/crates/build_bench/stdin"
-    (cd "$work/crates/build_bench" && rt run -- 1) > "$work/build.log" 2>&1
-}
+. "$(dirname "$0")/common.sh"
+work_in "$@"
 
 source_of() {
     cat << 'PROGRAM'
@@ -152,29 +137,40 @@ fn main(rt: HostRuntime) -> ExitCode {
 PROGRAM
 }
 
-# all instructions of a run, and those of them that are the program's own, not the C library's
+source_of > "$work/source.rt"
+build_over build_bench 1 outer_io flow_build c_lexer c_parser c_typing < "$work/source.rt"
+
+# bytes, syntax nodes, nodes, edges and nanoseconds of so many builds
+numbers='[0-9]+ [0-9]+ [0-9]+ [0-9]+ [0-9]+'
+
+# all instructions of a run of so many builds, and those of them that are the program's own
 instructions() {
-    valgrind --tool=callgrind --callgrind-out-file="$work/callgrind" "$program" "$1" < "$work/source.c" > /dev/null 2>&1
-    callgrind_annotate --threshold=100 "$work/callgrind" | tr -d , |
-        awk '/PROGRAM TOTALS/ { all = $1 } /\/build_bench\]/ { own += $1 } END { printf "%d %d", all, own }'
+    measure --runs 1 --text "$numbers" --input "$work/source.c" --count --own build_bench -- "$program" "$1" | cut -d ' ' -f 3,4
 }
 
-[ -x "$program" ] || build
-[ -x "$program" ] || { echo "the benchmark could not be built; see $work/build.log" >&2; exit 70; }
+# the nanoseconds of each of five runs of so many builds
+nanos() {
+    for run in 1 2 3 4 5; do
+        "$program" "$1" < "$work/source.c" | cut -d ' ' -f 5
+    done
+}
+
 printf '%-6s %6s %7s %7s %7s %6s %6s %12s %13s %9s\n' shape bytes syntax nodes edges nodes/ edges/ 'micros each' instructions own/
 for shape in deep chain many long; do
     for size in 8192 16384 32768 65536; do
         awk -v shape="$shape" -v size="$size" -v last=0 -f "$top/bench/source.awk" > "$work/source.c"
         count=$((13107200 / size))
-        text=$("$program" "$count" < "$work/source.c") || { echo "$shape $size: no graphs" >&2; exit 1; }
-        each=
-        if command -v valgrind > /dev/null 2>&1; then
-            each="$(instructions 0) $(instructions 20)"
-        fi
-        echo "$shape $text $count $each" | awk '{
-            printf "%-6s %6d %7d %7d %7d %6.2f %6.2f %12.1f", $1, $2, $3, $4, $5, $4 / $3, $5 / $3, $6 / 1000 / $7
-            if (NF > 7) printf " %13d %9.1f", ($10 - $8) / 20, ($11 - $9) / 20 / $3
-            print ""
-        }'
+        text=$("$program" 0 < "$work/source.c") || { echo "$shape $size: no graphs" >&2; exit 1; }
+        least=$(nanos "$count" | sort -n | head -n 1)
+        none=$(instructions 0) && twenty=$(instructions 20) || exit 1
+        line=$(echo "$text $count $least $none $twenty" | awk '{
+            printf "%6d %7d %7d %7d %6.2f %6.2f %12.1f", $1, $2, $3, $4, $3 / $2, $4 / $2, $7 / 1000 / $6
+            if ($8 != "-") printf " %13d %9.1f", ($10 - $8) / 20, ($11 - $9) / 20 / $2
+        }')
+        printf '%-6s %s\n' "$shape" "$line"
+        set -- $line
+        hold build "$shape" "$size" instructions "${8:--}"
+        hold build "$shape" "$size" own "${9:--}"
     done
 done
+exit $missed

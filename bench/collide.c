@@ -1,7 +1,7 @@
-/* A source of so many bytes that declares one name after another in `main`, all of which the map of names keeps in one
- * chain: their hashes agree in the low bits, which choose a group of the map, and in the eight bits that it compares
- * before it compares names. The hash is the kit's FoldHasher, with its fixed seed, over the bytes of a name and 255.
- * usage: collide BYTES */
+/* Names of eight letters that the map of names keeps in one chain: their hashes agree in the low bits, which choose a group
+ * of the map, and in the eight bits that it compares before it compares names. The hash is the kit's FoldHasher, with its
+ * fixed seed, over the bytes of a name and 255. It tries 2^18 names for each, so 6,400 names take about half a minute.
+ * usage: collide COUNT */
 #include <stdint.h>
 #include <stdio.h>
 #include <stdlib.h>
@@ -22,17 +22,19 @@ static uint32_t hash_of(uint64_t name) {
 }
 
 int main(int argc, char **argv) {
-    long size = argc > 1 ? atol(argv[1]) : 65536, written = printf("int main() { int aaaaaaaa");
-    uint32_t bits = 0xff000fffu;
-    for (uint64_t number = 1, wanted = 0; written < size - 40; number++) {
+    long count = argc > 1 ? atol(argv[1]) : 6400;
+    uint32_t bits = 0xff0003ff, wanted = 0;
+    for (uint64_t number = 0, found = 0; found < (uint64_t)count; number++) {
         char name[9] = "aaaaaaaa";
         uint64_t rest = number, bytes;
         for (int i = 7; rest > 0; i--, rest /= 26) name[i] = 'a' + rest % 26;
         memcpy(&bytes, name, 8);
         uint32_t hash = hash_of(bytes) & bits;
-        if (number == 1) wanted = hash;
-        else if (hash == wanted) written += printf(", %s", name);
+        if (number == 0) wanted = hash;
+        if (hash == wanted) {
+            puts(name);
+            found++;
+        }
     }
-    printf("; return 0; }\n");
     return 0;
 }

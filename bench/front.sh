@@ -21,10 +21,7 @@ shape() {
     label=$1-$5
     before=-
     for size in $sizes; do
-        case $1 in
-            collide) "$work/collide" "$size" > "$work/source.c" ;;
-            *) awk -v shape="$1" -v size="$size" -v last="$6" -f "$top/bench/source.awk" > "$work/source.c" ;;
-        esac
+        awk -v shape="$1" -v size="$size" -v last="$6" -v file="$names" -f "$top/bench/source.awk" > "$work/source.c"
         taken=$(measure --status "$3" --text "$4" --input "$work/source.c" --count -- "$program" $2) || exit 1
         set -- "$1" "$2" "$3" "$4" "$5" "$6" $taken
         growth=$(echo "$9 $before" | awk '{ print ($2 > 0 ? sprintf("%.2f", $1 / $2) : "-") }')
@@ -42,7 +39,9 @@ for name in deep chain many long empty nest; do
     shape $name 'replay []' 0 'returned 0, inputs used 0' accepted 0
 done
 shape names check 3 "${refused}too many variables" refused x
-if cc -O2 -o "$work/collide" "$top/bench/collide.c" 2> /dev/null; then
+names=$top/out/collide.txt
+[ -s "$names" ] || { mkdir -p "$top/out" && cc -O2 -o "$work/collide" "$top/bench/collide.c" 2> /dev/null && "$work/collide" 6400 > "$names"; }
+if [ -s "$names" ]; then
     shape collide check 3 "${refused}too many variables" refused x
 else
     echo 'collide: no C compiler, so not measured'

@@ -1,25 +1,12 @@
 #!/bin/sh
 # The solver on questions of a lock loop and of two counters (many times), on 60 random rows over 20 columns, on a shadow
-# of 4,095 rows and on a question of 512 splits: seconds, and, where valgrind is there, instructions.
-# The program that asks them is built, proved, in a copy of the four crates.
+# of 4,095 rows and on a question of 512 splits: the least user and system time of five runs, and, where valgrind is there,
+# instructions.
+# The program that asks them is built, proved, in a copy of the crates that it needs. It fails where an answer is another
+# one, and where a limit of bench/limits.tsv is missed.
 # usage: bench/solver.sh [DIRECTORY]   (where the copy is made or found; a temporary one, if none is given)
-top=$(cd "$(dirname "$0")/.." && pwd) || exit 70
-work=${1:-$(mktemp -d)} || exit 70
-[ $# -gt 0 ] || trap 'rm -rf "$work"' EXIT
-program=$work/crates/solver_bench/out/solver_bench
-
-build() {
-    mkdir -p "$work/crates/solver_bench/src"
-    for name in linear_formula infeasible_cert shadow_elim lia_solver; do
-        mkdir -p "$work/crates/$name"
-        cp -r "$top/crates/$name/src" "$top/crates/$name/specs" "$top/crates/$name/proofs" "$work/crates/$name/"
-    done
-    cp "$top/HANDLES" "$work/"
-    grep -E '^(linear_formula|infeasible_cert|shadow_elim|lia_solver):' "$top/crates.txt" > "$work/crates.txt"
-    echo 'solver_bench: linear_formula infeasible_cert shadow_elim lia_solver' >> "$work/crates.txt"
-    source_of > "$work/crates/solver_bench/src/main.rt"
-    (cd "$work/crates/solver_bench" && rt run -- lock 1) > "$work/build.log" 2>&1
-}
+. "$(dirname "$0")/common.sh"
+work_in "$@"
 
 source_of() {
     cat << 'PROGRAM'
@@ -216,19 +203,24 @@ fn main(rt: HostRuntime) -> ExitCode {
 PROGRAM
 }
 
-[ -x "$program" ] || build
-[ -x "$program" ] || { echo "the benchmark could not be built; see $work/build.log" >&2; exit 70; }
-printf '%-9s %7s %-6s %12s %14s\n' question times answer 'micros each' 'instructions'
-for line in 'lock 10000' 'counters 10000' 'random 1' 'shadow 10' 'splits 1'; do
-    set -- $line
-    begin=$(date +%s.%N)
-    text=$("$program" "$1" "$2")
-    end=$(date +%s.%N)
-    count=-
-    if command -v valgrind > /dev/null 2>&1; then
-        once=$([ "$2" -gt 100 ] && echo 100 || echo "$2")
-        count=$(valgrind --tool=callgrind --callgrind-out-file="$work/$1.callgrind" "$program" "$1" "$once" 2>&1 > /dev/null | sed -n 's/.*refs: *\([0-9,]*\).*/\1/p' | tr -d ,)
-        count=$((count / once))
-    fi
-    echo "$1 $2 $text $begin $end $count" | awk '{ printf "%-9s %7d %-6s %12.1f %14s\n", $1, $2, $3, ($5 - $4) * 1e6 / $2, $6 }'
-done
+source_of > "$work/source.rt"
+build_over solver_bench 'lock 1' lia_solver < "$work/source.rt"
+
+# question, times, answer, and times under valgrind
+ask() {
+    taken=$(measure --text "$3" -- "$program" "$1" "$2") || exit 1
+    count=$(measure --runs 1 --text "$3" --count -- "$program" "$1" "$4") || exit 1
+    micros=$(echo "${taken%% *} $2" | awk '{ printf "%.1f", $1 * 1e6 / $2 }')
+    each=$(echo "${count##* } $4" | awk '{ print ($1 == "-" ? "-" : sprintf("%d", $1 / $2)) }')
+    printf '%-9s %7d %-6s %12s %14s\n' "$1" "$2" "$3" "$micros" "$each"
+    hold solver "$1" any instructions "$each"
+    hold solver "$1" any micros "$micros"
+}
+
+printf '%-9s %7s %-6s %12s %14s\n' question times answer 'micros each' instructions
+ask lock 10000 point 100
+ask counters 10000 point 100
+ask random 1 limit 1
+ask shadow 10 shadow 10
+ask splits 1 limit 1
+exit $missed
