@@ -14,3 +14,4 @@ pub mod Evaluating
 pub mod Renamed
 pub mod Laws
 pub mod Replacing
+pub mod TermAtoms

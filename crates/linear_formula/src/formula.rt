@@ -1,11 +1,11 @@
 // Atoms and cubes.
 
-ghost use Rattle.std.specs.Prelude.{◌≡◌, ◌++◌, ◌↔◌, ◌≤ℤ◌, ◌-ℤ◌, ℕ, ℤ, pos, unwrap_or, IfOk, OnOk, OnErr, IsErrOf, IsTrue};
+ghost use Rattle.std.specs.Prelude.{◌≡◌, ◌++◌, ◌∷◌, [], ◌↔◌, ◌≤ℤ◌, ◌-ℤ◌, ℕ, ℤ, pos, unwrap_or, IfOk, OnOk, OnErr, IsErrOf, IsTrue};
 ghost use Rattle.std.specs.BTreeMap.{get};
 ghost use Rattle.std.specs.Ordering.{nat_cmp};
 ghost use Rattle.linear_formula.specs.LinearSum.{value_of, valuation, is_term, is_within};
 ghost use Rattle.linear_formula.specs.Results.{substituted, negated, valuation_with, renamed_valuation};
-ghost use Rattle.linear_formula.specs.Formula.{Holds, HoldsAll, renamed_atoms, renamed_atoms_by, are_within, is_renaming};
+ghost use Rattle.linear_formula.specs.Formula.{Holds, HoldsAll, renamed_atoms, renamed_atoms_by, are_within, are_terms, is_renaming};
 
 use crate::assignment::Assignment;
 use crate::error::{LinError, OutOfMemory};
@@ -27,12 +27,15 @@ pub struct Atoms {
 }
 
 impl Model for Atoms {
-    ghost use Rattle.std.specs.Prelude.{List};
+    ghost use Rattle.std.specs.Prelude.{IsTrue, List};
     ghost use Rattle.linear_formula.specs.declared.formula.Atom.{Atom};
+    ghost use Rattle.linear_formula.specs.Formula.{are_terms};
 
     ghost Value = { List Atom };
 
     ghost view = { λ a. a.items.items };
+
+    ghost invariant = { λ a. IsTrue (are_terms a.items.items) };
 }
 
 /// All of the atoms; the empty cube is true.
@@ -42,24 +45,58 @@ pub struct Cube {
 }
 
 impl Atoms {
+    pub fn new(alloc: Global) -> Atoms
+        ensures { result ≡ [] }
+    {
+        Atoms {
+            items: Vec::new(alloc),
+        }
+    }
+
+    pub fn with_capacity(alloc: Global, n: usize) -> Result<Atoms, OutOfMemory>
+        ensures { IfOk result (λ a. a ≡ []) }
+    {
+        let items = Vec::with_capacity(alloc, n)?;
+        Ok(Atoms { items })
+    }
+
     /// Takes no memory of its own.
     pub fn from_vec(items: Vec<Atom>) -> Atoms
+        requires { IsTrue (are_terms items.items) }
         ensures { result ≡ items.items }
     {
         Atoms { items }
     }
 
+    pub fn push(&mut self, atom: Atom) -> Result<(), OutOfMemory>
+        ensures { OnOk result (self.new ≡ self.old ++ atom ∷ []) }
+    {
+        let _ = atom.term.parts();
+        self.items.push(atom)?;
+        Ok(())
+    }
+
     pub fn into_vec(self) -> Vec<Atom>
-        ensures { result.items ≡ self }
+        ensures value { result.items ≡ self }
+        ensures terms { IsTrue (are_terms self) }
     {
         let Atoms { items } = self;
         items
     }
 
     pub fn as_slice(&self) -> &[Atom]
-        ensures { result.now ≡ self.now }
+        ensures value { result.now ≡ self.now }
+        ensures terms { IsTrue (are_terms self.now) }
     {
         self.items.as_slice()
+    }
+
+    pub fn copy(&self, alloc: Global) -> Result<Atoms, OutOfMemory>
+        ensures { IfOk result (λ atoms. atoms ≡ self.now) }
+    {
+        let mut copy = Atoms::with_capacity(alloc, self.items.len())?;
+        copy_onto(&mut copy, alloc, self.as_slice())?;
+        Ok(copy)
     }
 }
 
@@ -102,8 +139,8 @@ impl Atom {
     }
 }
 
-fn copy_onto(out: &mut Vec<Atom>, alloc: Global, atoms: &[Atom]) -> Result<(), OutOfMemory>
-    ensures { OnOk result (out.new.items ≡ out.old.items ++ atoms.now) }
+fn copy_onto(out: &mut Atoms, alloc: Global, atoms: &[Atom]) -> Result<(), OutOfMemory>
+    ensures { OnOk result (out.new ≡ out.old ++ atoms.now) }
 {
     for atom in atoms {
         out.push(atom.copy(alloc)?)?;
@@ -112,14 +149,14 @@ fn copy_onto(out: &mut Vec<Atom>, alloc: Global, atoms: &[Atom]) -> Result<(), O
 }
 
 fn rename_onto(
-    out: &mut Vec<Atom>,
+    out: &mut Atoms,
     alloc: Global,
     columns: &NewColumns,
     atoms: &[Atom],
 ) -> Result<(), LinError>
     ensures items { OnOk result
-        (out.new.items ≡ out.old.items ++ renamed_atoms_by (λ x. unwrap_or (get nat_cmp columns.now x) x) atoms.now) }
-    ensures within { OnOk result (IsTrue (are_within out.old.items) → IsTrue (are_within out.new.items)) }
+        (out.new ≡ out.old ++ renamed_atoms_by (λ x. unwrap_or (get nat_cmp columns.now x) x) atoms.now) }
+    ensures within { OnOk result (IsTrue (are_within out.old) → IsTrue (are_within out.new)) }
     ensures wide { IsErrOf result LinError.Wide → ¬ IsTrue
         (are_within (renamed_atoms_by (λ x. unwrap_or (get nat_cmp columns.now x) x) atoms.now)) }
 {
@@ -134,10 +171,8 @@ impl Cube {
     pub fn copy(&self, alloc: Global) -> Result<Cube, OutOfMemory>
         ensures { IfOk result (λ cube. cube ≡ self.now) }
     {
-        let mut items = Vec::with_capacity(alloc, self.atoms.as_slice().len())?;
-        copy_onto(&mut items, alloc, self.atoms.as_slice())?;
         Ok(Cube {
-            atoms: Atoms::from_vec(items),
+            atoms: self.atoms.copy(alloc)?,
         })
     }
 
@@ -152,21 +187,31 @@ impl Cube {
         true
     }
 
+    /// The cube with one more atom.
+    pub fn with(&self, alloc: Global, atom: Atom) -> Result<Cube, OutOfMemory>
+        ensures { IfOk result (λ cube. cube.atoms ≡ self.now.atoms ++ atom ∷ []) }
+    {
+        let old = self.atoms.as_slice();
+        let mut atoms = Atoms::with_capacity(alloc, old.len() + 1)?;
+        copy_onto(&mut atoms, alloc, old)?;
+        atoms.push(atom)?;
+        Ok(Cube { atoms })
+    }
+
     /// The atoms of both, in order.
     pub fn and(&self, alloc: Global, other: &Cube) -> Result<Cube, OutOfMemory>
         ensures { IfOk result (λ cube. cube.atoms ≡ self.now.atoms ++ other.now.atoms) }
     {
         let left = self.atoms.as_slice();
         let right = other.atoms.as_slice();
-        let mut items = Vec::with_capacity(alloc, left.len() + right.len())?;
-        copy_onto(&mut items, alloc, left)?;
-        copy_onto(&mut items, alloc, right)?;
-        Ok(Cube {
-            atoms: Atoms::from_vec(items),
-        })
+        let mut atoms = Atoms::with_capacity(alloc, left.len() + right.len())?;
+        copy_onto(&mut atoms, alloc, left)?;
+        copy_onto(&mut atoms, alloc, right)?;
+        Ok(Cube { atoms })
     }
 
-    /// Gives each listed column its new number, all at once; the columns that are not listed keep theirs.
+    /// Gives each listed column its new number, all at once; the columns that are not listed keep
+    /// theirs.
     pub fn rename(&self, alloc: Global, map: &[(u32, u32)]) -> Result<Cube, LinError>
         requires { IsTrue (is_renaming map.now) }
         ensures value { IfOk result (λ cube. cube.atoms ≡ renamed_atoms map.now self.now.atoms) }
@@ -176,10 +221,9 @@ impl Cube {
         ensures wide { IsErrOf result LinError.Wide → ¬ IsTrue (are_within (renamed_atoms map.now self.now.atoms)) }
     {
         let columns = new_columns(alloc, map)?;
-        let mut items = Vec::with_capacity(alloc, self.atoms.as_slice().len())?;
-        rename_onto(&mut items, alloc, &columns, self.atoms.as_slice())?;
-        Ok(Cube {
-            atoms: Atoms::from_vec(items),
-        })
+        let old = self.atoms.as_slice();
+        let mut atoms = Atoms::with_capacity(alloc, old.len())?;
+        rename_onto(&mut atoms, alloc, &columns, old)?;
+        Ok(Cube { atoms })
     }
 }

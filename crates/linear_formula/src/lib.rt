@@ -12,5 +12,3 @@ pub mod reading;
 mod renaming;
 mod sums;
 pub mod term;
-#[cfg(test)]
-mod tests;

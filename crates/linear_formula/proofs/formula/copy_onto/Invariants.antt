@@ -2,4 +2,4 @@ use Rattle.std.proofs.Common.{◌≡◌, ◌++◌, take}
 use Rattle.linear_formula.proofs.formula.copy_onto.Given as goal
 
 abbrev pub invariant-loop-atom : goal.invariant-loop-atom
-invariant-loop-atom l = l.out.items ≡ l.initial.out.items ++ take l.atom-index l.atoms
+invariant-loop-atom l = l.out ≡ l.initial.out ++ take l.atom-index l.atoms

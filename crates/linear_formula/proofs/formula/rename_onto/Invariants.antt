@@ -6,4 +6,4 @@ use Rattle.linear_formula.proofs.formula.rename_onto.Given as goal
 
 abbrev pub invariant-loop-atom : goal.invariant-loop-atom
 invariant-loop-atom l =
-    Renaming (λ x. unwrap_or (get nat_cmp l.columns x) x) l.atoms l.initial.out.items l.out.items l.atom-index
+    Renaming (λ x. unwrap_or (get nat_cmp l.columns x) x) l.atoms l.initial.out l.out l.atom-index
