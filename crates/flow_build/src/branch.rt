@@ -1,6 +1,6 @@
 //! The edges of comparisons.
 
-ghost use Rattle.std.specs.Prelude.{◌≡◌, ◌++◌, OnOk};
+ghost use Rattle.std.specs.Prelude.{◌≡◌, ◌++◌, ◌∷◌, [], IfOk, OnOk};
 ghost use Rattle.flow_build.specs.Blocks.{way, ways};
 ghost use Rattle.flow_build.specs.Operands.{rows_where, opposite_op};
 
@@ -16,14 +16,29 @@ use std::alloc::{AllocError, Global};
 /// The fixed node to which failed assertions lead.
 pub const FAIL_NODE: u32 = 1;
 
+fn one_row(alloc: Global, row: Atom) -> Result<Atoms, AllocError>
+    ensures { IfOk result (λ rows. rows ≡ row ∷ []) }
+{
+    let mut rows = Atoms::with_capacity(alloc, 1)?;
+    rows.push(row)?;
+    Ok(rows)
+}
+
+fn two_rows(alloc: Global, first: Atom, second: Atom) -> Result<Atoms, AllocError>
+    ensures { IfOk result (λ rows. rows ≡ first ∷ second ∷ []) }
+{
+    let mut rows = Atoms::with_capacity(alloc, 2)?;
+    rows.push(first)?;
+    rows.push(second)?;
+    Ok(rows)
+}
+
 /// The edge to a target where the rows hold; to nowhere there is none.
-fn push_way(b: &mut Builder, from: u32, target: Target, rows: Vec<Atom>) -> Result<(), AllocError>
-    ensures edges { OnOk result (b.new.edges.items ≡ b.old.edges.items ++ way from target rows.items) }
+fn push_way(b: &mut Builder, from: u32, target: Target, atoms: Atoms) -> Result<(), AllocError>
+    ensures edges { OnOk result (b.new.edges.items ≡ b.old.edges.items ++ way from target atoms) }
     ensures next { b.new.next ≡ b.old.next }
 {
-    let rows = Cube {
-        atoms: Atoms::from_vec(rows),
-    };
+    let rows = Cube { atoms };
     match target {
         Target::Node(to) => b.push(Edge::Guard { from, to, rows }),
         Target::Fails(id) => b.push(Edge::Assert {
@@ -50,27 +65,27 @@ fn push_ways(
     ensures next { b.new.next ≡ b.old.next }
 {
     match op {
-        Op::Less => push_way(b, from, target, vec![in alloc; less(alloc, left, right)?]?),
+        Op::Less => push_way(b, from, target, one_row(alloc, less(alloc, left, right)?)?),
         Op::LessEqual => push_way(
             b,
             from,
             target,
-            vec![in alloc; at_most(alloc, left, right)?]?,
+            one_row(alloc, at_most(alloc, left, right)?)?,
         ),
-        Op::Greater => push_way(b, from, target, vec![in alloc; less(alloc, right, left)?]?),
+        Op::Greater => push_way(b, from, target, one_row(alloc, less(alloc, right, left)?)?),
         Op::GreaterEqual => push_way(
             b,
             from,
             target,
-            vec![in alloc; at_most(alloc, right, left)?]?,
+            one_row(alloc, at_most(alloc, right, left)?)?,
         ),
         Op::Equal => {
-            let rows = vec![in alloc; at_most(alloc, left, right)?, at_most(alloc, right, left)?]?;
+            let rows = two_rows(alloc, at_most(alloc, left, right)?, at_most(alloc, right, left)?)?;
             push_way(b, from, target, rows)
         }
         Op::Unequal => {
-            push_way(b, from, target, vec![in alloc; less(alloc, right, left)?]?)?;
-            push_way(b, from, target, vec![in alloc; less(alloc, left, right)?]?)
+            push_way(b, from, target, one_row(alloc, less(alloc, right, left)?)?)?;
+            push_way(b, from, target, one_row(alloc, less(alloc, left, right)?)?)
         }
         Op::Add | Op::Subtract | Op::Multiply | Op::And | Op::Or => Ok(()),
     }

@@ -48,7 +48,7 @@ fn begin(alloc: Global, procedure: &Procedure) -> Result<Builder, OutOfMemory>
         params: procedure.params,
     })?;
     let rows = Cube {
-        atoms: Atoms::from_vec(Vec::new(alloc)),
+        atoms: Atoms::new(alloc),
     };
     b.push(Edge::Guard {
         from: ENTRY_NODE,

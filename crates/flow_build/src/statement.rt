@@ -48,7 +48,7 @@ fn skip(b: &mut Builder, alloc: Global, from: u32, to: u32) -> Result<(), AllocE
     ensures next { b.new.next ≡ b.old.next }
 {
     let rows = Cube {
-        atoms: Atoms::from_vec(Vec::new(alloc)),
+        atoms: Atoms::new(alloc),
     };
     b.push(Edge::Guard { from, to, rows })
 }

@@ -16,10 +16,9 @@ fn rows(alloc: Global, slot: Slot) -> Result<Cube, AllocError>
 {
     let parts = vec![in alloc; (slot, 1)]?;
     let term = Term::new(Parts::from_vec(parts), -7);
-    let atoms = vec![in alloc; Atom { term }]?;
-    Ok(Cube {
-        atoms: Atoms::from_vec(atoms),
-    })
+    let mut atoms = Atoms::new(alloc);
+    atoms.push(Atom { term })?;
+    Ok(Cube { atoms })
 }
 
 fn value(alloc: Global) -> Result<Lin, AllocError>

@@ -12,7 +12,7 @@ use crate::certificate::Certificate;
 use crate::columns::{Columns, list_columns};
 use crate::rows::{Nodes, Rows};
 use crate::walk::is_right;
-use linear_formula::formula::{Atom, Cube};
+use linear_formula::formula::Cube;
 
 /// The law that no assignment of 64-bit values meets a cube that has a right certificate. It computes nothing.
 pub fn right_is_sound()
@@ -26,22 +26,12 @@ const MAX_NESTING: u32 = 512;
 /// How many columns of a cube are listed; those behind them are looked up in the cube.
 const LISTED_COLUMNS: usize = 1024;
 
-/// What is known of a cube's atoms, for the proof.
-fn know_terms(atoms: &[Atom])
-    ensures { IsTrue (are_terms atoms.now) }
-{
-    for atom in atoms {
-        let _ = atom.term.parts();
-    }
-}
-
 /// Whether the certificate is right for the cube. Then no assignment of 64-bit values meets the cube. It takes no memory.
 pub fn refutes(cube: &Cube, certificate: &Certificate) -> bool
     ensures right { IsTrue result ↔ Refutes cube.now.atoms (refutation_of certificate.now) }
     ensures sound { IsTrue result → (v : Valuation) → Is64 v → HoldsAll v cube.now.atoms → ⊥ }
 {
     let atoms = cube.atoms.as_slice();
-    know_terms(atoms);
     let mut first = [0; LISTED_COLUMNS];
     let count = list_columns(atoms, &mut first);
     let columns = Columns {

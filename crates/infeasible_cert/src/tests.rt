@@ -72,12 +72,10 @@ fn branch(
 }
 
 fn cube_of(alloc: Global, first: Atom, second: Atom) -> Result<Cube, LinError> {
-    let mut items = Vec::new(alloc);
-    items.push(first)?;
-    items.push(second)?;
-    Ok(Cube {
-        atoms: Atoms::from_vec(items),
-    })
+    let mut atoms = Atoms::new(alloc);
+    atoms.push(first)?;
+    atoms.push(second)?;
+    Ok(Cube { atoms })
 }
 
 /// Twice the column 0 is 7.

@@ -1,6 +1,6 @@
 //! Whether one cube entails another.
 
-ghost use Rattle.std.specs.Prelude.{◌≡◌, ◌++◌, ◌∷◌, [], List, IfOk, IsTrue};
+ghost use Rattle.std.specs.Prelude.{List, IfOk, IsTrue};
 ghost use Rattle.linear_formula.specs.LinearSum.{Valuation, Is64, valuation, is_within};
 ghost use Rattle.linear_formula.specs.Formula.{HoldsAll};
 ghost use Rattle.linear_formula.specs.Results.{negated};
@@ -14,7 +14,7 @@ use crate::solved::{Certificates, Entailed, Solved};
 use infeasible_cert::certificate::Certificate;
 use linear_formula::assignment::Assignment;
 use linear_formula::error::{LinError, OutOfMemory};
-use linear_formula::formula::{Atom, Atoms, Cube};
+use linear_formula::formula::{Atom, Cube};
 use linear_formula::question::{Question, Summands};
 use shadow_elim::limit::{Kept, Limit};
 use std::alloc::{AllocError, Global};
@@ -24,21 +24,6 @@ enum Answer {
     Never(Certificate),
     Point(Assignment),
     Limit(Kept),
-}
-
-/// The left cube's atoms and the negated atom.
-fn question(alloc: Global, left: &Cube, negated: Atom) -> Result<Cube, OutOfMemory>
-    ensures { IfOk result (λ cube. cube.atoms ≡ left.now.atoms ++ negated ∷ []) }
-{
-    let old = left.atoms.as_slice();
-    let mut atoms = Vec::with_capacity(alloc, old.len() + 1)?;
-    for atom in old {
-        atoms.push(atom.copy(alloc)?)?;
-    }
-    atoms.push(negated)?;
-    Ok(Cube {
-        atoms: Atoms::from_vec(atoms),
-    })
 }
 
 /// The sum that negates the atom, which is too wide.
@@ -63,7 +48,7 @@ fn ask(alloc: Global, left: &Cube, atom: &Atom) -> Result<Answer, OutOfMemory>
     if negated.negate().is_err() {
         return Ok(Answer::Limit(wide(alloc, atom)?));
     }
-    let cube = question(alloc, left, negated)?;
+    let cube = left.with(alloc, negated)?;
     match solve(alloc, &cube)? {
         Solved::Never(certificate) => Ok(Answer::Never(certificate)),
         Solved::Point(at) => Ok(Answer::Point(at)),

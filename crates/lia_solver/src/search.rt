@@ -13,7 +13,7 @@ use crate::branch::{BranchOutcome, solve_branch};
 use crate::solved::Solved;
 use infeasible_cert::certificate::Certificate;
 use linear_formula::error::OutOfMemory;
-use linear_formula::formula::{Atom, Atoms, Cube};
+use linear_formula::formula::{Atom, Cube};
 use linear_formula::question::Question;
 use linear_formula::term::Term;
 use shadow_elim::limit::{Cubes, Limit};
@@ -44,15 +44,7 @@ pub struct Search {
 fn with_row(alloc: Global, cube: &Cube, term: Term) -> Result<Cube, OutOfMemory>
     ensures { IfOk result (λ branch. branch.atoms ≡ with_row cube.now.atoms term) }
 {
-    let old = cube.atoms.as_slice();
-    let mut atoms = Vec::with_capacity(alloc, old.len() + 1)?;
-    for atom in old {
-        atoms.push(atom.copy(alloc)?)?;
-    }
-    atoms.push(Atom { term })?;
-    Ok(Cube {
-        atoms: Atoms::from_vec(atoms),
-    })
+    cube.with(alloc, Atom { term })
 }
 
 impl Search {

@@ -12,21 +12,12 @@ use crate::columns::columns_of;
 use crate::search::{MAX_SPLITS, Search, Searched};
 use crate::solved::Solved;
 use linear_formula::error::OutOfMemory;
-use linear_formula::formula::{Atom, Cube};
+use linear_formula::formula::Cube;
 use shadow_elim::limit::Limit;
 use std::alloc::Global;
 
 /// How many columns a cube may name.
 const MAX_COLUMNS: usize = 256;
-
-/// What is known of a cube's atoms, for the proof.
-fn know_terms(atoms: &[Atom])
-    ensures { IsTrue (are_terms atoms.now) }
-{
-    for atom in atoms {
-        let _ = atom.term.parts();
-    }
-}
 
 /// A point of the cube, a certificate that it has none, or the limit that was met.
 pub fn solve(alloc: Global, cube: &Cube) -> Result<Solved, OutOfMemory>
@@ -36,7 +27,6 @@ pub fn solve(alloc: Global, cube: &Cube) -> Result<Solved, OutOfMemory>
     ensures sound { IfOk result (λ s. IfNever s (λ c. (v : Valuation) → Is64 v → HoldsAll v cube.now.atoms → ⊥)) }
 {
     let atoms = cube.atoms.as_slice();
-    know_terms(atoms);
     let columns = columns_of(alloc, atoms)?;
     if columns.len() > MAX_COLUMNS {
         return Ok(Solved::Limit(Limit::Columns));

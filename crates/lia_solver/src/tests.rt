@@ -26,15 +26,13 @@ fn term_of(alloc: Global, row: &Row) -> Result<Term, LinError> {
 }
 
 fn cube_of(alloc: Global, rows: &[Row]) -> Result<Cube, LinError> {
-    let mut atoms = Vec::new(alloc);
+    let mut atoms = Atoms::new(alloc);
     for row in rows {
         atoms.push(Atom {
             term: term_of(alloc, row)?,
         })?;
     }
-    Ok(Cube {
-        atoms: Atoms::from_vec(atoms),
-    })
+    Ok(Cube { atoms })
 }
 
 fn is_closed(certificate: &Certificate) -> bool {
@@ -117,15 +115,13 @@ fn meets_its_limits(rt: HostRuntime) -> Result<(), Fail> {
     let wide = solve(alloc, &cube_of(alloc, &rows)?)?;
     assert!(rt; matches!(wide, Solved::Limit(Limit::Wide { .. })));
     for (count, is_limit) in [(256, false), (257, true)] {
-        let mut atoms = Vec::new(alloc);
+        let mut atoms = Atoms::new(alloc);
         for column in 0..count {
             atoms.push(Atom {
                 term: term_of(alloc, &(&[(1, column)], 0))?,
             })?;
         }
-        let cube = Cube {
-            atoms: Atoms::from_vec(atoms),
-        };
+        let cube = Cube { atoms };
         let columns = solve(alloc, &cube)?;
         assert_eq!(rt; matches!(columns, Solved::Limit(Limit::Columns)), is_limit);
     }
@@ -159,7 +155,7 @@ fn draw(seed: &mut u64) -> i64 {
 
 /// Both columns are from -3 to 3, and three more rows of small numbers hold.
 fn small_cube(alloc: Global, seed: &mut u64) -> Result<Cube, LinError> {
-    let mut atoms = Vec::new(alloc);
+    let mut atoms = Atoms::new(alloc);
     for column in 0..2 {
         for sign in [1, -1] {
             atoms.push(Atom {
@@ -173,9 +169,7 @@ fn small_cube(alloc: Global, seed: &mut u64) -> Result<Cube, LinError> {
             term: term_of(alloc, &(&[(a, 0), (b, 1)], c))?,
         })?;
     }
-    Ok(Cube {
-        atoms: Atoms::from_vec(atoms),
-    })
+    Ok(Cube { atoms })
 }
 
 fn has_point(alloc: Global, cube: &Cube) -> Result<bool, LinError> {

@@ -125,13 +125,11 @@ fn first_inexact(alloc: Global, stages: &[Stage]) -> Result<Option<Pair>, OutOfM
 fn cube_of(alloc: Global, rows: Vec<Row>) -> Result<Cube, OutOfMemory>
     ensures { IfOk result (λ cube. rows_of cube.atoms ≡ terms_of rows.items) }
 {
-    let mut atoms = Vec::with_capacity(alloc, rows.len())?;
+    let mut atoms = Atoms::with_capacity(alloc, rows.len())?;
     for row in rows {
         atoms.push(Atom { term: row.term })?;
     }
-    Ok(Cube {
-        atoms: Atoms::from_vec(atoms),
-    })
+    Ok(Cube { atoms })
 }
 
 /// Eliminates the columns, which ascend, from a cube and the ranges of these columns.

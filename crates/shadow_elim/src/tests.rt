@@ -20,15 +20,13 @@ fn term_of(alloc: Global, row: &Row) -> Result<Term, LinError> {
 }
 
 fn cube_of(alloc: Global, rows: &[Row]) -> Result<Cube, LinError> {
-    let mut atoms = Vec::new(alloc);
+    let mut atoms = Atoms::new(alloc);
     for row in rows {
         atoms.push(Atom {
             term: term_of(alloc, row)?,
         })?;
     }
-    Ok(Cube {
-        atoms: Atoms::from_vec(atoms),
-    })
+    Ok(Cube { atoms })
 }
 
 /// Whether the shadow's atom at the place has these parts and this constant.
@@ -80,7 +78,7 @@ fn measures_before_it_tightens(rt: HostRuntime) -> Result<(), Fail> {
 
 /// Upper and lower rows of column 0, each with a column of its own.
 fn fan(alloc: Global, uppers: u8, lowers: u8) -> Result<Cube, LinError> {
-    let mut atoms = Vec::new(alloc);
+    let mut atoms = Atoms::new(alloc);
     for i in 0..uppers {
         let row: Row = (&[(1, 0), (1, 1 + u32::from(i))], 0);
         atoms.push(Atom {
@@ -93,9 +91,7 @@ fn fan(alloc: Global, uppers: u8, lowers: u8) -> Result<Cube, LinError> {
             term: term_of(alloc, &row)?,
         })?;
     }
-    Ok(Cube {
-        atoms: Atoms::from_vec(atoms),
-    })
+    Ok(Cube { atoms })
 }
 
 #[test]

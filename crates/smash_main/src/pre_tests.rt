@@ -44,7 +44,7 @@ const TARGETS: &[&[Row]] = &[
 ];
 
 fn cube_of(alloc: Global, rows: &[Row]) -> Result<Cube, Fail> {
-    let mut atoms = Vec::new(alloc);
+    let mut atoms = Atoms::new(alloc);
     for (coefficients, constant) in rows {
         let mut parts = Vec::new(alloc);
         for (slot, coefficient) in (0..).zip(*coefficients) {
@@ -54,9 +54,7 @@ fn cube_of(alloc: Global, rows: &[Row]) -> Result<Cube, Fail> {
             term: Term::combine(alloc, &parts, *constant)?,
         })?;
     }
-    Ok(Cube {
-        atoms: Atoms::from_vec(atoms),
-    })
+    Ok(Cube { atoms })
 }
 
 /// The preimage over an edge that isn't a call.

@@ -16,7 +16,7 @@ use crate::reading::{AtEntry, OneColumn};
 use crate::rows::{read_rows, row, value_term};
 use flow_graph::graph::{Edge, Lin};
 use linear_formula::error::OutOfMemory;
-use linear_formula::formula::{Atom, Atoms, Cube};
+use linear_formula::formula::{Atoms, Cube};
 use linear_formula::question::{Columns, Question};
 use linear_formula::reading::{Reading, column_term};
 use shadow_elim::eliminate::eliminate;
@@ -27,14 +27,12 @@ use std::alloc::Global;
 /// The column of the first exit value.
 const FIRST_EXIT: u32 = 20_000;
 
-fn exact(atoms: Vec<Atom>) -> Pre
-    ensures rows { result.cube.atoms ≡ atoms.items }
+fn exact(atoms: Atoms) -> Pre
+    ensures rows { result.cube.atoms ≡ atoms }
     ensures exact { result.inexact ≡ None }
 {
     Pre {
-        cube: Cube {
-            atoms: Atoms::from_vec(atoms),
-        },
+        cube: Cube { atoms },
         inexact: None,
     }
 }
@@ -64,15 +62,6 @@ fn assigned(alloc: Global, slot: u32, value: &Lin, target: &Cube) -> Result<Pre,
     atoms.push(row(alloc, 1, &reading.by, -i64::MAX)?)?;
     atoms.push(row(alloc, -1, &reading.by, i64::MIN)?)?;
     Ok(exact(atoms))
-}
-
-/// What is known of a cube's atoms, for the proof.
-fn know_terms(atoms: &[Atom])
-    ensures { IsTrue (are_terms atoms.now) }
-{
-    for atom in atoms {
-        let _ = atom.term.parts();
-    }
 }
 
 /// The limit of an elimination whose rows are too wide.
@@ -117,7 +106,7 @@ fn without(alloc: Global, cube: &Cube, slot: u32) -> Result<Pre, PreError>
 {
     match eliminate(alloc, cube, &[slot]) {
         Ok(shadow) => {
-            know_terms(shadow.pre.cube.atoms.as_slice());
+            let _ = shadow.pre.cube.atoms.as_slice();
             Ok(shadow.pre)
         }
         Err(ShadowError::Wide) => Err(PreError::Limit(wide_elimination(alloc, cube, slot)?)),

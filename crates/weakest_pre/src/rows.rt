@@ -13,7 +13,7 @@ ghost use Rattle.weakest_pre.specs.Sums.{IsWideSum, IsWideRow};
 use crate::error::PreError;
 use flow_graph::graph::Lin;
 use linear_formula::error::{LinError, OutOfMemory};
-use linear_formula::formula::Atom;
+use linear_formula::formula::{Atom, Atoms};
 use linear_formula::question::{Question, Summands};
 use linear_formula::reading::{Reading, column_term, summands};
 use linear_formula::term::Term;
@@ -51,12 +51,12 @@ pub fn read_rows<R: Reading>(
     alloc: Global,
     reading: &R,
     target: &[Atom],
-) -> Result<Vec<Atom>, PreError>
-    ensures rows { IfOk result (λ rows. rows_of rows.items ≡ read_rows (R.term_at reading.now) target.now) }
-    ensures within { IfOk result (λ rows. IsTrue (list_all is_within (rows_of rows.items))) }
+) -> Result<Atoms, PreError>
+    ensures rows { IfOk result (λ rows. rows_of rows ≡ read_rows (R.term_at reading.now) target.now) }
+    ensures within { IfOk result (λ rows. IsTrue (list_all is_within (rows_of rows))) }
     ensures limit { IfErr result (λ e. IfLimit e (IsWideRow (R.term_at reading.now) target.now)) }
 {
-    let mut rows = Vec::with_capacity(alloc, target.len())?;
+    let mut rows = Atoms::with_capacity(alloc, target.len())?;
     for atom in target {
         let summands = summands(alloc, reading, &atom.term)?;
         rows.push(Atom {

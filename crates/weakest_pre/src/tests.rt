@@ -21,7 +21,7 @@ type Row<'a> = (&'a [(i64, u32)], i64);
 type Found<'a> = (&'a [(u32, i128)], i128);
 
 fn cube_of(alloc: Global, rows: &[Row]) -> Result<Cube, LinError> {
-    let mut atoms = Vec::new(alloc);
+    let mut atoms = Atoms::new(alloc);
     for (parts, constant) in rows {
         let mut summands = Vec::new(alloc);
         for (multiplier, column) in *parts {
@@ -32,9 +32,7 @@ fn cube_of(alloc: Global, rows: &[Row]) -> Result<Cube, LinError> {
             term: Term::combine(alloc, &summands, *constant)?,
         })?;
     }
-    Ok(Cube {
-        atoms: Atoms::from_vec(atoms),
-    })
+    Ok(Cube { atoms })
 }
 
 fn is_row(atom: &Atom, row: &Found) -> bool {

@@ -8,12 +8,13 @@ use Rattle.infeasible_cert.proofs.Sound.{right-sound}
 use Rattle.infeasible_cert.proofs.check.refutes.Goals as goal
 
 pub is_right-requires : goal.is_right-requires
-is_right-requires c = base-order c.as_slice-atoms.result.now c.know_terms.ensures
+is_right-requires c =
+    base-order c.as_slice-atoms.result.now (subst (λ (as_ : List Atom). IsTrue (are_terms as_)) (sym c.as_slice-atoms.ensures.value) c.as_slice-atoms.ensures.terms)
 
 pub returns-clause-right : goal.returns-clause-right
 returns-clause-right c =
     let r = refutation_of c.args.certificate.now in
-    let e = c.as_slice-atoms.ensures in
+    let e = c.as_slice-atoms.ensures.value in
     let n = c.is_right.ensures.right in (
       λ g. record {
         shallow = (n.0 g).0;
@@ -24,10 +25,10 @@ returns-clause-right c =
 
 pub returns-clause-sound : goal.returns-clause-sound
 returns-clause-sound c = λ g v w h.
-    let e = c.as_slice-atoms.ensures in
+    let e = c.as_slice-atoms.ensures.value in
     let n = c.is_right.ensures.right.0 g in
     let s : Refutes c.args.cube.now.atoms (refutation_of c.args.certificate.now) = record {
       shallow = n.0;
       right = subst (λ (as_ : List Atom). IsRight (base_rows as_) (refutation_of c.args.certificate.now)) e n.1;
     } in
-    right-sound c.args.cube.now.atoms (refutation_of c.args.certificate.now) v (subst (λ (as_ : List Atom). IsTrue (are_terms as_)) e c.know_terms.ensures) (c.is_right.ensures.terms g) s w h
+    right-sound c.args.cube.now.atoms (refutation_of c.args.certificate.now) v c.as_slice-atoms.ensures.terms (c.is_right.ensures.terms g) s w h

@@ -11,20 +11,20 @@ pub returns-in-Point-clause-right : goal.returns-in-Point-clause-right
 returns-in-Point-clause-right c = λ h.
     let atom = c.atom-item.result in let at = c.in-Point.at in let items = c.as_slice-atom-items.result.now in
     let meant = subst (IsMeant c.args.left.now.atoms atom) c.in-Point.is c.in_ok-certificate.ensures.meant in
-    let all = subst (HoldsAll (valuation at)) (sym c.as_slice-atom-items.ensures) h in
+    let all = subst (HoldsAll (valuation at)) (sym c.as_slice-atom-items.ensures.value) h in
     meant.1 (subst (Holds (valuation at)) (sym c.atom-item.is) (holds-at (valuation at) items c.loop-atom.atom-index atom c.loop-atom-test.true all))
 
 pub returns-in-Point-clause-first_no : goal.returns-in-Point-clause-first_no
 returns-in-Point-clause-first_no c =
     let left = c.args.left.now.atoms in let atom = c.atom-item.result in
     let answer = subst (IsAnswerTo left atom) c.in-Point.is c.in_ok-certificate.ensures.answer in
-    stops left c.as_slice-atom-items.result.now c.args.right.now.atoms c.loop-atom.atom-index c.loop-atom.certificates.items atom (IsPointOf left c.in-Point.at) c.as_slice-atom-items.ensures c.loop-atom.invariant c.loop-atom-test.true c.atom-item.is answer.0
+    stops left c.as_slice-atom-items.result.now c.args.right.now.atoms c.loop-atom.atom-index c.loop-atom.certificates.items atom (IsPointOf left c.in-Point.at) c.as_slice-atom-items.ensures.value c.loop-atom.invariant c.loop-atom-test.true c.atom-item.is answer.0
 
 pub returns-in-Limit-clause-first_limit : goal.returns-in-Limit-clause-first_limit
 returns-in-Limit-clause-first_limit c =
     let left = c.args.left.now.atoms in let atom = c.atom-item.result in
     let answer = subst (IsAnswerTo left atom) c.in-Limit.is c.in_ok-certificate.ensures.answer in
-    stops left c.as_slice-atom-items.result.now c.args.right.now.atoms c.loop-atom.atom-index c.loop-atom.certificates.items atom (IsLimitOf left c.in-Limit.kept) c.as_slice-atom-items.ensures c.loop-atom.invariant c.loop-atom-test.true c.atom-item.is answer
+    stops left c.as_slice-atom-items.result.now c.args.right.now.atoms c.loop-atom.atom-index c.loop-atom.certificates.items atom (IsLimitOf left c.in-Limit.kept) c.as_slice-atom-items.ensures.value c.loop-atom.invariant c.loop-atom-test.true c.atom-item.is answer
 
 pub loop-atom-preserved : goal.loop-atom-preserved
 loop-atom-preserved c =

@@ -4,4 +4,4 @@ use Rattle.shadow_elim.specs.Making.{terms_of}
 use Rattle.shadow_elim.proofs.eliminate.cube_of.Given as goal
 
 abbrev pub invariant-loop-row : goal.invariant-loop-row
-invariant-loop-row l = rows_of l.atoms.items ≡ terms_of l.yielded
+invariant-loop-row l = rows_of l.atoms ≡ terms_of l.yielded

@@ -21,7 +21,7 @@ use Rattle.shadow_elim.proofs.eliminate.eliminate.Goals as goal
 
 listed : (c : goal.After-drop-stages-2) → terms_of c.push_ranges.new.rows.items ≡ listed_rows c.args.cube.now.atoms c.args.columns.now
 listed c =
-    listed-pushed c.args.columns.now c.as_slice.result.now c.args.cube.now.atoms c.new-rows.result.items c.push_atoms.new.rows.items c.push_ranges.new.rows.items c.new-rows.ensures.items c.as_slice.ensures c.in_ok-push_atoms.ensures.terms c.in_ok-push_ranges.ensures.terms
+    listed-pushed c.args.columns.now c.as_slice.result.now c.args.cube.now.atoms c.new-rows.result.items c.push_atoms.new.rows.items c.push_ranges.new.rows.items c.new-rows.ensures.items c.as_slice.ensures.value c.in_ok-push_atoms.ensures.terms c.in_ok-push_ranges.ensures.terms
 
 -- the rows that the cube has are left
 left : (c : goal.After-drop-stages-2) → elimination c.args.columns.now (listed_rows c.args.cube.now.atoms c.args.columns.now) ≡ remains (rows_of c.in_ok-cube.cube.atoms)
@@ -34,7 +34,7 @@ terms : (c : goal.After-drop-stages-2) → AllTerms (listed_rows c.args.cube.now
 terms c =
     let columns = c.args.columns.now in
     let small : All (λ x. x < 2 ^ 32) columns = All-from_get_or (λ x. x < 2 ^ 32) columns 0 (λ k h. (c.type_inv.columns k).fits) in
-    listed-terms c.args.cube.now.atoms columns (subst (λ (atoms : List Atom). IsTrue (are_terms atoms)) c.as_slice.ensures c.push_atoms.ensures.kept) small
+    listed-terms c.args.cube.now.atoms columns (subst (λ (atoms : List Atom). IsTrue (are_terms atoms)) c.as_slice.ensures.value c.push_atoms.ensures.kept) small
 
 -- the first pair that isn't exact
 inexact : (c : goal.After-drop-stages-2) → pair_rows c.in_ok-inexact.inexact ≡ first_inexact c.args.columns.now (listed_rows c.args.cube.now.atoms c.args.columns.now)

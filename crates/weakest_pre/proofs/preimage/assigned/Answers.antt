@@ -23,7 +23,7 @@ returns-in_err-atoms-clause-limit c =
     let slot = c.args.slot in let value = c.args.value.now in let target = c.args.target.now.atoms in
     let by : LinearSum = c.in_ok-by.by in
     let same : by ≡ value_sum value = c.in_ok-by.ensures.value in
-    passed-on (IsWideRow (one_reading slot by) c.as_slice.result.now) (Refused slot value target) c.from_residual-in_err-atoms.result c.in_err-atoms.field-0.0 c.from_residual-in_err-atoms.ensures.1 (λ kept w. assigned-row-refuses slot value target kept (subst (λ (t : LinearSum). IsWideRow (one_reading slot t) target kept) same (subst (λ (atoms : List Atom). IsWideRow (one_reading slot by) atoms kept) c.as_slice.ensures w))) c.in_err-atoms.ensures.limit
+    passed-on (IsWideRow (one_reading slot by) c.as_slice.result.now) (Refused slot value target) c.from_residual-in_err-atoms.result c.in_err-atoms.field-0.0 c.from_residual-in_err-atoms.ensures.1 (λ kept w. assigned-row-refuses slot value target kept (subst (λ (t : LinearSum). IsWideRow (one_reading slot t) target kept) same (subst (λ (atoms : List Atom). IsWideRow (one_reading slot by) atoms kept) c.as_slice.ensures.value w))) c.in_err-atoms.ensures.limit
 
 pub returns-in_err-row-clause-limit : goal.returns-in_err-row-clause-limit
 returns-in_err-row-clause-limit c =

@@ -8,4 +8,4 @@ use Rattle.weakest_pre.proofs.rows.read_rows.Given as goal
 
 abbrev pub invariant-loop-atom : goal.invariant-loop-atom
 invariant-loop-atom g l =
-    record { rows : rows_of l.rows.items ≡ read_rows (g.R.Reading.term_at l.reading) (take l.atom-index l.target); within : IsTrue (list_all is_within (rows_of l.rows.items)) }
+    record { rows : rows_of l.rows ≡ read_rows (g.R.Reading.term_at l.reading) (take l.atom-index l.target); within : IsTrue (list_all is_within (rows_of l.rows)) }
