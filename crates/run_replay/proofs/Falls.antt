@@ -1,12 +1,13 @@
 -- A measure of a machine, which each step makes smaller.
-use Rattle.std.proofs.Common.{◌≡◌, ℕ, zero, suc, ◌+◌, ◌-◌, ◌*◌, ◌<◌, ◌≤◌, List, [], ◌∷◌, ◌++◌, Bool, true, false, cond, Option, Some, None, ℤ, pos, subst, sym, ap, refl, length, get_or, arith}
+use Rattle.std.proofs.Common.{◌≡◌, ℕ, zero, suc, ◌+◌, ◌-◌, ◌*◌, ◌<◌, ◌≤◌, List, [], ◌∷◌, ◌++◌, Bool, true, false, cond, Option, Some, None, ℤ, pos, subst, sym, ap, refl, length, take, drop, get_or, arith}
 use Rattle.std.specs.Prelude.{slice_get, nat_lt}
 use Rattle.std.proofs.Math.Dec.{eqb-suc-zero}
 use Rattle.c_tree.specs.declared.tree.Op.{Op}
 use Rattle.c_tree.specs.Syntax.{Expression, literal, read, input, call, negate, not, binary, Expressions, no_expressions, expression, Statement, block, set, ignore, assume, assert, if_else, loop, do_while, break, continue, return, Statements, no_statements, statement, PureProcedure, PureProgram}
 use Rattle.c_tree.specs.Meaning.{is_zero, decided, ReplayOutcome, Comes, Starved, Fuel, Stopped, Failed}
 use Rattle.std.specs.Prelude.{neg_ℤ}
-use Rattle.run_replay.specs.Machine.{Waiting, to_negate, to_invert, left_of, right_of, next_argument, to_set, to_ignore, to_assume, to_assert, to_return, to_choose, to_test, to_test_again, rest_of, body_of, step_of, turn_of, back_to, Exit, normally, by_break, by_continue, by_return, Control, begins, gives_value, runs, leaves, over, Snapshot, Moment, with_wait, counted, exact, applied, value_or_stop, enters_procedure, goes_through, begun, turned, ran, decides, given, valued, goes_on, after_normal, loop_exit, after_body, left, exited, stepped}
+use Rattle.c_tree.specs.Operators.{exact}
+use Rattle.run_replay.specs.steps.Machine.{Waiting, to_negate, to_invert, left_of, right_of, next_argument, to_set, to_ignore, to_assume, to_assert, to_return, to_choose, to_test, to_test_again, rest_of, body_of, step_of, turn_of, back_to, Exit, normally, by_break, by_continue, by_return, Control, begins, gives_value, runs, leaves, over, Snapshot, Moment, with_wait, counted, applied, value_or_stop, enters_procedure, goes_through, begun, turned, ran, decides, given, valued, goes_on, after_normal, loop_exit, after_body, left, is_rest, past_rests, without_rests, reached, exited, stepped}
 
 abbrev pub wait_weight : Waiting → ℕ
 wait_weight (next_argument p es) = 3
@@ -38,9 +39,16 @@ counted_at F m (suc l) n p f =
 counted_falls : (F : Snapshot → Moment) (m : Snapshot) (n : ℕ) → 0 < n → (remaining_of (F (record m { steps_left = m.steps_left - 1 })) ≤ 4 * (m.steps_left - 1) + weigh m.waits + 4) → remaining_of (counted m F) < 4 * m.steps_left + weigh m.waits + n
 counted_falls F m n p f = counted_at F m m.steps_left n p f
 
+goes_on_weight : (ss : Statements) (m : Snapshot) → remaining_of (goes_on ss m) < 4 * m.steps_left + weigh m.waits + 3
+goes_on_weight no_statements m = omega arith
+goes_on_weight (statement a no_statements) m = omega arith
+goes_on_weight (statement a (statement b ss)) m = omega arith
+
 enters_weight : (q : Option PureProcedure) (m : Snapshot) → remaining_of (enters_procedure q m) ≤ 4 * m.steps_left + weigh m.waits + 4
 enters_weight None m = omega arith
-enters_weight (Some q) m = omega arith
+enters_weight (Some q) m =
+    let start = length m.arguments - q.params in
+    omega (arith, goes_on_weight q.body (record m { waits = back_to (length m.frame) q.gives ∷ m.waits; arguments = take start m.arguments; under = m.under ++ m.frame; frame = drop start m.arguments }))
 
 through_weight : (P : PureProgram) (p : ℕ) (es : Expressions) (m : Snapshot) → remaining_of (goes_through P p es m) ≤ 4 * m.steps_left + weigh m.waits + 4
 through_weight P p no_expressions m = enters_weight (slice_get P.procedures p) m
@@ -63,7 +71,7 @@ turned_weight : (t : Expression) (s b : Statement) (m : Snapshot) (n : ℕ) → 
 turned_weight t s b m n p = counted_falls (λ l. (begins t, with_wait (to_test t s b) l)) m n p (omega arith)
 
 ran_weight : (a : Statement) (m : Snapshot) → remaining_of (ran a m) ≤ 4 * m.steps_left + weigh m.waits + 4
-ran_weight (block ss) m = omega arith
+ran_weight (block ss) m = omega (arith, goes_on_weight ss m)
 ran_weight (set x e) m = omega arith
 ran_weight (ignore e) m = omega arith
 ran_weight (assume e) m = omega arith
@@ -116,10 +124,6 @@ valued_falls : (P : PureProgram) (v : ℤ) (k : List Waiting) (m : Snapshot) →
 valued_falls P v [] m e = omega (arith, ap weigh e)
 valued_falls P v (x ∷ k) m e = given_falls P v x (record m { waits = k })
 
-goes_on_weight : (ss : Statements) (m : Snapshot) → remaining_of (goes_on ss m) < 4 * m.steps_left + weigh m.waits + 3
-goes_on_weight no_statements m = omega arith
-goes_on_weight (statement a ss) m = omega arith
-
 rest_weight : (f : Exit) (ss : Statements) (m : Snapshot) → remaining_of (after_normal f (goes_on ss) m) < 4 * m.steps_left + weigh m.waits + 3
 rest_weight normally ss m = goes_on_weight ss m
 rest_weight by_break ss m = omega arith
@@ -155,6 +159,20 @@ exited_falls : (f : Exit) (k : List Waiting) (m : Snapshot) → m.waits ≡ k �
 exited_falls f [] m e = omega (arith, ap weigh e)
 exited_falls f (x ∷ k) m e = left_falls f x (record m { waits = k })
 
+choice_weighs : (b : Bool) (x : Waiting) (k j : List Waiting) → weigh j ≤ weigh k → weigh (cond b j (x ∷ k)) ≤ weigh (x ∷ k)
+choice_weighs true x k j h = omega arith
+choice_weighs false x k j h = omega arith
+
+rests_weigh : (k : List Waiting) → weigh (past_rests k) ≤ weigh k
+rests_weigh [] = omega arith
+rests_weigh (x ∷ k) = choice_weighs (is_rest x) x k (past_rests k) (rests_weigh k)
+
+reached_falls : (f : Exit) (m : Snapshot) → remaining_of (exited f (reached f m).waits (reached f m)) < 4 * m.steps_left + weigh m.waits + 2
+reached_falls normally m = exited_falls normally m.waits m refl
+reached_falls by_break m = omega (arith, rests_weigh m.waits, exited_falls by_break (past_rests m.waits) (without_rests m) refl)
+reached_falls by_continue m = omega (arith, rests_weigh m.waits, exited_falls by_continue (past_rests m.waits) (without_rests m) refl)
+reached_falls (by_return v) m = omega (arith, rests_weigh m.waits, exited_falls (by_return v) (past_rests m.waits) (without_rests m) refl)
+
 abbrev pub IsOver : Control → Type 0
 IsOver (over o) = Unit {0}
 IsOver _ = ⊥
@@ -164,5 +182,5 @@ pub stepped_falls : (P : PureProgram) (c : Control) (m : Snapshot) → (IsOver c
 stepped_falls P (begins e) m h = counted_falls (begun P e) m 1 (omega arith) (begun_weight P e (record m { steps_left = m.steps_left - 1 }))
 stepped_falls P (gives_value v) m h = valued_falls P v m.waits m refl
 stepped_falls P (runs a) m h = counted_falls (ran a) m 1 (omega arith) (ran_weight a (record m { steps_left = m.steps_left - 1 }))
-stepped_falls P (leaves f) m h = exited_falls f m.waits m refl
+stepped_falls P (leaves f) m h = reached_falls f m
 stepped_falls P (over o) m h = absurd (h tt)

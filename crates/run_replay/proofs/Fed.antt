@@ -1,11 +1,12 @@
 -- A step keeps the inputs and uses no more than there are, and a run starves only where all are used.
-use Rattle.std.proofs.Common.{◌≡◌, ℕ, ◌+◌, ◌-◌, ◌<◌, ◌≤◌, List, [], ◌∷◌, ◌++◌, length, get_or, Bool, true, false, cond, ◌==◌, Option, Some, None, ℤ, pos, refl, arith}
+use Rattle.std.proofs.Common.{◌≡◌, ℕ, ◌+◌, ◌-◌, ◌<◌, ◌≤◌, List, [], ◌∷◌, ◌++◌, length, take, drop, get_or, Bool, true, false, cond, ◌==◌, Option, Some, None, ℤ, pos, refl, arith}
 use Rattle.std.specs.Prelude.{slice_get, nat_lt, neg_ℤ}
 use Rattle.std.proofs.lemmas.Bool.{ltb-true, ltb-false}
 use Rattle.c_tree.specs.declared.tree.Op.{Op}
 use Rattle.c_tree.specs.Syntax.{Expression, literal, read, input, call, negate, not, binary, Expressions, no_expressions, expression, Statement, block, set, ignore, assume, assert, if_else, loop, do_while, break, continue, return, Statements, no_statements, statement, PureProcedure, PureProgram}
 use Rattle.c_tree.specs.Meaning.{is_zero, decided, Outcome, Comes, Starved, Fuel, Stopped, Failed}
-use Rattle.run_replay.specs.Machine.{Waiting, to_negate, to_invert, left_of, right_of, next_argument, to_set, to_ignore, to_assume, to_assert, to_return, to_choose, to_test, to_test_again, rest_of, body_of, step_of, turn_of, back_to, Exit, normally, by_break, by_continue, by_return, Control, begins, gives_value, runs, leaves, over, Snapshot, Moment, with_wait, counted, exact, applied, value_or_stop, enters_procedure, goes_through, begun, turned, ran, decides, given, valued, goes_on, after_normal, loop_exit, after_body, left, exited, stepped}
+use Rattle.c_tree.specs.Operators.{exact}
+use Rattle.run_replay.specs.steps.Machine.{Waiting, to_negate, to_invert, left_of, right_of, next_argument, to_set, to_ignore, to_assume, to_assert, to_return, to_choose, to_test, to_test_again, rest_of, body_of, step_of, turn_of, back_to, Exit, normally, by_break, by_continue, by_return, Control, begins, gives_value, runs, leaves, over, Snapshot, Moment, with_wait, counted, applied, value_or_stop, enters_procedure, goes_through, begun, turned, ran, decides, given, valued, goes_on, after_normal, loop_exit, after_body, left, past_rests, without_rests, reached, exited, stepped}
 
 abbrev pub Starves : Control → Snapshot → Type 0
 Starves (over Starved) m = length m.inputs ≤ m.used
@@ -31,9 +32,16 @@ module _ (all : List ℤ) where
   counted_fed true m n F u h = (u.0, u.1, tt)
   counted_fed false m n F u h = h
 
+  goes_on_fed : (ss : Statements) (m : Snapshot) → Fine m → FedAt (goes_on ss m)
+  goes_on_fed no_statements m u = (u.0, u.1, tt)
+  goes_on_fed (statement a no_statements) m u = (u.0, u.1, tt)
+  goes_on_fed (statement a (statement b ss)) m u = (u.0, u.1, tt)
+
   pub enters_fed : (f : Option PureProcedure) (m : Snapshot) → Fine m → FedAt (enters_procedure f m)
   enters_fed None m u = (u.0, u.1, tt)
-  enters_fed (Some q) m u = (u.0, u.1, tt)
+  enters_fed (Some q) m u =
+      let start = length m.arguments - q.params in
+      goes_on_fed q.body (record m { waits = back_to (length m.frame) q.gives ∷ m.waits; arguments = take start m.arguments; under = m.under ++ m.frame; frame = drop start m.arguments }) u
 
   through_fed : (P : PureProgram) (p : ℕ) (es : Expressions) (m : Snapshot) → Fine m → FedAt (goes_through P p es m)
   through_fed P p no_expressions m u = enters_fed (slice_get P.procedures p) m u
@@ -57,7 +65,7 @@ module _ (all : List ℤ) where
       counted_fed (m.steps_left == 0) m (record m { steps_left = m.steps_left - 1 }) (λ n. (begins t, with_wait (to_test t a b) n)) u (u.0, u.1, tt)
 
   ran_fed : (a : Statement) (m : Snapshot) → Fine m → FedAt (ran a m)
-  ran_fed (block ss) m u = (u.0, u.1, tt)
+  ran_fed (block ss) m u = goes_on_fed ss m u
   ran_fed (set x e) m u = (u.0, u.1, tt)
   ran_fed (ignore e) m u = (u.0, u.1, tt)
   ran_fed (assume e) m u = (u.0, u.1, tt)
@@ -110,10 +118,6 @@ module _ (all : List ℤ) where
   valued_fed P v [] m u = (u.0, u.1, tt)
   valued_fed P v (x ∷ k) m u = given_fed P v x (record m { waits = k }) u
 
-  goes_on_fed : (ss : Statements) (m : Snapshot) → Fine m → FedAt (goes_on ss m)
-  goes_on_fed no_statements m u = (u.0, u.1, tt)
-  goes_on_fed (statement a ss) m u = (u.0, u.1, tt)
-
   rest_fed : (f : Exit) (ss : Statements) (m : Snapshot) → Fine m → FedAt (after_normal f (goes_on ss) m)
   rest_fed normally ss m u = goes_on_fed ss m u
   rest_fed by_break ss m u = (u.0, u.1, tt)
@@ -150,6 +154,12 @@ module _ (all : List ℤ) where
   exited_fed f [] m u = (u.0, u.1, tt)
   exited_fed f (x ∷ k) m u = left_fed f x (record m { waits = k }) u
 
+  reached_fed : (f : Exit) (m : Snapshot) → Fine m → FedAt (exited f (reached f m).waits (reached f m))
+  reached_fed normally m u = exited_fed normally m.waits m u
+  reached_fed by_break m u = exited_fed by_break (past_rests m.waits) (without_rests m) u
+  reached_fed by_continue m u = exited_fed by_continue (past_rests m.waits) (without_rests m) u
+  reached_fed (by_return v) m u = exited_fed (by_return v) (past_rests m.waits) (without_rests m) u
+
   -- after a step too
   pub stepped_fed : (P : PureProgram) (c : Control) (m : Snapshot) → Fed c m → Fed (stepped P c m).0 (stepped P c m).1
   stepped_fed P (begins e) m h =
@@ -157,5 +167,5 @@ module _ (all : List ℤ) where
   stepped_fed P (gives_value v) m h = valued_fed P v m.waits m (h.0, h.1)
   stepped_fed P (runs a) m h =
       counted_fed (m.steps_left == 0) m (record m { steps_left = m.steps_left - 1 }) (ran a) (h.0, h.1) (ran_fed a (record m { steps_left = m.steps_left - 1 }) (h.0, h.1))
-  stepped_fed P (leaves f) m h = exited_fed f m.waits m (h.0, h.1)
+  stepped_fed P (leaves f) m h = reached_fed f m (h.0, h.1)
   stepped_fed P (over r) m h = h

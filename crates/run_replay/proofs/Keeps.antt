@@ -1,7 +1,7 @@
 -- Each result of a machine after a step is one before it.
 use Rattle.std.proofs.Common.{◌≡◌, ℕ, zero, suc, ◌+◌, ◌-◌, ◌<◌, ◌≤◌, List, [], ◌∷◌, ◌++◌, length, take, drop, get_or, Bool, true, false, cond, ◌==◌, ◌&&◌, not as not_bool, Option, Some, None, ℤ, pos, neg_ℤ, IsTrue, refl, sym, ap, ◌∙◌, subst, arith, append_assoc, append-nil}
 use Rattle.std.proofs.lemmas.Bool.{eqb-true}
-use Rattle.std.specs.Prelude.{nat_lt}
+use Rattle.std.specs.Prelude.{nat_lt, if◌then◌else◌}
 use Rattle.std.proofs.Math.Seq.{drop-cons}
 use Rattle.std.proofs.lemmas.List.{drop_all}
 use Rattle.std.proofs.lemmas.Bool.{ltb-true, ltb-false}
@@ -11,17 +11,18 @@ use Rattle.std.proofs.Math.Seq.{take-append_seam, drop-append_seam}
 use Rattle.std.proofs.lemmas.List.{length-append, length-take-le, take-append-drop}
 use Rattle.c_tree.proofs.Deep.{any_enters}
 use Rattle.c_tree.specs.WellFormed.{count, takes, is_well_scoped, are_well_scoped}
-use Rattle.run_replay.specs.Results.{arity}
-use Rattle.run_replay.specs.Machine.{enters_procedure}
+use Rattle.run_replay.specs.steps.Results.{arity}
+use Rattle.run_replay.specs.steps.Machine.{enters_procedure}
 use Rattle.std.specs.Prelude.{slice_get, ◌+ℤ◌, ◌-ℤ◌, ◌*ℤ◌}
 use Rattle.std.proofs.Math.Path.{fun_ext}
 use Rattle.c_tree.specs.declared.tree.Op.{Op}
 use Rattle.c_tree.specs.declared.tree.Op.TheVariants.{Add, Subtract, Multiply, Less, LessEqual, Greater, GreaterEqual, Equal, Unequal, And, Or}
 use Rattle.c_tree.specs.Syntax.{Expression, literal, read, input, call, negate, not, binary, Expressions, no_expressions, expression, Statement, block, set, ignore, assume, assert, if_else, loop, do_while, break, continue, return, Statements, no_statements, statement, PureProcedure, PureProgram}
 use Rattle.c_tree.specs.Meaning.{State, with_slot, World, Progress, goes, ends, Flow, normal, broken, continued, returned, stopped, failed, starved, spent, Relation, Gives, Ends, Then, Counted, Choice, is_value, ExactOrStopped, is_zero, bit, decided, Applied, RightSide, TakesInput, AfterNormal, AfterBody, UnlessZero, Eval, Evals, Exec, Execs, Returns, entered, returned_value, Enters, Comes, Starved, Fuel, Stopped, Failed}
-use Rattle.run_replay.specs.Machine.{Waiting, to_negate, to_invert, left_of, right_of, next_argument, to_set, to_ignore, to_assume, to_assert, to_return, to_choose, to_test, to_test_again, rest_of, body_of, step_of, turn_of, back_to, Exit, normally, by_break, by_continue, by_return, Control, begins, gives_value, runs, leaves, over, Snapshot, Moment, world, with_wait, counted, stored, applied, value_or_stop, enters, goes_through, begun, turned, ran, decides, given, valued, goes_on, after_normal, loop_exit, after_body, value_of, back, left, exited, stepped}
-use Rattle.run_replay.specs.Results.{flow_of, AnyRun, Loops, LoopsAgain, AfterStep, AfterTurn, AfterTest, AfterTestAgain, TestsAgain, Resume, Leave, Results}
-use Rattle.run_replay.specs.Standing.{IsSound, TakesValue, TakesExit, TakesValues, StepsOnValues, Fits, HasParameters}
+use Rattle.run_replay.specs.steps.Machine.{Waiting, to_negate, to_invert, left_of, right_of, next_argument, to_set, to_ignore, to_assume, to_assert, to_return, to_choose, to_test, to_test_again, rest_of, body_of, step_of, turn_of, back_to, Exit, normally, by_break, by_continue, by_return, Control, begins, gives_value, runs, leaves, over, Snapshot, Moment, world, with_wait, counted, stored, applied, value_or_stop, enters, goes_through, begun, turned, ran, decides, given, valued, goes_on, after_normal, loop_exit, after_body, value_of, back, left, past_rests, without_rests, reached, exited, stepped}
+use Rattle.run_replay.specs.steps.Results.{flow_of, AnyRun, Loops, LoopsAgain, AfterStep, AfterTurn, AfterTest, AfterTestAgain, TestsAgain, Resume, Leave, Results}
+use Rattle.run_replay.specs.steps.Standing.{IsSound, TakesValue, TakesExit, TakesValues, StepsOnValues, Stands, HasParameters}
+use Rattle.run_replay.proofs.Reached.{reached_takes}
 use Rattle.run_replay.proofs.Relations.{then_assoc, then_gives, then_first, inside_then, loops_fold, loops_again_fold}
 
 cond_is : {A : Type 0} (b c : Bool) (x y : A) → b ≡ c → cond c x y ≡ cond b x y
@@ -97,7 +98,7 @@ module _ (P : PureProgram) where
   pub counted_keeps : {A : Type 0} (Q : Relation A) (R : A → Relation ℤ) (F : Snapshot → Moment) (m : Snapshot) (o : Progress ℤ) → (0 < m.steps_left → ResultsOf (F (record m { steps_left = m.steps_left - 1 })) o → Then Q R (record { inputs = drop m.used m.inputs; steps_left = m.steps_left - 1 }) o) → ResultsOf (counted m F) o → Then (Counted true Q) R (world m) o
   counted_keeps Q R F m o f h = counted_at Q R F m m.steps_left o f h
 
-  choice_stop : (b : Bool) (z : ℤ) (m : Snapshot) (o : Progress ℤ) → ResultsOf (value_or_stop (cond b (Some z) None), m) o → Then (Choice b (Gives z) (Ends stopped)) (Resuming m (entered m.frame)) (world m) o
+  choice_stop : (b : Bool) (z : ℤ) (m : Snapshot) (o : Progress ℤ) → ResultsOf (value_or_stop (if b then Some z else None), m) o → Then (Choice b (Gives z) (Ends stopped)) (Resuming m (entered m.frame)) (world m) o
   choice_stop true z m o h = (goes (world m) z, refl, h)
   choice_stop false z m o h = (ends (world m) stopped, refl, h)
 
@@ -155,9 +156,20 @@ module _ (P : PureProgram) where
       (counted_keeps (Then (Eval true (AnyRun P) t (entered m.frame)) (AfterTest P t a b (entered m.frame))) (Leaving m) (λ n. (begins t, with_wait (to_test t a b) n)) m o
       (λ p k. then_assoc (Eval true (AnyRun P) t (entered m.frame)) (AfterTest P t a b (entered m.frame)) (Leaving m) _ o k) h)
 
+  -- a block of which nothing is left ends as its last statement
+  nothing_left : (f : Flow) (m : Snapshot) (w : World) (o : Progress ℤ) → Leaving m f w o → Then (AfterNormal f (Execs true (AnyRun P) no_statements)) (Leaving m) w o
+  nothing_left (normal s) m w o h = (goes w (normal s), refl, h)
+  nothing_left (broken s) m w o h = (goes w (broken s), refl, h)
+  nothing_left (continued s) m w o h = (goes w (continued s), refl, h)
+  nothing_left (returned v) m w o h = (goes w (returned v), refl, h)
+
   goes_on_keeps : (ss : Statements) (m : Snapshot) (o : Progress ℤ) → ResultsOf (goes_on ss m) o → Then (Execs true (AnyRun P) ss (entered m.frame)) (Leaving m) (world m) o
   goes_on_keeps no_statements m o h = (goes (world m) _, refl, h)
-  goes_on_keeps (statement a ss) m o h =
+  goes_on_keeps (statement a no_statements) m o h =
+      then_assoc (Exec true (AnyRun P) a (entered m.frame)) (λ f. AfterNormal f (Execs true (AnyRun P) no_statements)) (Leaving m) (world m) o
+      (inside_then (Exec true (AnyRun P) a (entered m.frame)) (Leaving m) (λ f. Then (AfterNormal f (Execs true (AnyRun P) no_statements)) (Leaving m)) (world m) o (λ f w1 k. nothing_left f m w1 o k) h)
+  goes_on_keeps (statement a (statement b rest)) m o h =
+      let ss = statement b rest in
       then_assoc (Exec true (AnyRun P) a (entered m.frame)) (λ f. AfterNormal f (Execs true (AnyRun P) ss)) (Leaving m) (world m) o h
 
   rest_keeps : (f : Exit) (ss : Statements) (m : Snapshot) (o : Progress ℤ) → ResultsOf (after_normal f (goes_on ss) m) o → Then (AfterNormal (flow_of f (entered m.frame)) (Execs true (AnyRun P) ss)) (Leaving m) (world m) o
@@ -211,6 +223,37 @@ module _ (P : PureProgram) where
   exited_keeps f [] m o t h = absurd t
   exited_keeps f (x ∷ k) m o t h = left_keeps f x (record m { waits = k }) o t h
 
+  -- the rest of a block sees no break, continue or return
+  past_keeps : (f : Flow) → ((Q : State → Relation Flow) (w : World) → AfterNormal f Q w (goes w f)) → (k : List Waiting) (args under : List ℤ) (w : World) (o : Progress ℤ) → Leave P (past_rests k) args under f w o → Leave P k args under f w o
+  past_keeps f g [] args under w o h = h
+  past_keeps f g (rest_of ss ∷ k) args under w o h = (goes w f, g (Execs true (AnyRun P) ss) w, past_keeps f g k args under w o h)
+  past_keeps f g (to_negate ∷ k) args under w o h = h
+  past_keeps f g (to_invert ∷ k) args under w o h = h
+  past_keeps f g (left_of op b ∷ k) args under w o h = h
+  past_keeps f g (right_of op x ∷ k) args under w o h = h
+  past_keeps f g (next_argument p es ∷ k) args under w o h = h
+  past_keeps f g (to_set x ∷ k) args under w o h = h
+  past_keeps f g (to_ignore ∷ k) args under w o h = h
+  past_keeps f g (to_assume ∷ k) args under w o h = h
+  past_keeps f g (to_assert id ∷ k) args under w o h = h
+  past_keeps f g (to_return ∷ k) args under w o h = h
+  past_keeps f g (to_choose a b ∷ k) args under w o h = h
+  past_keeps f g (to_test t s b ∷ k) args under w o h = h
+  past_keeps f g (to_test_again b t ∷ k) args under w o h = h
+  past_keeps f g (body_of t s b ∷ k) args under w o h = h
+  past_keeps f g (step_of t s b ∷ k) args under w o h = h
+  past_keeps f g (turn_of b t ∷ k) args under w o h = h
+  past_keeps f g (back_to size gives ∷ k) args under w o h = h
+
+  reached_keeps : (f : Exit) (m : Snapshot) (o : Progress ℤ) → TakesExit P (reached f m).waits → ResultsOf (exited f (reached f m).waits (reached f m)) o → Leaving m (flow_of f (entered m.frame)) (world m) o
+  reached_keeps normally m o t h = exited_keeps normally m.waits m o t h
+  reached_keeps by_break m o t h =
+      past_keeps (broken (entered m.frame)) (λ Q w. refl) m.waits m.arguments m.under (world m) o (exited_keeps by_break (past_rests m.waits) (without_rests m) o t h)
+  reached_keeps by_continue m o t h =
+      past_keeps (continued (entered m.frame)) (λ Q w. refl) m.waits m.arguments m.under (world m) o (exited_keeps by_continue (past_rests m.waits) (without_rests m) o t h)
+  reached_keeps (by_return v) m o t h =
+      past_keeps (returned v) (λ Q w. refl) m.waits m.arguments m.under (world m) o (exited_keeps (by_return v) (past_rests m.waits) (without_rests m) o t h)
+
   -- a caller has its slots back
   under_back : (under frame : List ℤ) → take (length (under ++ frame) - length frame) (under ++ frame) ≡ under
   under_back under frame =
@@ -240,7 +283,8 @@ module _ (P : PureProgram) where
       (λ r k. any_enters P p args (world m) r (subst (λ z. Enters true (AnyRun P) z args (world m) r) (sym found) k))
       (then_gives body (returned_value q.gives) R (world m) o
       (inside_then body (Leave P (back_to (length m.frame) q.gives ∷ m.waits) (take start m.arguments) (m.under ++ m.frame)) (λ f. R (returned_value q.gives f)) (world m) o
-      (λ f w1 k. call_back m.waits (take start m.arguments) m.under m.frame q.gives f w1 o k) g))
+      (λ f w1 k. call_back m.waits (take start m.arguments) m.under m.frame q.gives f w1 o k)
+      (goes_on_keeps q.body (record m { waits = back_to (length m.frame) q.gives ∷ m.waits; arguments = take start m.arguments; under = m.under ++ m.frame; frame = args }) o g)))
 
   evals_then : (e : Expression) (es : Expressions) (s : State) (G : List ℤ → Relation ℤ) (w : World) (o : Progress ℤ) → Then (Eval true (AnyRun P) e s) (λ v. Then (Evals true (AnyRun P) es s) (λ vs. G (v ∷ vs))) w o → Then (Evals true (AnyRun P) (expression e es) s) G w o
   evals_then e es s G w o h =
@@ -338,7 +382,7 @@ module _ (P : PureProgram) where
   counted_work (return e) s w r h = h
 
   ran_keeps : (a : Statement) (m : Snapshot) (o : Progress ℤ) → ResultsOf (ran a m) o → Then (Statement_work a (entered m.frame)) (Leaving m) (world m) o
-  ran_keeps (block ss) m o h = h
+  ran_keeps (block ss) m o h = goes_on_keeps ss m o h
   ran_keeps (set x e) m o h =
       then_gives (Eval true (AnyRun P) e (entered m.frame)) (λ v. normal (with_slot (entered m.frame) x v)) (Leaving m) (world m) o h
   ran_keeps (ignore e) m o h =
@@ -408,7 +452,7 @@ module _ (P : PureProgram) where
       then_assoc (Eval true (AnyRun P) a (entered m.frame)) (λ x. RightSide (decided op (is_zero x)) (Applied op x) (Eval true (AnyRun P) b (entered m.frame))) (Resuming m (entered m.frame)) (world m) o h
 
   -- each result after a step is one before it
-  pub stepped_keeps : (c : Control) (m : Snapshot) (o : Progress ℤ) → Fits P c m.waits → StepsOnValues c m → Results P (stepped P c m).0 (stepped P c m).1 (world (stepped P c m).1) o → Results P c m (world m) o
+  pub stepped_keeps : (c : Control) (m : Snapshot) (o : Progress ℤ) → Stands P c m.waits → StepsOnValues c m → Results P (stepped P c m).0 (stepped P c m).1 (world (stepped P c m).1) o → Results P c m (world m) o
   stepped_keeps (begins e) m o t a h =
       then_first (Counted true (Expression_work e (entered m.frame))) (Eval true (AnyRun P) e (entered m.frame)) (Resuming m (entered m.frame)) (world m) o (counted_expression e (entered m.frame) (world m))
       (counted_keeps (Expression_work e (entered m.frame)) (Resuming m (entered m.frame)) (begun P e) m o
@@ -417,5 +461,5 @@ module _ (P : PureProgram) where
   stepped_keeps (runs a) m o t v h =
       then_first (Counted true (Statement_work a (entered m.frame))) (Exec true (AnyRun P) a (entered m.frame)) (Leaving m) (world m) o (counted_work a (entered m.frame) (world m))
       (counted_keeps (Statement_work a (entered m.frame)) (Leaving m) (ran a) m o (λ p. ran_keeps a (record m { steps_left = m.steps_left - 1 }) o) h)
-  stepped_keeps (leaves f) m o t a h = exited_keeps f m.waits m o t h
+  stepped_keeps (leaves f) m o t a h = reached_keeps f m o (reached_takes P f m t) h
   stepped_keeps (over r) m o t a h = h

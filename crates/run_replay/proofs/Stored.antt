@@ -2,7 +2,7 @@
 use Rattle.std.proofs.Common.{◌≡◌, ℕ, zero, suc, ◌+◌, ◌-◌, ◌<◌, ◌≤◌, List, [], ◌∷◌, ◌++◌, length, take, drop, replicate, ℤ, pos, refl, sym, ap, ◌∙◌, append_assoc, take_all, arith}
 use Rattle.std.specs.Prelude.{slice_set}
 use Rattle.std.proofs.lemmas.List.{drop-append-le, length-drop}
-use Rattle.run_replay.specs.Machine.{stored}
+use Rattle.run_replay.specs.steps.Machine.{stored}
 
 stored_set : (l : List ℤ) (x : ℕ) (v : ℤ) → x < length l → stored l x v ≡ slice_set l x v
 stored_set [] x v h = absurd (omega arith)

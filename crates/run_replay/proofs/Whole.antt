@@ -5,16 +5,16 @@ use Rattle.std.proofs.lemmas.List.{drop_all, length-drop}
 use Rattle.c_tree.specs.Syntax.{PureProcedure, PureProgram}
 use Rattle.c_tree.specs.WellFormed.{takes, IsWellFormed}
 use Rattle.c_tree.specs.Meaning.{World, Progress, goes, ends, Relation, Gives, Onward, Then, ReplayOutcome, Comes, Starved, Fuel, Returned, Stopped, Failed, replay_of, world_of, Replays}
-use Rattle.run_replay.specs.Machine.{Waiting, Snapshot, Moment, Control, over, world, enters}
-use Rattle.run_replay.specs.Results.{result_of, AnyRun, Results}
-use Rattle.run_replay.specs.Standing.{Fits}
+use Rattle.run_replay.specs.steps.Machine.{Waiting, Snapshot, Moment, Control, over, world, enters}
+use Rattle.run_replay.specs.steps.Results.{result_of, AnyRun, Results}
+use Rattle.run_replay.specs.steps.Standing.{Stands}
 use Rattle.run_replay.specs.declared.outcome.Outcome.{Outcome as Outcome_of}
 use Rattle.run_replay.specs.declared.machine.Next.{Next}
 use Rattle.run_replay.specs.declared.machine.Next.TheVariants.{Begin, Value, Run, Flow as Left_by, Ended}
-use Rattle.run_replay.specs.View.{control_of}
+use Rattle.run_replay.specs.steps.View.{control_of}
 use Rattle.run_replay.proofs.Falls.{IsOver}
 use Rattle.run_replay.proofs.Keeps.{enters_keeps}
-use Rattle.run_replay.proofs.Fits.{enters_fits}
+use Rattle.run_replay.proofs.Stands.{enters_stands}
 use Rattle.run_replay.proofs.Fed.{Fed, enters_fed}
 
 then_gives_it : {A : Type 0} (P : Relation A) (w : World) (o : Progress A) → Then P (λ v. Gives v) w o → P w o
@@ -40,8 +40,8 @@ main_keeps P formed inputs fuel o h =
     then_gives_it (AnyRun P P.main []) (record { inputs = inputs; steps_left = fuel }) o
     (subst (λ args. Then (AnyRun P P.main args) (λ v. Gives v) (record { inputs = inputs; steps_left = fuel }) o) none (enters_keeps P P.main f.0 (start inputs fuel) o f.1 h))
 
-pub main_fits : (P : PureProgram) (formed : IsWellFormed P) (inputs : List ℤ) (fuel : ℕ) → (let r = enters P P.main (start inputs fuel) in Fits P r.0 r.1.waits)
-main_fits P formed inputs fuel = enters_fits P formed P.main (slice_get P.procedures P.main) (start inputs fuel) refl tt
+pub main_stands : (P : PureProgram) (formed : IsWellFormed P) (inputs : List ℤ) (fuel : ℕ) → (let r = enters P P.main (start inputs fuel) in Stands P r.0 r.1.waits)
+main_stands P formed inputs fuel = enters_stands P formed P.main (slice_get P.procedures P.main) (start inputs fuel) refl tt
 
 pub main_fed : (P : PureProgram) (inputs : List ℤ) (fuel : ℕ) → (let r = enters P P.main (start inputs fuel) in Fed inputs r.0 r.1)
 main_fed P inputs fuel = enters_fed inputs (slice_get P.procedures P.main) (start inputs fuel) (refl, omega arith)

@@ -1,6 +1,3 @@
 pub mod Outcome
-pub mod Machine
-pub mod Results
-pub mod View
-pub mod Standing
 pub mod Sample
+pub mod steps

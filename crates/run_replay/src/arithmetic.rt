@@ -3,7 +3,8 @@
 ghost use Rattle.std.specs.Prelude.{◌≡◌, IfSome, FitsSigned, neg_ℤ};
 ghost use Rattle.std.specs.Int.{w64};
 ghost use Rattle.c_tree.specs.Meaning.{decided, is_zero, bit};
-ghost use Rattle.run_replay.specs.Machine.{exact, applied};
+ghost use Rattle.c_tree.specs.Operators.{exact};
+ghost use Rattle.run_replay.specs.steps.Machine.{applied};
 
 use c_tree::tree::Op;
 
@@ -25,9 +26,9 @@ pub fn apply(op: Op, left: i64, right: i64) -> Option<i64>
     ensures fits { IfSome result (λ u. FitsSigned w64 u) }
 {
     match op {
-        Op::Add => left.checked_add(right),
-        Op::Subtract => left.checked_sub(right),
-        Op::Multiply => left.checked_mul(right),
+        Op::Add => Op::Add.operation(left, right),
+        Op::Subtract => Op::Subtract.operation(left, right),
+        Op::Multiply => Op::Multiply.operation(left, right),
         Op::Less => Some(if left < right { 1 } else { 0 }),
         Op::LessEqual => Some(if left <= right { 1 } else { 0 }),
         Op::Greater => Some(if left > right { 1 } else { 0 }),

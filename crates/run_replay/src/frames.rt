@@ -17,8 +17,8 @@ pub struct Frames {
 impl Frames {
     ghost use Rattle.std.specs.Prelude.{◌≡◌, ◌-◌, ◌++◌, [], length, take, drop, OnOk};
     ghost use Rattle.c_tree.specs.Meaning.{entered};
-    ghost use Rattle.run_replay.specs.Machine.{stored};
-    ghost use Rattle.run_replay.specs.View.{slots_under, top_slots};
+    ghost use Rattle.run_replay.specs.steps.Machine.{stored};
+    ghost use Rattle.run_replay.specs.steps.View.{slots_under, top_slots};
 
     /// No frame.
     pub fn new(alloc: Global) -> Self

@@ -1,10 +1,11 @@
 //! What a run keeps: what comes next, and what waits for it.
 
 ghost use Rattle.std.specs.Prelude.{◌≡◌, ◌==◌, ◌-◌, [], not, OnOk, IfSome, IfNone};
-ghost use Rattle.run_replay.specs.Machine.{with_wait, next_input};
+ghost use Rattle.run_replay.specs.steps.Machine.{with_wait, with_rest, is_rest, without_rests, reached, next_input};
 ghost use Rattle.c_tree.specs.Syntax.{input};
-ghost use Rattle.run_replay.specs.Standing.{TakesValues};
-ghost use Rattle.run_replay.specs.View.{waiting_of, snapshot_of, Arrives};
+ghost use Rattle.c_tree.specs.View.{statements_of};
+ghost use Rattle.run_replay.specs.steps.Standing.{TakesValues};
+ghost use Rattle.run_replay.specs.steps.View.{waiting_of, exit_of, snapshot_of, Arrives};
 
 use crate::frames::Frames;
 use crate::outcome::Outcome;
@@ -41,6 +42,15 @@ pub enum Wait<'a> {
     Turn(&'a Stmt, &'a Expr),
     /// A caller: how many slots its frame has, and whether the procedure that it called gives a value.
     Back(usize, bool),
+}
+
+impl Wait<'_> {
+    /// Whether the rest of a block waits.
+    fn is_rest(&self) -> bool
+        ensures { result ≡ is_rest (waiting_of self.now) }
+    {
+        matches!(self, Wait::Rest(_))
+    }
 }
 
 // A call has a few of them, so they are to be small.
@@ -88,6 +98,16 @@ impl<'a> Machine<'a> {
         Ok(())
     }
 
+    /// Makes the rest of a block wait, if there is one.
+    pub fn wait_for(&mut self, rest: &'a [Stmt]) -> Result<(), AllocError>
+        ensures { OnOk result (snapshot_of self.new ≡ with_rest (statements_of rest.now) (snapshot_of self.old)) }
+    {
+        match rest {
+            [] => Ok(()),
+            _ => self.wait(Wait::Rest(rest)),
+        }
+    }
+
     /// What waits next, which then waits no more.
     pub fn next_wait(&mut self) -> Option<Wait<'a>>
         ensures some { IfSome result (λ wait. snapshot_of self.old ≡ with_wait (waiting_of wait) (snapshot_of self.new)) }
@@ -95,6 +115,32 @@ impl<'a> Machine<'a> {
         ensures unchanged { IfNone result (snapshot_of self.new ≡ snapshot_of self.old) }
     {
         self.waits.pop()
+    }
+
+    /// What waits next behind the rests of blocks, which then wait no more.
+    pub fn next_past_rests(&mut self) -> Option<Wait<'a>>
+        ensures some { IfSome result (λ wait. without_rests (snapshot_of self.old) ≡ with_wait (waiting_of wait) (snapshot_of self.new)) }
+        ensures none { IfNone result ((without_rests (snapshot_of self.old)).waits ≡ []) }
+    {
+        while let Some(wait) = self.next_wait() {
+            if !wait.is_rest() {
+                return Some(wait);
+            }
+        }
+        None
+    }
+
+    /// What sees a statement end so, which then waits no more.
+    pub fn next_reached(&mut self, flow: Flow) -> Option<Wait<'a>>
+        ensures some { IfSome result (λ wait. reached (exit_of flow) (snapshot_of self.old) ≡ with_wait (waiting_of wait) (snapshot_of self.new)) }
+        ensures none { IfNone result ((reached (exit_of flow) (snapshot_of self.old)).waits ≡ []) }
+    {
+        match flow {
+            Flow::Normal => self.next_wait(),
+            Flow::Broken => self.next_past_rests(),
+            Flow::Continued => self.next_past_rests(),
+            Flow::Returned(_) => self.next_past_rests(),
+        }
     }
 
     /// Counts a step, and says whether there was one.

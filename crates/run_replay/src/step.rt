@@ -7,9 +7,9 @@ ghost use Rattle.c_tree.specs.View.{expression_of, expressions_of, statement_of,
 ghost use Rattle.c_tree.specs.Whole.{program_of};
 ghost use Rattle.c_tree.specs.Meaning.{is_zero, decided};
 ghost use Rattle.run_replay.specs.Outcome.{replay_outcome};
-ghost use Rattle.run_replay.specs.Machine.{begins, runs, leaves, normally, with_wait, counted, enters, goes_through, begun, turned, ran, decides, unless_zero, value_or_stop, given, valued, goes_on, after_normal, loop_exit, value_of, left, exited, stepped, to_test_again};
-ghost use Rattle.run_replay.specs.Standing.{IsSound, TakesValue, TakesExit, Fits, TakesValues, StepsOnValues};
-ghost use Rattle.run_replay.specs.View.{waiting_of, exit_of, control_of, snapshot_of, Arrives};
+ghost use Rattle.run_replay.specs.steps.Machine.{begins, runs, leaves, normally, with_wait, counted, enters, goes_through, begun, turned, ran, decides, unless_zero, value_or_stop, given, valued, goes_on, after_normal, loop_exit, value_of, left, reached, exited, stepped, to_test_again};
+ghost use Rattle.run_replay.specs.steps.Standing.{IsSound, TakesValue, TakesExit, Stands, TakesValues, StepsOnValues};
+ghost use Rattle.run_replay.specs.steps.View.{waiting_of, exit_of, control_of, snapshot_of, Arrives};
 
 use crate::arithmetic::{apply, decide, invert, negate};
 use crate::machine::{Flow, Machine, Next, Wait};
@@ -59,8 +59,7 @@ pub fn enter<'a>(
     machine.frames.enter(&machine.arguments[start..])?;
     machine.arguments.truncate(start);
     machine.wait(Wait::Back(size, procedure.gives))?;
-    machine.wait(Wait::Rest(&procedure.body))?;
-    Ok(Next::Flow(Flow::Normal))
+    go_on(&procedure.body, machine)
 }
 
 /// Goes on with a call: with the next of its arguments, or with its body.
@@ -153,10 +152,7 @@ fn execute<'a>(statement: &'a Stmt, machine: &mut Machine<'a>) -> Result<Next<'a
     ensures { IfOk result (λ next. Arrives next machine.new (ran (statement_of statement.now) (snapshot_of machine.old))) }
 {
     match statement {
-        Stmt::Block(statements) => {
-            machine.wait(Wait::Rest(statements))?;
-            Ok(Next::Flow(Flow::Normal))
-        }
+        Stmt::Block(statements) => go_on(statements, machine),
         Stmt::Set(slot, value) => begin_for(Wait::Set(*slot), value, machine),
         Stmt::Ignore(value) => begin_for(Wait::Ignore, value, machine),
         Stmt::Assume(value) => begin_for(Wait::Assume, value, machine),
@@ -289,7 +285,10 @@ fn go_on<'a>(statements: &'a [Stmt], machine: &mut Machine<'a>) -> Result<Next<'
     ensures { IfOk result (λ next. Arrives next machine.new (goes_on (statements_of statements.now) (snapshot_of machine.old))) }
 {
     match statements.split_first() {
-        Some((first, rest)) => run_for(Wait::Rest(rest), first, machine),
+        Some((first, rest)) => {
+            machine.wait_for(rest)?;
+            Ok(Next::Run(first))
+        }
         None => Ok(Next::Flow(Flow::Normal)),
     }
 }
@@ -360,10 +359,11 @@ fn end<'a>(flow: Flow, wait: Wait<'a>, machine: &mut Machine<'a>) -> Result<Next
 
 /// Tells what waits that a statement ended so.
 fn leave<'a>(flow: Flow, machine: &mut Machine<'a>) -> Result<Next<'a>, AllocError>
-    requires { (P : PureProgram) × TakesExit P (snapshot_of machine.old).waits }
-    ensures { IfOk result (λ next. Arrives next machine.new (exited (exit_of flow) (snapshot_of machine.old).waits (snapshot_of machine.old))) }
+    requires { (P : PureProgram) × TakesExit P (reached (exit_of flow) (snapshot_of machine.old)).waits }
+    ensures { IfOk result (λ next. Arrives next machine.new (exited (exit_of flow) (reached (exit_of flow) (snapshot_of machine.old)).waits
+        (reached (exit_of flow) (snapshot_of machine.old)))) }
 {
-    match machine.next_wait() {
+    match machine.next_reached(flow) {
         Some(wait) => end(flow, wait, machine),
         None => unreachable!(),
     }
@@ -375,7 +375,7 @@ pub fn step<'a>(
     next: Next<'a>,
     machine: &mut Machine<'a>,
 ) -> Result<Next<'a>, AllocError>
-    requires { Fits (program_of program.now) (control_of next) (snapshot_of machine.old).waits }
+    requires { Stands (program_of program.now) (control_of next) (snapshot_of machine.old).waits }
     ensures next { IfOk result (λ after. Arrives after machine.new (stepped (program_of program.now) (control_of next.entry) (snapshot_of machine.old))) }
     ensures values { StepsOnValues (control_of next.entry) (snapshot_of machine.old) }
 {

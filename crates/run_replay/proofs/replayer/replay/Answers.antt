@@ -2,16 +2,16 @@ use Rattle.std.proofs.Common.{◌≡◌, ◌<◌, ℤ, [], ap, subst}
 use Rattle.c_tree.specs.Whole.{program_of}
 use Rattle.c_tree.specs.Meaning.{Progress, Replays}
 use Rattle.c_tree.proofs.Cut.{comes_on_used}
-use Rattle.run_replay.specs.Machine.{Moment, world, enters, stepped}
+use Rattle.run_replay.specs.steps.Machine.{Moment, world, enters, stepped}
 use Rattle.run_replay.specs.Outcome.{replay_outcome}
-use Rattle.run_replay.specs.Results.{AnyRun, Results}
-use Rattle.run_replay.specs.Standing.{Fits}
-use Rattle.run_replay.specs.View.{control_of, snapshot_of, all_waiting}
+use Rattle.run_replay.specs.steps.Results.{AnyRun, Results}
+use Rattle.run_replay.specs.steps.Standing.{Stands}
+use Rattle.run_replay.specs.steps.View.{control_of, snapshot_of, all_waiting}
 use Rattle.run_replay.proofs.Falls.{remaining, stepped_falls}
 use Rattle.run_replay.proofs.Fed.{Fed, stepped_fed}
-use Rattle.run_replay.proofs.Fits.{stepped_fits}
+use Rattle.run_replay.proofs.Stands.{stepped_stands}
 use Rattle.run_replay.proofs.Keeps.{stepped_keeps}
-use Rattle.run_replay.proofs.Whole.{start, arrived, start_is, main_fits, main_fed, main_keeps, replays_at, not_over}
+use Rattle.run_replay.proofs.Whole.{start, arrived, start_is, main_stands, main_fed, main_keeps, replays_at, not_over}
 use Rattle.run_replay.proofs.replayer.replay.Goals as goal
 
 pub steps-init : goal.steps-init
@@ -24,7 +24,7 @@ steps-init c =
     let begun = ap (enters P P.main) (start_is (all_waiting c.new.result.items) c.new-2.result.items _ _ inputs fuel (ap all_waiting c.new.ensures.items) c.new-2.ensures.items c.new-3.ensures.under c.new-3.ensures.top) in
     let at = subst (λ (x : Moment). (control_of c.in_ok-next.next ≡ x.0) × (snapshot_of c.enter.new.machine ≡ x.1)) begun c.in_ok-next.ensures in
     record {
-      fits = arrived (λ x m. Fits P x m.waits) (control_of c.in_ok-next.next) (snapshot_of c.enter.new.machine) r at (main_fits P formed inputs fuel);
+      fits = arrived (λ x m. Stands P x m.waits) (control_of c.in_ok-next.next) (snapshot_of c.enter.new.machine) r at (main_stands P formed inputs fuel);
       fed = arrived (Fed inputs) (control_of c.in_ok-next.next) (snapshot_of c.enter.new.machine) r at (main_fed P inputs fuel);
       results = arrived (λ x m. (o : Progress ℤ) → Results P x m (world m) o → AnyRun P P.main [] (record { inputs = inputs; steps_left = fuel }) o) (control_of c.in_ok-next.next) (snapshot_of c.enter.new.machine) r at (main_keeps P formed inputs fuel);
     }
@@ -62,7 +62,7 @@ steps-preserved c =
     let m = snapshot_of c.steps.machine in
     let at = c.in_ok-next-2.ensures.next in
     record {
-      fits = arrived (λ y n. Fits P y n.waits) (control_of c.in_ok-next-2.next) (snapshot_of c.step.new.machine) (stepped P x m) at (stepped_fits P formed x m c.steps.invariant.fits);
+      fits = arrived (λ y n. Stands P y n.waits) (control_of c.in_ok-next-2.next) (snapshot_of c.step.new.machine) (stepped P x m) at (stepped_stands P formed x m c.steps.invariant.fits);
       fed = arrived (Fed inputs) (control_of c.in_ok-next-2.next) (snapshot_of c.step.new.machine) (stepped P x m) at (stepped_fed inputs P x m c.steps.invariant.fed);
       results = arrived (λ y n. (o : Progress ℤ) → Results P y n (world n) o → AnyRun P P.main [] (record { inputs = inputs; steps_left = c.args.fuel }) o) (control_of c.in_ok-next-2.next) (snapshot_of c.step.new.machine) (stepped P x m) at
           (λ o h. c.steps.invariant.results o (stepped_keeps P x m o c.steps.invariant.fits c.step.ensures.values h));

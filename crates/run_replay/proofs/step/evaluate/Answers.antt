@@ -3,8 +3,8 @@ use Rattle.c_tree.specs.Syntax.{call}
 use Rattle.c_tree.specs.View.{expression_of, expressions_of}
 use Rattle.c_tree.specs.Whole.{program_of}
 use Rattle.c_tree.proofs.Rows.{call_of}
-use Rattle.run_replay.specs.Machine.{begun}
-use Rattle.run_replay.specs.View.{snapshot_of, Arrives}
+use Rattle.run_replay.specs.steps.Machine.{begun}
+use Rattle.run_replay.specs.steps.View.{snapshot_of, Arrives}
 use Rattle.run_replay.proofs.step.evaluate.Goals as goal
 
 pub returns-in-Call-clause-next : goal.returns-in-Call-clause-next

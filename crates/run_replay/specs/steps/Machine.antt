@@ -1,9 +1,10 @@
 -- A machine that runs programs with lists in place of recursion: what comes next, what waits, and one step. Where what comes next doesn't fit what waits, or a call names no procedure, it is out of fuel: `Standing` rules that out.
-use Rattle.std.specs.Prelude.{ℕ, ◌+◌, ◌-◌, zero, suc, List, [], ◌∷◌, ◌++◌, length, take, drop, Bool, cond, ◌==◌, not as not_bool, Option, Some, None, ℤ, pos, neg_ℤ, ◌+ℤ◌, ◌-ℤ◌, ◌*ℤ◌, int_lt, int_le, nat_lt, get_or, slice_get}
+use Rattle.std.specs.Prelude.{ℕ, ◌+◌, ◌-◌, zero, suc, List, [], ◌∷◌, ◌++◌, length, take, drop, Bool, true, false, cond, ◌==◌, not as not_bool, Option, Some, None, ℤ, pos, neg_ℤ, ◌-ℤ◌, int_lt, int_le, nat_lt, get_or, slice_get}
 use Rattle.c_tree.specs.declared.tree.Op.{Op}
 use Rattle.c_tree.specs.declared.tree.Op.TheVariants.{Add, Subtract, Multiply, Less, LessEqual, Greater, GreaterEqual, Equal, Unequal, And, Or}
 use Rattle.c_tree.specs.Syntax.{Expression, literal, read, input, call, negate, not, binary, Expressions, no_expressions, expression, Statement, block, set, ignore, assume, assert, if_else, loop, do_while, break, continue, return, Statements, no_statements, statement, PureProcedure, PureProgram}
-use Rattle.c_tree.specs.Meaning.{World, is_value, is_zero, bit, decided, entered, ReplayOutcome, Comes, Starved, Fuel, Returned, Stopped, Failed}
+use Rattle.c_tree.specs.Operators.{exact, operation}
+use Rattle.c_tree.specs.Meaning.{World, is_zero, bit, decided, entered, ReplayOutcome, Comes, Starved, Fuel, Returned, Stopped, Failed}
 
 -- what waits: up to `to_test_again` for a value, and then for a statement to end
 pub data Waiting : Type 0 where
@@ -72,14 +73,11 @@ stored [] (suc x) v = pos 0 ∷ stored [] x v
 stored (y ∷ ys) zero v = v ∷ ys
 stored (y ∷ ys) (suc x) v = y ∷ stored ys x v
 
-abbrev pub exact : ℤ → Option ℤ
-exact z = cond (is_value z) (Some z) None
-
 -- an operator on two values, or none where it stops the run
 abbrev pub applied : Op → ℤ → ℤ → Option ℤ
-applied Add x y = exact (x +ℤ y)
-applied Subtract x y = exact (x -ℤ y)
-applied Multiply x y = exact (x *ℤ y)
+applied Add x y = operation Add x y
+applied Subtract x y = operation Subtract x y
+applied Multiply x y = operation Multiply x y
 applied Less x y = Some (bit (int_lt x y))
 applied LessEqual x y = Some (bit (int_le x y))
 applied Greater x y = Some (bit (int_lt y x))
@@ -93,12 +91,22 @@ abbrev pub value_or_stop : Option ℤ → Control
 value_or_stop (Some u) = gives_value u
 value_or_stop None = over (Comes Stopped)
 
+-- what is left of a block waits, if there is something
+abbrev pub with_rest : Statements → Snapshot → Snapshot
+with_rest no_statements m = m
+with_rest (statement a ss) m = with_wait (rest_of (statement a ss)) m
+
+-- a block goes on
+abbrev pub goes_on : Statements → Snapshot → Moment
+goes_on no_statements m = (leaves normally, m)
+goes_on (statement a ss) m = (runs a, with_rest ss m)
+
 -- a call begins: its arguments are the last ones, and become its frame
 abbrev pub enters_procedure : Option PureProcedure → Snapshot → Moment
 enters_procedure None m = (over Fuel, m)
 enters_procedure (Some q) m =
     let start = length m.arguments - q.params in
-    (leaves normally, record m { waits = rest_of q.body ∷ back_to (length m.frame) q.gives ∷ m.waits; arguments = take start m.arguments; under = m.under ++ m.frame; frame = drop start m.arguments })
+    goes_on q.body (record m { waits = back_to (length m.frame) q.gives ∷ m.waits; arguments = take start m.arguments; under = m.under ++ m.frame; frame = drop start m.arguments })
 
 abbrev pub enters : PureProgram → ℕ → Snapshot → Moment
 enters P p m = enters_procedure (slice_get P.procedures p) m
@@ -128,7 +136,7 @@ turned t s b m = counted m (λ n. (begins t, with_wait (to_test t s b) n))
 
 -- a statement begins, after its step is counted
 abbrev pub ran : Statement → Snapshot → Moment
-ran (block ss) m = (leaves normally, with_wait (rest_of ss) m)
+ran (block ss) m = goes_on ss m
 ran (set x e) m = (begins e, with_wait (to_set x) m)
 ran (ignore e) m = (begins e, with_wait to_ignore m)
 ran (assume e) m = (begins e, with_wait to_assume m)
@@ -170,11 +178,6 @@ abbrev pub valued : PureProgram → ℤ → List Waiting → Snapshot → Moment
 valued P v [] m = (over (Comes (Returned v)), m)
 valued P v (x ∷ k) m = given P v x (record m { waits = k })
 
--- a block goes on
-abbrev pub goes_on : Statements → Snapshot → Moment
-goes_on no_statements m = (leaves normally, m)
-goes_on (statement a ss) m = (runs a, with_wait (rest_of ss) m)
-
 abbrev pub after_normal : Exit → (Snapshot → Moment) → Snapshot → Moment
 after_normal normally F m = F m
 after_normal by_break F m = (leaves by_break, m)
@@ -211,6 +214,25 @@ left f (turn_of b t) m = after_body (loop_exit f) (λ n. counted n (λ l. (begin
 left f (back_to size gives) m = (gives_value (cond gives (value_of f) (pos 0)), back size m)
 left f _ m = (over Fuel, m)
 
+abbrev pub is_rest : Waiting → Bool
+is_rest (rest_of ss) = true
+is_rest _ = false
+
+-- what waits behind the rests of blocks
+abbrev pub past_rests : List Waiting → List Waiting
+past_rests [] = []
+past_rests (x ∷ k) = cond (is_rest x) (past_rests k) (x ∷ k)
+
+abbrev pub without_rests : Snapshot → Snapshot
+without_rests m = record m { waits = past_rests m.waits }
+
+-- no rest of a block goes on behind a break, a continue or a return
+abbrev pub reached : Exit → Snapshot → Snapshot
+reached normally m = m
+reached by_break m = without_rests m
+reached by_continue m = without_rests m
+reached (by_return v) m = without_rests m
+
 abbrev pub exited : Exit → List Waiting → Snapshot → Moment
 exited f [] m = (over Fuel, m)
 exited f (x ∷ k) m = left f x (record m { waits = k })
@@ -220,5 +242,5 @@ abbrev pub stepped : PureProgram → Control → Snapshot → Moment
 stepped P (begins e) m = counted m (begun P e)
 stepped P (gives_value v) m = valued P v m.waits m
 stepped P (runs a) m = counted m (ran a)
-stepped P (leaves f) m = exited f m.waits m
+stepped P (leaves f) m = exited f (reached f m).waits (reached f m)
 stepped P (over o) m = (over o, m)

@@ -3,7 +3,7 @@ use Rattle.std.specs.Prelude.{◌≡◌, ℕ, ◌+◌, ◌≤◌, List, [], ◌�
 use Rattle.c_tree.specs.Syntax.{Expression, literal, read, input, call, negate, not, binary, Expressions, Statement, Statements, PureProcedure, PureProgram}
 use Rattle.c_tree.specs.WellFormed.{count, is_well_scoped, are_well_scoped, runs_well_scoped, all_well_scoped}
 use Rattle.c_tree.specs.Meaning.{is_value}
-use Rattle.run_replay.specs.Machine.{Waiting, to_negate, to_invert, left_of, right_of, next_argument, to_set, to_ignore, to_assume, to_assert, to_return, to_choose, to_test, to_test_again, rest_of, body_of, step_of, turn_of, back_to, Control, begins, gives_value, runs, leaves, over, Snapshot}
+use Rattle.run_replay.specs.steps.Machine.{Waiting, to_negate, to_invert, left_of, right_of, next_argument, to_set, to_ignore, to_assume, to_assert, to_return, to_choose, to_test, to_test_again, rest_of, body_of, step_of, turn_of, back_to, Control, begins, gives_value, runs, leaves, over, Snapshot}
 
 module _ (P : PureProgram) where
   -- the names exist in a procedure of some number of slots
@@ -61,12 +61,12 @@ module _ (P : PureProgram) where
     TakesExit (back_to size gives ∷ k) = TakesValue k
     TakesExit _ = ⊥
 
-  abbrev pub Fits : Control → List Waiting → Type 0
-  Fits (begins e) k = IsSound e × TakesValue k
-  Fits (gives_value v) k = TakesValue k
-  Fits (runs a) k = IsSoundStatement a × TakesExit k
-  Fits (leaves f) k = TakesExit k
-  Fits (over o) k = Unit {0}
+  abbrev pub Stands : Control → List Waiting → Type 0
+  Stands (begins e) k = IsSound e × TakesValue k
+  Stands (gives_value v) k = TakesValue k
+  Stands (runs a) k = IsSoundStatement a × TakesExit k
+  Stands (leaves f) k = TakesExit k
+  Stands (over o) k = Unit {0}
 
 -- the next input is a value, where this expression takes it
 abbrev pub TakesValues : Expression → Snapshot → Type 0

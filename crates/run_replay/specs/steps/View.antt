@@ -10,7 +10,7 @@ use Rattle.run_replay.specs.declared.machine.Next.TheVariants.{Begin, Value, Run
 use Rattle.run_replay.specs.declared.machine.Machine.{Machine}
 use Rattle.run_replay.specs.declared.frames.Frames.{Frames}
 use Rattle.run_replay.specs.Outcome.{replay_outcome}
-use Rattle.run_replay.specs.Machine.{Waiting, to_negate, to_invert, left_of, right_of, next_argument, to_set, to_ignore, to_assume, to_assert, to_return, to_choose, to_test, to_test_again, rest_of, body_of, step_of, turn_of, back_to, Exit, normally, by_break, by_continue, by_return, Control, begins, gives_value, runs, leaves, over, Snapshot, Moment}
+use Rattle.run_replay.specs.steps.Machine.{Waiting, to_negate, to_invert, left_of, right_of, next_argument, to_set, to_ignore, to_assume, to_assert, to_return, to_choose, to_test, to_test_again, rest_of, body_of, step_of, turn_of, back_to, Exit, normally, by_break, by_continue, by_return, Control, begins, gives_value, runs, leaves, over, Snapshot, Moment}
 
 abbrev pub waiting_of : Wait → Waiting
 waiting_of Negate = to_negate

@@ -3,7 +3,7 @@ use Rattle.std.specs.Prelude.{◌≡◌, ℕ, ◌+◌, ◌-◌, List, [], ◌∷
 use Rattle.c_tree.specs.Syntax.{Expression, Statement, PureProcedure, PureProgram}
 use Rattle.c_tree.specs.WellFormed.{count}
 use Rattle.c_tree.specs.Meaning.{State, with_slot, World, Progress, goes, ends, Flow, normal, broken, continued, returned, stopped, failed, starved, spent, Relation, Gives, Then, Counted, Choice, Callee, ExactOrStopped, is_zero, bit, decided, Applied, RightSide, AfterNormal, AfterBody, UnlessZero, Turns, DoTurns, Eval, Evals, Exec, Execs, entered, returned_value, Run, ReplayOutcome, Comes, Starved, Fuel, Returned, Stopped, Failed}
-use Rattle.run_replay.specs.Machine.{Waiting, to_negate, to_invert, left_of, right_of, next_argument, to_set, to_ignore, to_assume, to_assert, to_return, to_choose, to_test, to_test_again, rest_of, body_of, step_of, turn_of, back_to, Exit, normally, by_break, by_continue, by_return, Control, begins, gives_value, runs, leaves, over, Snapshot}
+use Rattle.run_replay.specs.steps.Machine.{Waiting, to_negate, to_invert, left_of, right_of, next_argument, to_set, to_ignore, to_assume, to_assert, to_return, to_choose, to_test, to_test_again, rest_of, body_of, step_of, turn_of, back_to, Exit, normally, by_break, by_continue, by_return, Control, begins, gives_value, runs, leaves, over, Snapshot}
 
 -- how many parameters a procedure has
 abbrev pub arity : Option PureProcedure → ℕ
