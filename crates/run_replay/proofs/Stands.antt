@@ -6,7 +6,7 @@ use Rattle.c_tree.specs.Syntax.{Expression, literal, read, input, call, negate, 
 use Rattle.c_tree.specs.WellFormed.{count, is_well_scoped, are_well_scoped, runs_well_scoped, all_well_scoped, IsWellFormed, statements_nodes}
 use Rattle.c_tree.specs.Meaning.{is_zero, decided, ReplayOutcome, Comes, Starved, Fuel, Stopped, Failed}
 use Rattle.c_tree.specs.Operators.{exact}
-use Rattle.run_replay.specs.steps.Machine.{Waiting, to_negate, to_invert, left_of, right_of, next_argument, to_set, to_ignore, to_assume, to_assert, to_return, to_choose, to_test, to_test_again, rest_of, body_of, step_of, turn_of, back_to, Exit, normally, by_break, by_continue, by_return, Control, begins, gives_value, runs, leaves, over, Snapshot, Moment, with_wait, counted, applied, value_or_stop, enters_procedure, goes_through, begun, turned, ran, decides, given, valued, goes_on, after_normal, loop_exit, after_body, left, past_rests, reached, exited, stepped}
+use Rattle.run_replay.specs.steps.Machine.{Waiting, to_negate, to_invert, left_of, right_of, next_argument, to_set, to_ignore, to_assume, to_assert, to_return, to_choose, to_test, to_test_again, rest_of, body_of, step_of, turn_of, back_to, Exit, normally, by_break, by_continue, by_return, Control, begins, gives_value, runs, leaves, over, Snapshot, Moment, with_wait, counted, applied, value_or_stop, enters_procedure, goes_through, begun, turned, ran, decides, given, valued, goes_on, after_normal, loop_exit, after_body, left, reached, exited, stepped}
 use Rattle.run_replay.specs.steps.Standing.{IsSound, AreSound, IsSoundStatement, AreSoundStatements, HasParameters, TakesValue, TakesExit, Stands}
 use Rattle.run_replay.proofs.Keeps.{and_left, and_right, called}
 use Rattle.run_replay.proofs.Reached.{reached_takes}
