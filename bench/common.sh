@@ -69,10 +69,11 @@ measure() {
     python3 "$top/bench/measure.py" "$@" || exit 1
 }
 
-# Holds a number to its limit, and says where it misses: script, shape, size, what, the number. Without a row none is held.
+# Holds a number to its limit, and says where it misses: script, shape, size, what, the number. A row's shape and size may be
+# `any`; without a row nothing is held.
 hold() {
     awk -F '\t' -v script="$1" -v shape="$2" -v size="$3" -v what="$4" -v value="$5" '
-        $1 == script && $2 == shape && $3 == size && $4 == what && value != "-" {
+        $1 == script && ($2 == shape || $2 == "any") && ($3 == size || $3 == "any") && $4 == what && value != "-" {
             is_least = $5 == "least"
             if (is_least ? value + 0 < $6 + 0 : value + 0 > $6 + 0) {
                 printf "MISSED: %s %s %s: %s is %s, and %s %s is the limit\n", script, shape, size, what, value, is_least ? "at least" : "at most", $6

@@ -27,7 +27,7 @@ shape() {
         growth=$(echo "$9 $before" | awk '{ print ($2 > 0 ? sprintf("%.2f", $1 / $2) : "-") }')
         printf '%-14s %8d %10s %14s %6s\n' "$label" "$(wc -c < "$work/source.c")" "$7" "$9" "$growth"
         hold front "$label" "$size" instructions "$9"
-        hold front any any growth "$growth"
+        hold front "$label" "$size" growth "$growth"
         before=$9
         set -- "$1" "$2" "$3" "$4" "$5" "$6"
     done
