@@ -1,6 +1,7 @@
 -- Reserved words and marks by their texts.
-use Rattle.std.specs.Prelude.{◌≡◌, ℕ, zero, suc, ◌+◌, ◌<◌, ◌≤◌, List, [], ◌∷◌, ◌++◌, length, false, ◌==◌, refl, cond, bytes_eq}
+use Rattle.std.specs.Prelude.{◌≡◌, ℕ, zero, suc, ◌+◌, ◌-◌, ◌*◌, ◌%◌, ◌<◌, ◌≤◌, List, [], ◌∷◌, ◌++◌, length, false, ◌==◌, refl, cond, bytes_eq, slice_index, ◌⊎◌, Option, Some, None, IfSome, IfNone}
 use Rattle.std.proofs.Common.{get_or, sym, ◌∙◌, ap, subst, arith, lit<, length-append, append_assoc, inl, inr}
+use Rattle.std.proofs.Math.ListN.{get_or-append}
 use Rattle.std.proofs.lemmas.Bool.{cases_lt}
 use Rattle.c_lexer.specs.declared.token.Keyword.{Keyword}
 use Rattle.c_lexer.specs.declared.token.Keyword.TheVariants.{Int, Long, Void, Extern, If, Else, While, Do, For, Break, Continue, Return, Auto, Case, Char, Const, Default, Double, Enum, Float, Goto, Inline, Register, Restrict, Short, Signed, Sizeof, Static, Struct, Switch, Typedef, Union, Unsigned, Volatile, Alignas, Alignof, Atomic, Complex, Generic, Imaginary, Noreturn, StaticAssert, ThreadLocal}
@@ -8,7 +9,7 @@ use Rattle.c_lexer.specs.declared.token.Keyword.TheVariants as word
 use Rattle.c_lexer.specs.declared.token.Punct.{Punct}
 use Rattle.c_lexer.specs.declared.token.Punct.TheVariants.{OpenParenthesis, CloseParenthesis, OpenBrace, CloseBrace, Semicolon, Comma, Assign, Plus, Minus, Star, Not, Less, LessEqual, Greater, GreaterEqual, Equal, Unequal, And, Or, PlusAssign, MinusAssign, StarAssign, Increment, Decrement}
 use Rattle.c_lexer.specs.Lexing.{is_blank, is_digit, is_letter, IsWord, keyword_text, mark_text}
-use Rattle.c_lexer.specs.Scanning.{HasNoKeyword, HasNoMark, IsMarkAt}
+use Rattle.c_lexer.specs.Scanning.{slot_of, mark_slot_of, HasNoKeyword, HasBytes, StandsAt, IsMarkAt, HasNoMark}
 
 abbrev pub keywords : List Keyword
 keywords = Int ∷ Long ∷ Void ∷ Extern ∷ If ∷ Else ∷ While ∷ Do ∷ For ∷ Break ∷ Continue ∷ Return ∷ Auto ∷ Case ∷ Char ∷ Const ∷ Default ∷ Double ∷ Enum ∷ Float ∷ Goto ∷ Inline ∷ Register ∷ Restrict ∷ Short ∷ Signed ∷ Sizeof ∷ Static ∷ Struct ∷ Switch ∷ Typedef ∷ Union ∷ Unsigned ∷ Volatile ∷ Alignas ∷ Alignof ∷ Atomic ∷ word.Bool ∷ Complex ∷ Generic ∷ Imaginary ∷ Noreturn ∷ StaticAssert ∷ ThreadLocal ∷ []
@@ -67,9 +68,24 @@ keyword_at : (w : Keyword) → get_or keywords (keyword_place w) Int ≡ w
 keyword_at Int = refl
 keyword_at _ = refl
 
--- a text that was compared with each word is none
-pub no_keyword : (text : List ℕ) → ((k : ℕ) → k < 44 → text ≡ keyword_text (get_or keywords k Int) → ⊥) → HasNoKeyword text
-no_keyword text none w e = none (keyword_place w) (keyword_place-lt w) (e ∙ ap keyword_text (sym (keyword_at w)))
+-- the places by slots, as in the code
+abbrev pub keyword_places : List ℕ
+keyword_places = 44 ∷ 44 ∷ 44 ∷ 44 ∷ 44 ∷ 44 ∷ 44 ∷ 43 ∷ 44 ∷ 41 ∷ 44 ∷ 44 ∷ 44 ∷ 44 ∷ 44 ∷ 44 ∷ 44 ∷ 13 ∷ 44 ∷ 44 ∷ 44 ∷ 10 ∷ 44 ∷ 34 ∷ 44 ∷ 44 ∷ 9 ∷ 12 ∷ 44 ∷ 17 ∷ 44 ∷ 44 ∷ 42 ∷ 44 ∷ 44 ∷ 44 ∷ 44 ∷ 5 ∷ 38 ∷ 44 ∷ 44 ∷ 44 ∷ 44 ∷ 40 ∷ 44 ∷ 27 ∷ 44 ∷ 44 ∷ 25 ∷ 44 ∷ 44 ∷ 44 ∷ 44 ∷ 44 ∷ 26 ∷ 7 ∷ 14 ∷ 44 ∷ 44 ∷ 44 ∷ 29 ∷ 18 ∷ 44 ∷ 15 ∷ 44 ∷ 30 ∷ 3 ∷ 44 ∷ 11 ∷ 44 ∷ 32 ∷ 44 ∷ 44 ∷ 44 ∷ 44 ∷ 16 ∷ 2 ∷ 44 ∷ 4 ∷ 21 ∷ 44 ∷ 44 ∷ 22 ∷ 33 ∷ 44 ∷ 8 ∷ 44 ∷ 20 ∷ 23 ∷ 44 ∷ 6 ∷ 44 ∷ 44 ∷ 19 ∷ 44 ∷ 24 ∷ 28 ∷ 31 ∷ 44 ∷ 44 ∷ 44 ∷ 44 ∷ 36 ∷ 39 ∷ 44 ∷ 44 ∷ 44 ∷ 44 ∷ 44 ∷ 44 ∷ 44 ∷ 44 ∷ 35 ∷ 1 ∷ 44 ∷ 44 ∷ 44 ∷ 44 ∷ 44 ∷ 44 ∷ 44 ∷ 0 ∷ 44 ∷ 44 ∷ 44 ∷ 44 ∷ 44 ∷ 37 ∷ []
+
+keyword_placed : (w : Keyword) → get_or keyword_places (slot_of (keyword_text w)) 0 ≡ keyword_place w
+keyword_placed Int = refl
+keyword_placed _ = refl
+
+-- a text is no word but the one of its slot
+module _ (text : List ℕ) (k : ℕ) (is : k ≡ get_or keyword_places (slot_of text) 0) where
+  own_place : (w : Keyword) → text ≡ keyword_text w → k ≡ keyword_place w
+  own_place w e = is ∙ ap (λ t. get_or keyword_places (slot_of t) 0) e ∙ keyword_placed w
+
+  pub no_place : 44 ≤ k → HasNoKeyword text
+  no_place le w e = let h = keyword_place-lt w in let p = own_place w e in absurd (omega (arith, h, p, le))
+
+  pub no_keyword : (text ≡ keyword_text (get_or keywords k Int) → ⊥) → HasNoKeyword text
+  no_keyword none w e = none (e ∙ ap keyword_text (sym (ap (λ i. get_or keywords i Int) (own_place w e) ∙ keyword_at w)))
 
 pub keyword_word : (w : Keyword) → IsWord (keyword_text w)
 keyword_word Int = (refl, (refl, (refl, tt)))
@@ -196,58 +212,100 @@ mark_first _ = record { letter = refl; digit = refl; blanks = refl; sharp = refl
 pub mark_sign : (m : Punct) (b : ℕ) (bs : List ℕ) → b ∷ bs ≡ mark_text m → IsSign b
 mark_sign m b bs e = subst IsSign (ap first (sym e)) (mark_first m)
 
--- a mark has one byte or two, and those of two stand first in the table
+-- the places by slots, as in the code
+abbrev pub mark_places : List ℕ
+mark_places = 24 ∷ 24 ∷ 24 ∷ 24 ∷ 4 ∷ 24 ∷ 10 ∷ 24 ∷ 5 ∷ 24 ∷ 3 ∷ 15 ∷ 22 ∷ 17 ∷ 23 ∷ 24 ∷ 24 ∷ 24 ∷ 24 ∷ 8 ∷ 6 ∷ 24 ∷ 7 ∷ 24 ∷ 24 ∷ 24 ∷ 9 ∷ 13 ∷ 24 ∷ 14 ∷ 24 ∷ 24 ∷ 24 ∷ 21 ∷ 24 ∷ 24 ∷ 24 ∷ 0 ∷ 2 ∷ 1 ∷ 11 ∷ 12 ∷ 20 ∷ 18 ∷ 16 ∷ 19 ∷ 24 ∷ 24 ∷ []
+
+mark_placed : (m : Punct) → get_or mark_places (mark_slot_of (slice_index (mark_text m) 0) (slice_index (mark_text m) 1)) 0 ≡ mark_place m
+mark_placed OpenParenthesis = refl
+mark_placed _ = refl
+
+-- two bytes are those of no mark but the one of their slot
+module _ (first second k : ℕ) (is : k ≡ get_or mark_places (mark_slot_of first second) 0) where
+  own_mark_place : (o : Punct) → HasBytes o first second → k ≡ mark_place o
+  own_mark_place o h = is ∙ ap (λ x. get_or mark_places (mark_slot_of x second) 0) (sym h.first_is) ∙ ap (λ x. get_or mark_places (mark_slot_of (slice_index (mark_text o) 0) x) 0) (sym h.second_is) ∙ mark_placed o
+
+  pub no_mark_place : 24 ≤ k → (o : Punct) → HasBytes o first second → ⊥
+  no_mark_place le o b = let h = mark_place-lt o in let p = own_mark_place o b in absurd (omega (arith, h, p, le))
+
+  pub only_mark : (o : Punct) → HasBytes o first second → o ≡ get_or marks k OpenParenthesis
+  only_mark o b = sym (ap (λ i. get_or marks i OpenParenthesis) (own_mark_place o b) ∙ mark_at o)
+
+-- a mark has one byte or two
 pub record HasSize (m : Punct) : Type 0 where
   pub least : 1 ≤ length (mark_text m)
   pub most : length (mark_text m) ≤ 2
-  pub placed : 2 ≤ length (mark_text m) → mark_place m < 11
+  pub second : length (mark_text m) ≤ 1 → slice_index (mark_text m) 1 ≡ 0
 
 pub mark_size : (m : Punct) → HasSize m
-mark_size OpenParenthesis = record { least = omega arith; most = omega arith; placed = λ h. omega (arith, h) }
-mark_size _ = record { least = omega arith; most = omega arith; placed = λ h. omega (arith, h) }
+mark_size OpenParenthesis = record { least = omega arith; most = omega arith; second = λ h. refl }
+mark_size LessEqual = record { least = omega arith; most = omega arith; second = λ h. absurd (omega (arith, h)) }
+mark_size GreaterEqual = record { least = omega arith; most = omega arith; second = λ h. absurd (omega (arith, h)) }
+mark_size Equal = record { least = omega arith; most = omega arith; second = λ h. absurd (omega (arith, h)) }
+mark_size Unequal = record { least = omega arith; most = omega arith; second = λ h. absurd (omega (arith, h)) }
+mark_size And = record { least = omega arith; most = omega arith; second = λ h. absurd (omega (arith, h)) }
+mark_size Or = record { least = omega arith; most = omega arith; second = λ h. absurd (omega (arith, h)) }
+mark_size PlusAssign = record { least = omega arith; most = omega arith; second = λ h. absurd (omega (arith, h)) }
+mark_size MinusAssign = record { least = omega arith; most = omega arith; second = λ h. absurd (omega (arith, h)) }
+mark_size StarAssign = record { least = omega arith; most = omega arith; second = λ h. absurd (omega (arith, h)) }
+mark_size Increment = record { least = omega arith; most = omega arith; second = λ h. absurd (omega (arith, h)) }
+mark_size Decrement = record { least = omega arith; most = omega arith; second = λ h. absurd (omega (arith, h)) }
+mark_size _ = record { least = omega arith; most = omega arith; second = λ h. refl }
 
-long_first : (i : ℕ) → i < 11 → 2 ≤ length (mark_text (get_or marks i OpenParenthesis))
-long_first zero h = omega arith
-long_first (suc zero) h = omega arith
-long_first (suc (suc zero)) h = omega arith
-long_first (suc (suc (suc zero))) h = omega arith
-long_first (suc (suc (suc (suc zero)))) h = omega arith
-long_first (suc (suc (suc (suc (suc zero))))) h = omega arith
-long_first (suc (suc (suc (suc (suc (suc zero)))))) h = omega arith
-long_first (suc (suc (suc (suc (suc (suc (suc zero))))))) h = omega arith
-long_first (suc (suc (suc (suc (suc (suc (suc (suc zero)))))))) h = omega arith
-long_first (suc (suc (suc (suc (suc (suc (suc (suc (suc zero))))))))) h = omega arith
-long_first (suc (suc (suc (suc (suc (suc (suc (suc (suc (suc zero)))))))))) h = omega arith
-long_first (suc (suc (suc (suc (suc (suc (suc (suc (suc (suc (suc n))))))))))) h = absurd (omega (arith, h))
+-- a list that begins with a list of some bytes has its bytes
+begins_same : (text rest : List ℕ) (i : ℕ) → i < length text → slice_index text i ≡ slice_index (text ++ rest) i
+begins_same text rest i h = sym (get_or-append text rest 0 i h)
 
-not_long : (m : Punct) (i : ℕ) → m ≡ get_or marks i OpenParenthesis → length (mark_text m) ≤ 1 → 11 ≤ i
-not_long m i is le = elim (cases_lt i 11) [
-  | inl lt ↦ let h = long_first i lt in let q : length (mark_text m) ≡ length (mark_text (get_or marks i OpenParenthesis)) = ap (λ x. length (mark_text x)) is in absurd (omega (arith, h, q, le))
-  | inr ge ↦ ge
+module _ (bytes : List ℕ) (o : Punct) (rest : List ℕ) (e : bytes ≡ mark_text o ++ rest) where
+  first_byte : slice_index (mark_text o) 0 ≡ slice_index bytes 0
+  first_byte = let s = mark_size o in begins_same (mark_text o) rest 0 (omega (arith, s.least)) ∙ ap (λ t. slice_index t 0) (sym e)
+
+  pub long_bytes : 2 ≤ length (mark_text o) → HasBytes o (slice_index bytes 0) (slice_index bytes 1)
+  long_bytes h = record { first_is = first_byte; second_is = begins_same (mark_text o) rest 1 (omega (arith, h)) ∙ ap (λ t. slice_index t 1) (sym e) }
+
+  pub short_bytes : length (mark_text o) ≤ 1 → HasBytes o (slice_index bytes 0) 0
+  short_bytes h = let s = mark_size o in record { first_is = first_byte; second_is = s.second h }
+
+-- a mark that stands here, where each of two bytes that stands here is the same
+pub longest_mark : (bytes : List ℕ) (m : Punct) → StandsAt bytes m → ((o : Punct) → 2 ≤ length (mark_text o) → StandsAt bytes o → o ≡ m) → IsMarkAt bytes m
+longest_mark bytes m at only = record { rest = at.0; whole = at.1; longest = λ extra others o q h. shortest extra others o q h }
+  where
+    shortest : (extra others : List ℕ) (o : Punct) → at.0 ≡ extra ++ others → mark_text m ++ extra ≡ mark_text o → extra ≡ []
+    shortest [] others o q h = refl
+    shortest (x ∷ extra) others o q h =
+        let n : length (mark_text m) + length (x ∷ extra) ≡ length (mark_text o) = sym (length-append (mark_text m) (x ∷ extra)) ∙ ap length h in
+        let s = mark_size m in
+        let here : bytes ≡ mark_text o ++ others = at.1 ∙ ap (λ r. mark_text m ++ r) q ∙ sym (append_assoc (mark_text m) (x ∷ extra) others) ∙ ap (λ t. t ++ others) h in
+        let same : o ≡ m = only o (omega (arith, n, s.least)) (others, here) in
+        let k : length (mark_text o) ≡ length (mark_text m) = ap (λ p. length (mark_text p)) same in
+        absurd (omega (arith, n, k))
+
+-- a mark has two bytes or one
+pub by_size : (m : Punct) → (2 ≤ length (mark_text m)) ⊎ (length (mark_text m) ≤ 1)
+by_size m = elim (cases_lt (length (mark_text m)) 2) [
+  | inl lt ↦ inr (omega (arith, lt))
+  | inr ge ↦ inl ge
 ]
 
-module _ (bytes : List ℕ) (i : ℕ) (none : (k : ℕ) → k < i → (rest : List ℕ) → bytes ≡ mark_text (get_or marks k OpenParenthesis) ++ rest → ⊥) where
-  -- no mark of a place before i stands here
-  above : (o : Punct) (rest : List ℕ) → mark_place o < i → bytes ≡ mark_text o ++ rest → ⊥
-  above o rest lt e = none (mark_place o) lt rest (e ∙ ap (λ m. mark_text m ++ rest) (sym (mark_at o)))
+module _ (bytes : List ℕ) where
+  -- the mark of the text's first two bytes
+  pub long_mark : (m : Punct) → StandsAt bytes m → ((o : Punct) → HasBytes o (slice_index bytes 0) (slice_index bytes 1) → o ≡ m) → IsMarkAt bytes m
+  long_mark m at only = longest_mark bytes m at (λ o h s. only o (long_bytes bytes o s.0 s.1 h))
 
-  pub no_mark : 24 ≤ i → HasNoMark bytes
-  no_mark le m rest e = let h = mark_place-lt m in above m rest (omega (arith, h, le)) e
+  -- a mark, where that of the first two bytes doesn't stand there
+  pub short_mark : ((o : Punct) → HasBytes o (slice_index bytes 0) (slice_index bytes 1) → StandsAt bytes o → ⊥) → (m : Punct) → StandsAt bytes m → IsMarkAt bytes m
+  short_mark none m at = longest_mark bytes m at (λ o h s. absurd (none o (long_bytes bytes o s.0 s.1 h) s))
 
-  -- the first mark of the table that stands here is the longest
-  pub first_mark : (m : Punct) (rest : List ℕ) → m ≡ get_or marks i OpenParenthesis → bytes ≡ mark_text m ++ rest → IsMarkAt bytes m
-  first_mark m rest is e = record {
-    rest = rest;
-    whole = e;
-    longest = λ extra others o q h. shortest extra others o q h;
-  }
-    where
-      shortest : (extra others : List ℕ) (o : Punct) → rest ≡ extra ++ others → mark_text m ++ extra ≡ mark_text o → extra ≡ []
-      shortest [] others o q h = refl
-      shortest (x ∷ extra) others o q h =
-          let n : length (mark_text m) + length (x ∷ extra) ≡ length (mark_text o) = sym (length-append (mark_text m) (x ∷ extra)) ∙ ap length h in
-          let s = mark_size m in
-          let t = mark_size o in
-          let low : mark_place o < 11 = t.placed (omega (arith, n, s.least)) in
-          let high : 11 ≤ i = not_long m i is (omega (arith, n, t.most)) in
-          absurd (above o others (omega (arith, low, high)) (e ∙ ap (λ r. mark_text m ++ r) q ∙ sym (append_assoc (mark_text m) (x ∷ extra) others) ∙ ap (λ t. t ++ others) h))
+  pub no_mark : ((o : Punct) → HasBytes o (slice_index bytes 0) (slice_index bytes 1) → StandsAt bytes o → ⊥) → ((o : Punct) → HasBytes o (slice_index bytes 0) 0 → StandsAt bytes o → ⊥) → HasNoMark bytes
+  no_mark long short m rest e = elim (by_size m) [
+    | inl h ↦ long m (long_bytes bytes m rest e h) (rest, e)
+    | inr h ↦ short m (short_bytes bytes m rest e h) (rest, e)
+  ]
+
+pub if_some : {A : Type 0} (P Q : A → Type 0) (r : Option A) → ((x : A) → P x → Q x) → IfSome r P → IfSome r Q
+if_some P Q (Some v) f h = f v h
+if_some P Q None f h = tt
+
+pub if_none : {A : Type 0} (P Q : Type 0) (r : Option A) → (P → Q) → IfNone r P → IfNone r Q
+if_none P Q (Some v) f h = tt
+if_none P Q None f h = f h

@@ -1,5 +1,5 @@
 -- What the lexer's functions answer.
-use Rattle.std.specs.Prelude.{◌≡◌, ℕ, ◌+◌, ◌<◌, ◌≤◌, List, [], ◌++◌, length, take, slice_index, Bool, false, ◌==◌, ◌&&◌, ◌||◌, if◌then◌else◌, Result, codes}
+use Rattle.std.specs.Prelude.{◌≡◌, ℕ, ◌+◌, ◌-◌, ◌*◌, ◌%◌, ◌<◌, ◌≤◌, List, [], ◌++◌, length, take, slice_index, Bool, false, ◌==◌, ◌&&◌, ◌||◌, if◌then◌else◌, Result, codes}
 use Rattle.std.proofs.Common.{drop}
 use Rattle.c_lexer.specs.declared.token.Keyword.{Keyword}
 use Rattle.c_lexer.specs.declared.token.Punct.{Punct}
@@ -31,8 +31,25 @@ pub record IsRun (test : ℕ → Bool) (bytes : List ℕ) (len : ℕ) : Type 0 w
   pub each : Each test text
   pub ends : Ends test (drop len bytes)
 
+-- where a reserved word stands in the table: no two of them have one slot
+abbrev pub slot_of : List ℕ → ℕ
+slot_of text = (10 * slice_index text 0 + 3 * slice_index text (length text - 1) + length text) % 128
+
 abbrev pub HasNoKeyword : List ℕ → Type 0
 HasNoKeyword text = (w : Keyword) → text ≡ keyword_text w → ⊥
+
+-- where a mark stands in the table, by its first byte and its second, or 0: no two of them have one slot
+abbrev pub mark_slot_of : ℕ → ℕ → ℕ
+mark_slot_of first second = (first + 13 * second) % 48
+
+-- these are the bytes of the mark, or the first is its byte and the second is 0
+pub record HasBytes (m : Punct) (first second : ℕ) : Type 0 where
+  pub first_is : slice_index (mark_text m) 0 ≡ first
+  pub second_is : slice_index (mark_text m) 1 ≡ second
+
+-- the mark stands at the beginning of a text
+abbrev pub StandsAt : List ℕ → Punct → Type 0
+StandsAt bytes m = (rest : List ℕ) × (bytes ≡ mark_text m ++ rest)
 
 -- the longest mark at the beginning of a text
 pub record IsMarkAt (bytes : List ℕ) (m : Punct) : Type 0 where

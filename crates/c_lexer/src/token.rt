@@ -115,8 +115,11 @@ pub struct Place {
 
 /// What a fault is called: one text for one fault.
 pub const BAD_BYTE: &str = "bad byte";
+
 pub const OPEN_COMMENT: &str = "comment not closed";
+
 pub const TOO_WIDE: &str = "literal too wide";
+
 pub const NO_MEMORY: &str = "out of memory";
 
 /// Why a text has no tokens.

@@ -1,9 +1,11 @@
 //! Reserved words and marks by their texts.
 
-ghost use Rattle.std.specs.Prelude.{◌≡◌, IfSome, IfNone, length};
+ghost use Rattle.std.specs.Prelude.{◌≡◌, IfSome, IfNone};
 ghost use Rattle.c_lexer.specs.Lexing.{keyword_text, mark_text};
-ghost use Rattle.c_lexer.specs.Scanning.{HasNoKeyword, IsMarkAt, HasNoMark};
+ghost use Rattle.c_lexer.specs.declared.token.Punct.{Punct};
+ghost use Rattle.c_lexer.specs.Scanning.{slot_of, HasNoKeyword, mark_slot_of, HasBytes, StandsAt, IsMarkAt, HasNoMark};
 
+use crate::run::byte_at;
 use crate::token::{Keyword, Punct};
 
 /// The reserved words.
@@ -54,7 +56,17 @@ const KEYWORDS: [Keyword; 44] = [
     Keyword::ThreadLocal,
 ];
 
-/// The marks, the longer ones first.
+/// The places of the reserved words in `KEYWORDS`, each at its word's slot, and elsewhere 44.
+const KEYWORD_PLACES: [u8; 128] = [
+    44, 44, 44, 44, 44, 44, 44, 43, 44, 41, 44, 44, 44, 44, 44, 44, 44, 13, 44, 44, 44, 10, 44, 34,
+    44, 44, 9, 12, 44, 17, 44, 44, 42, 44, 44, 44, 44, 5, 38, 44, 44, 44, 44, 40, 44, 27, 44, 44,
+    25, 44, 44, 44, 44, 44, 26, 7, 14, 44, 44, 44, 29, 18, 44, 15, 44, 30, 3, 44, 11, 44, 32, 44,
+    44, 44, 44, 16, 2, 44, 4, 21, 44, 44, 22, 33, 44, 8, 44, 20, 23, 44, 6, 44, 44, 19, 44, 24, 28,
+    31, 44, 44, 44, 44, 36, 39, 44, 44, 44, 44, 44, 44, 44, 44, 35, 1, 44, 44, 44, 44, 44, 44, 44,
+    0, 44, 44, 44, 44, 44, 37,
+];
+
+/// The marks.
 const MARKS: [Punct; 24] = [
     Punct::LessEqual,
     Punct::GreaterEqual,
@@ -80,6 +92,12 @@ const MARKS: [Punct; 24] = [
     Punct::Not,
     Punct::Less,
     Punct::Greater,
+];
+
+/// The places of the marks in `MARKS`, each at its mark's slot, and elsewhere 24.
+const MARK_PLACES: [u8; 48] = [
+    24, 24, 24, 24, 4, 24, 10, 24, 5, 24, 3, 15, 22, 17, 23, 24, 24, 24, 24, 8, 6, 24, 7, 24, 24,
+    24, 9, 13, 24, 14, 24, 24, 24, 21, 24, 24, 24, 0, 2, 1, 11, 12, 20, 18, 16, 19, 24, 24,
 ];
 
 impl Keyword {
@@ -168,17 +186,47 @@ impl Punct {
     }
 }
 
+/// The slot of a text. It is a perfect hash, as gperf's: each reserved word has a slot of its own.
+fn slot(text: &[u8]) -> usize
+    ensures { result ≡ slot_of text.now }
+{
+    let first = byte_at(text, 0) as usize;
+    let last = byte_at(text, text.len().saturating_sub(1)) as usize;
+    (10 * first + 3 * last + text.len()) % 128
+}
+
 /// The reserved word of a text.
 pub(crate) fn keyword(text: &[u8]) -> Option<Keyword>
     ensures some { IfSome result (λ w. text.now ≡ keyword_text w) }
     ensures none { IfNone result (HasNoKeyword text.now) }
 {
-    for word in KEYWORDS {
-        if word.text() == text {
-            return Some(word);
-        }
+    let word = *KEYWORDS.get(KEYWORD_PLACES[slot(text)] as usize)?;
+    if word.text() == text {
+        Some(word)
+    } else {
+        None
     }
-    None
+}
+
+/// The slot of two bytes. Each mark has a slot of its own, where the second byte of a mark of one byte is 0.
+fn mark_slot(first: u8, second: u8) -> usize
+    ensures { result ≡ mark_slot_of first second }
+{
+    (first as usize + 13 * second as usize) % 48
+}
+
+/// The mark of these two bytes, or of the first where the second is 0, if it stands at the beginning of a text.
+fn mark_of(rest: &[u8], first: u8, second: u8) -> Option<Punct>
+    ensures some { IfSome result (StandsAt rest.now) }
+    ensures only { IfSome result (λ m. (o : Punct) → HasBytes o first second → o ≡ m) }
+    ensures none { IfNone result ((o : Punct) → HasBytes o first second → StandsAt rest.now o → ⊥) }
+{
+    let mark = *MARKS.get(MARK_PLACES[mark_slot(first, second)] as usize)?;
+    if rest.starts_with(mark.text()) {
+        Some(mark)
+    } else {
+        None
+    }
 }
 
 /// The longest mark at the beginning of a text.
@@ -186,10 +234,9 @@ pub(crate) fn mark_at(rest: &[u8]) -> Option<Punct>
     ensures some { IfSome result (IsMarkAt rest.now) }
     ensures none { IfNone result (HasNoMark rest.now) }
 {
-    for mark in MARKS {
-        if rest.starts_with(mark.text()) {
-            return Some(mark);
-        }
+    let first = byte_at(rest, 0);
+    match mark_of(rest, first, byte_at(rest, 1)) {
+        Some(mark) => Some(mark),
+        None => mark_of(rest, first, 0),
     }
-    None
 }
