@@ -4,7 +4,7 @@ use Rattle.std.proofs.Common.{drop, get_or, sym, ◌∙◌, ap, arith, length-ap
 use Rattle.std.proofs.Math.Seq.{take-append_seam, get_or-append_seam, take-length}
 use Rattle.std.proofs.lemmas.List.{get_or-take, get_or-append-add, take-append-drop, length-drop, length-take-le}
 use Rattle.c_lexer.specs.Lexing.{is_indent, is_name_byte, HasNoEnd, BeginsInclude}
-use Rattle.c_lexer.specs.Scanning.{IsRun, IsFirstEnd}
+use Rattle.c_lexer.specs.steps.Scanning.{IsRun, IsFirstEnd}
 use Rattle.c_lexer.proofs.Lists.{drop_first, first_of_some, same_run}
 
 -- a text at no place of which the two bytes stand

@@ -6,8 +6,8 @@ use Rattle.c_lexer.specs.declared.token.Keyword.{Keyword}
 use Rattle.c_lexer.specs.declared.token.Punct.{Punct}
 use Rattle.c_lexer.specs.declared.token.TokenKind.{TokenKind}
 use Rattle.c_lexer.specs.declared.token.TokenKind.TheVariants.{Name, Literal, Word, Mark}
-use Rattle.c_lexer.specs.Lexing.{is_blank, is_digit, is_letter, is_name_byte, Each, Ends, IsWord, IsLiteral, keyword_text, mark_text, IsLexeme, IsLongest, IsToken, Parts, HasNoLexeme}
-use Rattle.c_lexer.specs.Scanning.{HasNoMark}
+use Rattle.c_lexer.specs.Lexing.{is_blank, is_digit, is_letter, is_name_byte, Each, RunEnds, IsWord, IsLiteral, keyword_text, mark_text, IsLexeme, IsLongest, IsToken, Parts, HasNoLexeme}
+use Rattle.c_lexer.specs.steps.Scanning.{HasNoMark}
 use Rattle.c_lexer.proofs.Lists.{overlap, each-behind, ends_there}
 use Rattle.c_lexer.proofs.Words.{keyword_word, keyword_same, mark_same, mark_sign, mark_size}
 use Rattle.c_lexer.proofs.Literals.{literal_digit, one_value}
@@ -119,7 +119,7 @@ same_kind (Mark m) (Mark o) text t u = ap Mark (mark_same m o (sym t ∙ u))
 
 -- a token that is a literal's text ends where no letter or digit stands, and is not too wide
 pub record IsNarrow (n : ℕ) (rest : List ℕ) : Type 0 where
-  pub ends : Ends is_name_byte rest
+  pub ends : RunEnds is_name_byte rest
   pub narrow : n < 2 ^ 63
 
 pub literal_parts : (k : TokenKind) (text rest : List ℕ) (n : ℕ) → IsLiteral text n → IsToken k text → Parts k rest → IsNarrow n rest
@@ -139,7 +139,7 @@ same_text a b x y e ta la tb lb = elim (overlap a b x y e) [
       (w.1 ∙ ap (λ c. b ++ c) n ∙ append-nil b, sym (w.2 ∙ ap (λ c. c ++ x) n))
 ]
 
-pub word_longest : (b : ℕ) (bs rest : List ℕ) → is_letter b ≡ true → Ends is_name_byte rest → IsLongest (b ∷ bs) rest
+pub word_longest : (b : ℕ) (bs rest : List ℕ) → is_letter b ≡ true → RunEnds is_name_byte rest → IsLongest (b ∷ bs) rest
 word_longest b bs rest h e extra others q t = elim t [
   | inl w ↦ ends_there is_name_byte rest extra others e q (each-behind is_name_byte bs extra w.1)
   | inr v ↦ elim v [
@@ -181,9 +181,9 @@ no_lexeme b bytes l d m (x ∷ text) rest e t =
     ]
 
 -- a letter and bytes of a name, as a text
-pub run_word : (b : ℕ) (more rest text : List ℕ) → b ∷ more ≡ text ++ rest → is_letter b ≡ true → Each is_name_byte text → Ends is_name_byte rest → (0 < length text) × IsWord text × IsLongest text rest
+pub run_word : (b : ℕ) (more rest text : List ℕ) → b ∷ more ≡ text ++ rest → is_letter b ≡ true → Each is_name_byte text → RunEnds is_name_byte rest → (0 < length text) × IsWord text × IsLongest text rest
 run_word b more rest [] e h each ends =
-    let f : is_name_byte b ≡ false = subst (λ r. Ends is_name_byte r) (sym e) ends in
+    let f : is_name_byte b ≡ false = subst (λ r. RunEnds is_name_byte r) (sym e) ends in
     let n : false ≡ true = sym f ∙ letter-name b h in cc
 run_word b more rest (x ∷ xs) e h each ends =
     let q : b ≡ x = cc in

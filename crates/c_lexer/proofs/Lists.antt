@@ -2,7 +2,7 @@
 use Rattle.std.specs.Prelude.{◌≡◌, ℕ, zero, suc, ◌+◌, ◌<◌, ◌≤◌, List, [], ◌∷◌, ◌++◌, length, Bool, true, false, refl, ◌⊎◌}
 use Rattle.std.proofs.Common.{drop, get_or, sym, ◌∙◌, ap, subst, arith, append_assoc, append-nil, length-append, add-one, inl, inr}
 use Rattle.std.proofs.Math.Seq.{drop-cons}
-use Rattle.c_lexer.specs.Lexing.{Each, Ends}
+use Rattle.c_lexer.specs.Lexing.{Each, RunEnds}
 
 pub each-append : (c : ℕ → Bool) (xs : List ℕ) (b : ℕ) → Each c xs → c b ≡ true → Each c (xs ++ b ∷ [])
 each-append c [] b h q = (q, tt)
@@ -51,15 +51,15 @@ cancel [] x y e = e
 cancel (u ∷ a) x y e = cancel a x y cc
 
 -- where a run ends nothing more of its class stands
-pub ends_there : (c : ℕ → Bool) (rest extra others : List ℕ) → Ends c rest → rest ≡ extra ++ others → Each c extra → extra ≡ []
+pub ends_there : (c : ℕ → Bool) (rest extra others : List ℕ) → RunEnds c rest → rest ≡ extra ++ others → Each c extra → extra ≡ []
 ends_there c rest [] others h e q = refl
 ends_there c rest (x ∷ extra) others h e q =
-    let f : c x ≡ false = subst (λ r. Ends c r) e h in
+    let f : c x ≡ false = subst (λ r. RunEnds c r) e h in
     let t : c x ≡ true = q.0 in
     let n : false ≡ true = sym f ∙ t in cc
 
 -- a text has one run of a class
-pub same_run : (c : ℕ → Bool) (a b x y : List ℕ) → a ++ x ≡ b ++ y → Each c a → Each c b → Ends c x → Ends c y → (a ≡ b) × (x ≡ y)
+pub same_run : (c : ℕ → Bool) (a b x y : List ℕ) → a ++ x ≡ b ++ y → Each c a → Each c b → RunEnds c x → RunEnds c y → (a ≡ b) × (x ≡ y)
 same_run c a b x y e ea eb fx fy = elim (overlap a b x y e) [
   | inl w ↦
       let n : w.0 ≡ [] = ends_there c x w.0 y fx w.2 (each-behind c a w.0 (subst (Each c) w.1 eb)) in

@@ -6,8 +6,8 @@ use Rattle.std.proofs.lemmas.Bool.Decides.{nat_tests}
 use Rattle.std.proofs.lemmas.Slice.Eq.{bytes_eq-Decides}
 use Rattle.c_lexer.specs.declared.run.Base.{Base}
 use Rattle.c_lexer.specs.declared.run.Base.TheVariants.{Decimal, Octal, Hexadecimal}
-use Rattle.c_lexer.specs.Lexing.{is_digit, is_digit_in, is_suffix, radix, value_in, Each, Ends, IsNumeral, IsLiteral}
-use Rattle.c_lexer.specs.Scanning.{begins_hexadecimal, suffix_len_of, base_of}
+use Rattle.c_lexer.specs.Lexing.{is_digit, is_digit_in, is_suffix, radix, value_in, Each, RunEnds, IsNumeral, IsLiteral}
+use Rattle.c_lexer.specs.steps.Scanning.{begins_hexadecimal, suffix_len_of, base_of}
 use Rattle.c_lexer.proofs.Lists.{same_run, cancel}
 
 both : (a b : Bool) → (a && b) ≡ true → (a ≡ true) × (b ≡ true)
@@ -46,13 +46,13 @@ l_no_digit Decimal b h = grind (arith, nat_tests)
 l_no_digit Octal b h = grind (arith, nat_tests)
 l_no_digit Hexadecimal b h = grind (arith, nat_tests)
 
-form_ends : (base : Base) (text : List ℕ) → has_form text ≡ true → Ends (is_digit_in base) text
+form_ends : (base : Base) (text : List ℕ) → has_form text ≡ true → RunEnds (is_digit_in base) text
 form_ends base [] h = tt
 form_ends base (a ∷ []) h = l_no_digit base a h
 form_ends base (a ∷ b ∷ []) h = l_no_digit base a (both (is_l a) (b == a) h).0
 form_ends base (a ∷ b ∷ c ∷ text) h = cc
 
-pub suffix_ends : (base : Base) (text : List ℕ) → is_suffix text ≡ true → Ends (is_digit_in base) text
+pub suffix_ends : (base : Base) (text : List ℕ) → is_suffix text ≡ true → RunEnds (is_digit_in base) text
 suffix_ends base text h = form_ends base text (suffix_form text h)
 
 -- digits
@@ -169,13 +169,13 @@ same_front Hexadecimal f g (b ∷ d) (c ∷ e) x y h k q = elim h.0 [
 ]
 
 -- two literals of one base in one text
-same_digits : (base : Base) (f g d e x y : List ℕ) → IsNumeral base f d → IsNumeral base g e → f ++ (d ++ x) ≡ g ++ (e ++ y) → Ends (is_digit_in base) x → Ends (is_digit_in base) y → (d ≡ e) × (x ≡ y)
+same_digits : (base : Base) (f g d e x y : List ℕ) → IsNumeral base f d → IsNumeral base g e → f ++ (d ++ x) ≡ g ++ (e ++ y) → RunEnds (is_digit_in base) x → RunEnds (is_digit_in base) y → (d ≡ e) × (x ≡ y)
 same_digits base f g d e x y h k q p r =
     let t = same_front base f g d e x y h k q in
     same_run (is_digit_in base) d e x y (cancel g (d ++ x) (e ++ y) (sym (ap (λ f. f ++ (d ++ x)) t) ∙ q)) (numeral_each base f d h) (numeral_each base g e k) p r
 
 -- digits behind which no more stand are those of each literal that takes them
-pub same_literal : (base : Base) (front digits tail text : List ℕ) (n : ℕ) → (l : IsLiteral text n) → front ++ (digits ++ tail) ≡ text → IsNumeral base front digits → Ends (is_digit_in base) tail →
+pub same_literal : (base : Base) (front digits tail text : List ℕ) (n : ℕ) → (l : IsLiteral text n) → front ++ (digits ++ tail) ≡ text → IsNumeral base front digits → RunEnds (is_digit_in base) tail →
     (base ≡ Octal → begins_hexadecimal text ≡ false) → (base ≡ l.base) × (digits ≡ l.digits) × (tail ≡ l.suffix)
 same_literal base front digits tail text n l e h ends free =
     let b : base ≡ l.base = sym (numeral_base base front digits tail h (λ o. ap begins_hexadecimal e ∙ free o)) ∙ ap base_of e ∙ literal_base text n l in

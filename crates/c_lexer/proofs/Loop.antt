@@ -10,7 +10,7 @@ use Rattle.c_lexer.specs.declared.token.LexError.{LexError}
 use Rattle.c_lexer.specs.declared.scan.Piece.TheVariants.{Gap, Token}
 use Rattle.c_lexer.specs.Lexing.{after_byte, after, first_place, IsLexeme, token_at, with_token, IsLexed, end, blank, line_comment, comment, open_comment, include_line, token, wide, glued, bad, IsTokens, HasFault}
 use Rattle.c_lexer.specs.Answer.{Gives, Refuses, StandBetween}
-use Rattle.c_lexer.specs.Scanning.{HasRoom, IsPiece}
+use Rattle.c_lexer.specs.steps.Scanning.{HasRoom, IsPiece}
 use Rattle.c_lexer.proofs.Lexemes.{lexeme_head, token_lexeme}
 use Rattle.c_lexer.proofs.Gaps.{slice_rest}
 use Rattle.c_lexer.proofs.OneAnswer.{Answers, one_list, no_fault, one_fault}

@@ -7,8 +7,8 @@ use Rattle.std.proofs.lemmas.Bool.Decides.{nat_tests}
 use Rattle.c_lexer.specs.declared.run.Base.{Base}
 use Rattle.c_lexer.specs.declared.run.Base.TheVariants.{Decimal, Octal, Hexadecimal}
 use Rattle.c_lexer.specs.declared.literal.Digits.{Digits}
-use Rattle.c_lexer.specs.Lexing.{is_digit, is_digit_in, is_suffix, radix, digit_value, value_from, value_in, Each, Ends, IsNumeral, IsLiteral, IsLongest}
-use Rattle.c_lexer.specs.Scanning.{IsRun, begins_hexadecimal, base_of, front_len_of, suffix_len_of, IsDigitsAt}
+use Rattle.c_lexer.specs.Lexing.{is_digit, is_digit_in, is_suffix, radix, digit_value, value_from, value_in, Each, RunEnds, IsNumeral, IsLiteral, IsLongest}
+use Rattle.c_lexer.specs.steps.Scanning.{IsRun, begins_hexadecimal, base_of, front_len_of, suffix_len_of, IsDigitsAt}
 use Rattle.c_lexer.proofs.Lists.{drop_first, first_of_some, first_two, stands}
 use Rattle.c_lexer.proofs.Literals.{literal_digit, same_literal, prefix_no_hex, IsSuffixAt, suffix_at}
 use Rattle.c_lexer.proofs.Lexemes.{literal_longest}
@@ -62,8 +62,8 @@ hex_some : (b : ℕ) → is_digit_in Hexadecimal b ≡ true → b ≡ 0 → ⊥
 hex_some b h z = grind (arith, nat_tests)
 
 -- a run that some byte begins
-run_some : (c : ℕ → Bool) (b : ℕ) (more rest text : List ℕ) → b ∷ more ≡ text ++ rest → c b ≡ true → Ends c rest → (bs : List ℕ) × (text ≡ b ∷ bs)
-run_some c b more rest [] e h ends = let f : c b ≡ false = subst (Ends c) (sym e) ends in let n : false ≡ true = sym f ∙ h in cc
+run_some : (c : ℕ → Bool) (b : ℕ) (more rest text : List ℕ) → b ∷ more ≡ text ++ rest → c b ≡ true → RunEnds c rest → (bs : List ℕ) × (text ≡ b ∷ bs)
+run_some c b more rest [] e h ends = let f : c b ≡ false = subst (RunEnds c) (sym e) ends in let n : false ≡ true = sym f ∙ h in cc
 run_some c b more rest (x ∷ xs) e h ends = let q : b ≡ x = cc in (xs, ap (λ y. y ∷ xs) (sym q))
 
 -- the digits behind some first bytes
@@ -80,7 +80,7 @@ module _ (bytes front digits : List ℕ) (base : Base) (from n : ℕ) (before : 
         within = omega (arith, r.within, l, room);
         whole = whole ∙ ap (λ x. front ++ x) (r.whole ∙ ap (λ x. r.text ++ x) d);
         numeral = h;
-        ends = subst (Ends (is_digit_in base)) d r.ends;
+        ends = subst (RunEnds (is_digit_in base)) d r.ends;
         octal = o;
       }
 
@@ -132,7 +132,7 @@ pub record IsLiteralAt (bytes : List ℕ) (len n : ℕ) : Type 0 where
   pub literal : IsLiteral text n
   pub longest : IsLongest text (drop len bytes)
 
-ends_front : (c : ℕ → Bool) (xs ys : List ℕ) → Ends c (xs ++ ys) → Ends c xs
+ends_front : (c : ℕ → Bool) (xs ys : List ℕ) → RunEnds c (xs ++ ys) → RunEnds c xs
 ends_front c [] ys h = tt
 ends_front c (x ∷ xs) ys h = h
 
@@ -190,7 +190,7 @@ module _ (bytes : List ℕ) (d : Digits) (k : ℕ) (at : IsDigitsAt bytes d) (s 
       let q : at.front ++ (at.digits ++ (suffix ++ extra)) ≡ text ++ extra =
       ap (λ x. at.front ++ x) (sym (append_assoc at.digits suffix extra)) ∙ sym (append_assoc at.front (at.digits ++ suffix) extra) in
       let t : drop d.to bytes ≡ (suffix ++ extra) ++ others = tail_is ∙ ap (λ x. suffix ++ x) e ∙ sym (append_assoc suffix extra others) in
-      let ends = ends_front (is_digit_in d.base) (suffix ++ extra) others (subst (Ends (is_digit_in d.base)) t at.ends) in
+      let ends = ends_front (is_digit_in d.base) (suffix ++ extra) others (subst (RunEnds (is_digit_in d.base)) t at.ends) in
       let w : bytes ≡ (text ++ extra) ++ others = whole_is ∙ ap (λ x. text ++ x) e ∙ sym (append_assoc text extra others) in
       let z = same_literal d.base at.front at.digits (suffix ++ extra) (text ++ extra) n l q at.numeral ends (λ o. prefix_no_hex (text ++ extra) others (sym (ap begins_hexadecimal w) ∙ at.octal o)) in
       s.longest extra others (rest_is ∙ e) (ap is_suffix z.2 ∙ l.ends)

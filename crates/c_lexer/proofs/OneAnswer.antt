@@ -6,7 +6,7 @@ use Rattle.c_lexer.specs.declared.token.Token.{Token}
 use Rattle.c_lexer.specs.declared.token.Place.{Place}
 use Rattle.c_lexer.specs.declared.token.LexError.{LexError}
 use Rattle.c_lexer.specs.declared.token.LexError.TheVariants.{BadByte}
-use Rattle.c_lexer.specs.Lexing.{after_byte, after, is_blank, is_of_line, is_name_byte, Ends, IsLiteral, IsLexeme, IsLongest, IsToken, Parts, HasNoEnd, begins_comment, BeginsInclude, token_at, with_token, IsLexed, end, blank, line_comment, comment, open_comment, include_line, token, wide, glued, bad, IsTokens, HasFault, first_place}
+use Rattle.c_lexer.specs.Lexing.{after_byte, after, is_blank, is_of_line, is_name_byte, RunEnds, IsLiteral, IsLexeme, IsLongest, IsToken, Parts, HasNoEnd, begins_comment, BeginsInclude, token_at, with_token, IsLexed, end, blank, line_comment, comment, open_comment, include_line, token, wide, glued, bad, IsTokens, HasFault, first_place}
 use Rattle.c_lexer.proofs.Lists.{overlap, same_run, cancel}
 use Rattle.c_lexer.proofs.Lexemes.{lexeme_head, token_lexeme, same_kind, literal_parts, same_text}
 
@@ -71,8 +71,8 @@ sorted (bad {b = b} {bytes = bytes} x y z w) = no_comment b bytes x y
 moved_to : {p q : Place} {xs : List ℕ} {r : Answers} → p ≡ q → IsLexed p xs r → IsLexed q xs r
 moved_to {xs = xs} {r = r} e l = subst (λ p. IsLexed p xs r) e l
 
-glued_ends : (b : ℕ) (rest more : List ℕ) → more ≡ b ∷ rest → is_name_byte b ≡ true → Ends is_name_byte more → ⊥
-glued_ends b rest more e h ends = let f : is_name_byte b ≡ false = subst (λ x. Ends is_name_byte x) e ends in let n : false ≡ true = sym f ∙ h in cc
+glued_ends : (b : ℕ) (rest more : List ℕ) → more ≡ b ∷ rest → is_name_byte b ≡ true → RunEnds is_name_byte more → ⊥
+glued_ends b rest more e h ends = let f : is_name_byte b ≡ false = subst (λ x. RunEnds is_name_byte x) e ends in let n : false ≡ true = sym f ∙ h in cc
 
 token_wide : (k : TokenKind) (n : ℕ) (text rest other more : List ℕ) → text ++ rest ≡ other ++ more → IsToken k text → IsLongest text rest → Parts k rest → IsLiteral other n → IsLongest other more → 2 ^ 63 ≤ n → ⊥
 token_wide k n text rest other more e t long parts d long' big =
@@ -85,7 +85,7 @@ token_glued k n b text rest other more e t long parts d long' h =
     let w = same_text text other rest (b ∷ more) e (token_lexeme k text t) long (inr (inl (n, d))) long' in
     let p = literal_parts k text rest n (subst (λ x. IsLiteral x n) (sym w.0) d) t parts in glued_ends b more rest w.1 h p.ends
 
-wide_glued : (m n b : ℕ) (text rest other more : List ℕ) → text ++ rest ≡ other ++ b ∷ more → IsLiteral text m → IsLongest text rest → Ends is_name_byte rest → IsLiteral other n → IsLongest other (b ∷ more) → is_name_byte b ≡ true → ⊥
+wide_glued : (m n b : ℕ) (text rest other more : List ℕ) → text ++ rest ≡ other ++ b ∷ more → IsLiteral text m → IsLongest text rest → RunEnds is_name_byte rest → IsLiteral other n → IsLongest other (b ∷ more) → is_name_byte b ≡ true → ⊥
 wide_glued m n b text rest other more e d long ends d' long' h =
     let w = same_text text other rest (b ∷ more) e (inr (inl (m, d))) long (inr (inl (n, d'))) long' in glued_ends b more rest w.1 h ends
 

@@ -14,8 +14,8 @@ use Rattle.c_lexer.specs.declared.token.Place.{Place}
 use Rattle.c_lexer.specs.declared.token.LexError.{LexError}
 use Rattle.c_lexer.specs.declared.token.LexError.TheVariants.{BadByte, OpenComment, TooWide}
 use Rattle.c_lexer.specs.declared.scan.Piece.TheVariants.{Gap, Token}
-use Rattle.c_lexer.specs.Lexing.{after, is_blank, is_digit, is_letter, is_name_byte, is_of_line, Each, Ends, IsWord, keyword_text, mark_text, IsLongest, IsToken, Parts, HasNoEnd, begins_comment, BeginsInclude, token_at, with_token, IsLexed, blank, line_comment, comment, open_comment, include_line, token, wide, glued, bad}
-use Rattle.c_lexer.specs.Scanning.{IsRun, IsMarkAt, HasNoMark, HasNoKeyword, IsFirstEnd, IsPiece}
+use Rattle.c_lexer.specs.Lexing.{after, is_blank, is_digit, is_letter, is_name_byte, is_of_line, Each, RunEnds, IsWord, keyword_text, mark_text, IsLongest, IsToken, Parts, HasNoEnd, begins_comment, BeginsInclude, token_at, with_token, IsLexed, blank, line_comment, comment, open_comment, include_line, token, wide, glued, bad}
+use Rattle.c_lexer.specs.steps.Scanning.{IsRun, IsMarkAt, HasNoMark, HasNoKeyword, IsFirstEnd, IsPiece}
 use Rattle.c_lexer.proofs.Lists.{drop_first, first_of_some, stands}
 use Rattle.c_lexer.proofs.Words.{mark_sign, mark_size}
 use Rattle.c_lexer.proofs.Lexemes.{mark_some, mark_longest, no_lexeme, run_word}
@@ -80,7 +80,7 @@ module _ (p : Place) (bytes : List ℕ) (len : ℕ) (h : is_letter (get_or bytes
       token_piece bytes r.text (drop len bytes) len r.whole r.size p (Word w) word_some (sym (front_of is_name_byte bytes len r) ∙ e) k.2 tt
 
 -- literals
-ends_at : (c : ℕ → Bool) (bytes : List ℕ) (n : ℕ) → c (get_or bytes n 0) ≡ false → Ends c (drop n bytes)
+ends_at : (c : ℕ → Bool) (bytes : List ℕ) (n : ℕ) → c (get_or bytes n 0) ≡ false → RunEnds c (drop n bytes)
 ends_at c [] zero h = tt
 ends_at c [] (suc n) h = tt
 ends_at c (b ∷ bytes) zero h = h
@@ -111,8 +111,8 @@ module _ (p : Place) (bytes : List ℕ) (len n : ℕ) (l : IsLiteralAt bytes len
 eq_of : (a b : ℕ) → (a == b) ≡ true → a ≡ b
 eq_of a b h = grind (arith, nat_tests)
 
-run_one : (b : ℕ) (more rest text : List ℕ) → b ∷ more ≡ text ++ rest → is_of_line b ≡ true → Ends is_of_line rest → 0 < length text
-run_one b more rest [] e h ends = let f : is_of_line b ≡ false = subst (Ends is_of_line) (sym e) ends in absurd (false≢true (sym f ∙ h))
+run_one : (b : ℕ) (more rest text : List ℕ) → b ∷ more ≡ text ++ rest → is_of_line b ≡ true → RunEnds is_of_line rest → 0 < length text
+run_one b more rest [] e h ends = let f : is_of_line b ≡ false = subst (RunEnds is_of_line) (sym e) ends in absurd (false≢true (sym f ∙ h))
 run_one b more rest (x ∷ text) e h ends = omega arith
 
 pub include_piece : (p : Place) (bytes : List ℕ) (len : ℕ) → p.line_is_blank ≡ true → BeginsInclude bytes → IsRun is_of_line bytes len → IsPiece p bytes (Gap len)
@@ -161,11 +161,11 @@ slash (b ∷ c ∷ bs) h =
     let k = both (b == 47) ((c == 47) || (c == 42)) h in
     record { next = c; rest = bs; whole = ap (λ x. x ∷ c ∷ bs) (eq_of b 47 k.0); is = either c k.1 }
 
-line_text : (bs text rest : List ℕ) → 47 ∷ 47 ∷ bs ≡ text ++ rest → Ends is_of_line rest → (t : List ℕ) × (text ≡ 47 ∷ 47 ∷ t)
-line_text bs [] rest e ends = let f : true ≡ false = subst (Ends is_of_line) (sym e) ends in absurd (false≢true (sym f))
+line_text : (bs text rest : List ℕ) → 47 ∷ 47 ∷ bs ≡ text ++ rest → RunEnds is_of_line rest → (t : List ℕ) × (text ≡ 47 ∷ 47 ∷ t)
+line_text bs [] rest e ends = let f : true ≡ false = subst (RunEnds is_of_line) (sym e) ends in absurd (false≢true (sym f))
 line_text bs (x ∷ []) rest e ends =
     let q : 47 ∷ bs ≡ rest = cc in
-    let f : true ≡ false = subst (Ends is_of_line) (sym q) ends in absurd (false≢true (sym f))
+    let f : true ≡ false = subst (RunEnds is_of_line) (sym q) ends in absurd (false≢true (sym f))
 line_text bs (x ∷ y ∷ t) rest e ends =
     let q : x ≡ 47 = cc in let r : y ≡ 47 = cc in
     (t, ap (λ z. z ∷ y ∷ t) q ∙ ap (λ z. 47 ∷ z ∷ t) r)

@@ -9,7 +9,7 @@ use Rattle.c_lexer.specs.declared.token.Keyword.TheVariants as word
 use Rattle.c_lexer.specs.declared.token.Punct.{Punct}
 use Rattle.c_lexer.specs.declared.token.Punct.TheVariants.{OpenParenthesis, CloseParenthesis, OpenBrace, CloseBrace, Semicolon, Comma, Assign, Plus, Minus, Star, Not, Less, LessEqual, Greater, GreaterEqual, Equal, Unequal, And, Or, PlusAssign, MinusAssign, StarAssign, Increment, Decrement}
 use Rattle.c_lexer.specs.Lexing.{is_blank, is_digit, is_letter, IsWord, keyword_text, mark_text}
-use Rattle.c_lexer.specs.Scanning.{slot_of, mark_slot_of, HasNoKeyword, HasBytes, StandsAt, IsMarkAt, HasNoMark}
+use Rattle.c_lexer.specs.steps.Scanning.{slot_of, mark_slot_of, HasNoKeyword, HasBytes, StandsAt, IsMarkAt, HasNoMark}
 
 abbrev pub keywords : List Keyword
 keywords = Int ∷ Long ∷ Void ∷ Extern ∷ If ∷ Else ∷ While ∷ Do ∷ For ∷ Break ∷ Continue ∷ Return ∷ Auto ∷ Case ∷ Char ∷ Const ∷ Default ∷ Double ∷ Enum ∷ Float ∷ Goto ∷ Inline ∷ Register ∷ Restrict ∷ Short ∷ Signed ∷ Sizeof ∷ Static ∷ Struct ∷ Switch ∷ Typedef ∷ Union ∷ Unsigned ∷ Volatile ∷ Alignas ∷ Alignof ∷ Atomic ∷ word.Bool ∷ Complex ∷ Generic ∷ Imaginary ∷ Noreturn ∷ StaticAssert ∷ ThreadLocal ∷ []

@@ -56,9 +56,9 @@ Each test [] = Unit {0}
 Each test (b ∷ bs) = (test b ≡ true) × Each test bs
 
 -- the first byte, if there is one, doesn't pass the test
-abbrev pub Ends : (ℕ → Bool) → List ℕ → Type 0
-Ends test [] = Unit {0}
-Ends test (b ∷ bs) = test b ≡ false
+abbrev pub RunEnds : (ℕ → Bool) → List ℕ → Type 0
+RunEnds test [] = Unit {0}
+RunEnds test (b ∷ bs) = test b ≡ false
 
 -- a letter, and letters and digits: a name or a reserved word
 abbrev pub IsWord : List ℕ → Type 0
@@ -203,7 +203,7 @@ IsToken (Mark m) text = text ≡ mark_text m
 -- what may stand right after a token
 abbrev pub Parts : TokenKind → List ℕ → Type 0
 Parts Name rest = Unit {0}
-Parts (Literal z) rest = Ends is_name_byte rest
+Parts (Literal z) rest = RunEnds is_name_byte rest
 Parts (Word w) rest = Unit {0}
 Parts (Mark m) rest = Unit {0}
 
@@ -223,7 +223,7 @@ pub record BeginsInclude (bytes : List ℕ) : Type 0 where
   pub rest : List ℕ
   pub whole : bytes ≡ codes "#" ++ (gap ++ (codes "include" ++ rest))
   pub blanks : Each is_indent gap
-  pub ends : Ends is_name_byte rest
+  pub ends : RunEnds is_name_byte rest
 
 abbrev pub token_at : Place → TokenKind → List ℕ → Token
 token_at p k text = record { kind = k; at = p.at; from = p.offset; to = p.offset + length text }
@@ -238,16 +238,16 @@ with_token t (Err e) = Err e
 pub data IsLexed : Place → List ℕ → Result (List Token) LexError → Type 0 where
   end : {p : Place} → IsLexed p [] (Ok [])
   blank : {p : Place} {b : ℕ} {bytes : List ℕ} {r : Result (List Token) LexError} → is_blank b ≡ true → IsLexed (after_byte p b) bytes r → IsLexed p (b ∷ bytes) r
-  line_comment : {p : Place} {r : Result (List Token) LexError} → (text rest : List ℕ) → Each is_of_line text → Ends is_of_line rest →
+  line_comment : {p : Place} {r : Result (List Token) LexError} → (text rest : List ℕ) → Each is_of_line text → RunEnds is_of_line rest →
       IsLexed (after p (codes "//" ++ text)) rest r → IsLexed p (codes "//" ++ (text ++ rest)) r
   comment : {p : Place} {r : Result (List Token) LexError} → (text rest : List ℕ) → HasNoEnd text →
       IsLexed (after p (codes "/*" ++ (text ++ codes "*/"))) rest r → IsLexed p (codes "/*" ++ (text ++ (codes "*/" ++ rest))) r
   open_comment : {p : Place} → (text : List ℕ) → HasNoEnd text → IsLexed p (codes "/*" ++ text) (Err (OpenComment p.at))
-  include_line : {p : Place} {r : Result (List Token) LexError} → (text rest : List ℕ) → p.line_is_blank ≡ true → BeginsInclude (text ++ rest) → Each is_of_line text → Ends is_of_line rest →
+  include_line : {p : Place} {r : Result (List Token) LexError} → (text rest : List ℕ) → p.line_is_blank ≡ true → BeginsInclude (text ++ rest) → Each is_of_line text → RunEnds is_of_line rest →
       IsLexed (after p text) rest r → IsLexed p (text ++ rest) r
   token : {p : Place} {r : Result (List Token) LexError} → (k : TokenKind) (text rest : List ℕ) → IsToken k text → IsLongest text rest → Parts k rest →
       IsLexed (after p text) rest r → IsLexed p (text ++ rest) (with_token (token_at p k text) r)
-  wide : {p : Place} → (n : ℕ) (text rest : List ℕ) → IsLiteral text n → IsLongest text rest → Ends is_name_byte rest → 2 ^ 63 ≤ n →
+  wide : {p : Place} → (n : ℕ) (text rest : List ℕ) → IsLiteral text n → IsLongest text rest → RunEnds is_name_byte rest → 2 ^ 63 ≤ n →
       IsLexed p (text ++ rest) (Err (TooWide p.at))
   glued : {p : Place} → (n b : ℕ) (text rest : List ℕ) → IsLiteral text n → IsLongest text (b ∷ rest) → is_name_byte b ≡ true →
       IsLexed p (text ++ b ∷ rest) (Err (BadByte (after p text).at))

@@ -8,7 +8,5 @@ mod gap;
 mod literal;
 mod run;
 pub mod scan;
-#[cfg(test)]
-mod tests;
 pub mod token;
 mod word;

@@ -3,8 +3,8 @@
 ghost use Rattle.std.specs.Prelude.{◌≡◌, ◌+◌, ◌*◌, ◌<◌, ◌≤◌, ◌^◌, length, slice_index, IfSome, IfNone, pos, true};
 ghost use Rattle.c_lexer.specs.Lexing as lexing;
 ghost use Rattle.c_lexer.specs.Lexing.{Each, is_digit_in, value_in};
-ghost use Rattle.c_lexer.specs.Scanning as scanning;
-ghost use Rattle.c_lexer.specs.Scanning.{suffix_len_of, front_len_of, begins_hexadecimal, IsDigitsAt};
+ghost use Rattle.c_lexer.specs.steps.Scanning as scanning;
+ghost use Rattle.c_lexer.specs.steps.Scanning.{suffix_len_of, front_len_of, begins_hexadecimal, IsDigitsAt};
 
 use crate::run::{Base, Class, byte_at, is_in, run_len};
 

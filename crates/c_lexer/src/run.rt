@@ -2,7 +2,7 @@
 
 ghost use Rattle.std.specs.Prelude.{◌≡◌, length, slice_index};
 ghost use Rattle.c_lexer.specs.Lexing as lexing;
-ghost use Rattle.c_lexer.specs.Scanning.{test_of, IsRun};
+ghost use Rattle.c_lexer.specs.steps.Scanning.{test_of, IsRun};
 
 /// How the digits of a literal are read.
 #[derive(Clone, Copy, PartialEq, Eq, Debug)]

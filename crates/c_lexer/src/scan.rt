@@ -4,7 +4,7 @@ ghost use Rattle.std.specs.Prelude.{◌≡◌, ℕ, ◌+◌, ◌<◌, ◌≤◌,
 ghost use Rattle.c_lexer.specs.Lexing as lexing;
 ghost use Rattle.c_lexer.specs.Lexing.{first_place, after, begins_comment, IsLexed, IsTokens, HasFault};
 ghost use Rattle.c_lexer.specs.Answer.{Gives, Refuses, StandBetween, HasOneAnswer};
-ghost use Rattle.c_lexer.specs.Scanning.{HasRoom, IsPiece};
+ghost use Rattle.c_lexer.specs.steps.Scanning.{HasRoom, IsPiece};
 
 use crate::gap;
 use crate::literal::{digits_at, suffix_len, value};
@@ -13,6 +13,9 @@ use crate::token::{LexError, Place, Token, TokenKind};
 use crate::word::{keyword, mark_at};
 use c_tree::tree::Pos;
 use std::alloc::Global;
+
+/// The longest text that is read, in bytes.
+pub const MAX_BYTES: usize = 65_536;
 
 /// What stands at a place, with its length.
 #[derive(Drop)]
@@ -156,7 +159,7 @@ fn piece_at(place: Place, rest: &[u8]) -> Result<Piece, LexError>
 
 /// The tokens of a text, or its first fault.
 pub fn lex(alloc: Global, bytes: &[u8]) -> Result<Vec<Token>, LexError>
-    requires { length bytes.now ≤ 65536 }
+    requires { length bytes.now ≤ MAX_BYTES }
     ensures ok { IfOk result (λ ts. IsTokens bytes.now ts.items) }
     ensures in_order { IfOk result (λ ts. StandBetween 0 (length bytes.now) ts.items) }
     ensures only { (ts : List Token) → IsTokens bytes.now ts → Gives result ts }
@@ -189,7 +192,7 @@ pub fn lex(alloc: Global, bytes: &[u8]) -> Result<Vec<Token>, LexError>
 
 /// The place behind a text.
 pub fn end_of(bytes: &[u8]) -> Pos
-    requires { length bytes.now ≤ 65536 }
+    requires { length bytes.now ≤ MAX_BYTES }
     ensures { result ≡ (after first_place bytes.now).at }
 {
     moved(FIRST_PLACE, bytes).at

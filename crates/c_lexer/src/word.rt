@@ -3,7 +3,7 @@
 ghost use Rattle.std.specs.Prelude.{◌≡◌, IfSome, IfNone};
 ghost use Rattle.c_lexer.specs.Lexing.{keyword_text, mark_text};
 ghost use Rattle.c_lexer.specs.declared.token.Punct.{Punct};
-ghost use Rattle.c_lexer.specs.Scanning.{slot_of, HasNoKeyword, mark_slot_of, HasBytes, StandsAt, IsMarkAt, HasNoMark};
+ghost use Rattle.c_lexer.specs.steps.Scanning.{slot_of, HasNoKeyword, mark_slot_of, HasBytes, StandsAt, IsMarkAt, HasNoMark};
 
 use crate::run::byte_at;
 use crate::token::{Keyword, Punct};

@@ -1,6 +1,6 @@
 use Rattle.std.proofs.Common.{◌∙◌, ◌+◌, ap, subst, drop, sym}
 use Rattle.c_lexer.specs.Lexing.{is_digit_in}
-use Rattle.c_lexer.specs.Scanning.{IsRun, IsDigitsAt}
+use Rattle.c_lexer.specs.steps.Scanning.{IsRun, IsDigitsAt}
 use Rattle.c_lexer.proofs.Gaps.{slice_rest}
 use Rattle.c_lexer.proofs.Numerals.{digits_made}
 use Rattle.c_lexer.proofs.literal.digits_at.Goals as goal

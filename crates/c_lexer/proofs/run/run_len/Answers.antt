@@ -1,5 +1,5 @@
 use Rattle.std.proofs.Common.{arith, sym, ◌∙◌}
-use Rattle.c_lexer.specs.Scanning.{test_of}
+use Rattle.c_lexer.specs.steps.Scanning.{test_of}
 use Rattle.c_lexer.proofs.Lists.{reached_none, reached_more}
 use Rattle.c_lexer.proofs.run.run_len.Goals as goal
 

@@ -1,6 +1,6 @@
 use Rattle.std.proofs.Common.{◌∙◌, sym, subst}
 use Rattle.c_lexer.specs.Lexing.{HasNoEnd}
-use Rattle.c_lexer.specs.Scanning.{IsFirstEnd}
+use Rattle.c_lexer.specs.steps.Scanning.{IsFirstEnd}
 use Rattle.c_lexer.proofs.Gaps.{slice_rest}
 use Rattle.c_lexer.proofs.Pieces.{line_piece, closed_piece, open_fault}
 use Rattle.c_lexer.proofs.scan.comment.Goals as goal

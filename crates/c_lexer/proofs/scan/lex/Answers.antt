@@ -4,7 +4,7 @@ use Rattle.c_lexer.specs.declared.token.LexError.TheVariants.{BadByte, OpenComme
 use Rattle.c_lexer.specs.declared.scan.Piece.TheVariants.{Gap, Token}
 use Rattle.std.proofs.lemmas.Bool.Decides.{nat_tests}
 use Rattle.c_lexer.specs.Lexing.{IsTokens}
-use Rattle.c_lexer.specs.Scanning.{IsPiece}
+use Rattle.c_lexer.specs.steps.Scanning.{IsPiece}
 use Rattle.c_lexer.proofs.Loop.{Tells, next_gap, next_token, all_read, in_order, fault_read, tells_fault, tells_tokens}
 use Rattle.c_lexer.proofs.scan.lex.Goals as goal
 use Rattle.c_lexer.proofs.scan.lex.Goals.{in-Gap, in-Token+in_ok-push-in-Token}

@@ -1,7 +1,7 @@
 use Rattle.std.proofs.Common.{◌∙◌, sym, ap, subst, length}
 use Rattle.c_lexer.specs.declared.token.TokenKind.TheVariants.{Mark}
 use Rattle.c_lexer.specs.declared.scan.Piece.TheVariants.{Token}
-use Rattle.c_lexer.specs.Scanning.{IsPiece}
+use Rattle.c_lexer.specs.steps.Scanning.{IsPiece}
 use Rattle.c_lexer.proofs.Pieces.{blank_piece, mark_piece, byte_fault}
 use Rattle.c_lexer.proofs.scan.piece_at.Goals as goal
 

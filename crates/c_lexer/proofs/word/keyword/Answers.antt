@@ -3,7 +3,7 @@ use Rattle.std.proofs.lemmas.Bool.Decides.{Decides-eqb}
 use Rattle.std.proofs.lemmas.Slice.Eq.{slice_eq-Decides}
 use Rattle.c_lexer.specs.declared.token.Keyword.TheVariants.{Int}
 use Rattle.c_lexer.specs.Lexing.{keyword_text}
-use Rattle.c_lexer.specs.Scanning.{HasNoKeyword}
+use Rattle.c_lexer.specs.steps.Scanning.{HasNoKeyword}
 use Rattle.c_lexer.proofs.Words.{keywords, keyword_places, no_place, no_keyword}
 use Rattle.c_lexer.proofs.word.keyword.Goals as goal
 

@@ -1,6 +1,6 @@
 use Rattle.std.proofs.Common.{◌∙◌, sym}
 use Rattle.c_lexer.specs.declared.token.Punct.{Punct}
-use Rattle.c_lexer.specs.Scanning.{HasBytes, StandsAt, IsMarkAt, HasNoMark}
+use Rattle.c_lexer.specs.steps.Scanning.{HasBytes, StandsAt, IsMarkAt, HasNoMark}
 use Rattle.c_lexer.proofs.Words.{long_mark, short_mark, no_mark, if_some, if_none}
 use Rattle.c_lexer.proofs.word.mark_at.Goals as goal
 

@@ -4,7 +4,7 @@ use Rattle.std.proofs.lemmas.Slice.Eq.{starts_is}
 use Rattle.c_lexer.specs.declared.token.Punct.{Punct}
 use Rattle.c_lexer.specs.declared.token.Punct.TheVariants.{OpenParenthesis}
 use Rattle.c_lexer.specs.Lexing.{mark_text}
-use Rattle.c_lexer.specs.Scanning.{HasBytes, StandsAt}
+use Rattle.c_lexer.specs.steps.Scanning.{HasBytes, StandsAt}
 use Rattle.c_lexer.proofs.Words.{mark_places, no_mark_place, only_mark}
 use Rattle.c_lexer.proofs.word.mark_of.Goals as goal
 

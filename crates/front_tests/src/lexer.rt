@@ -1,18 +1,20 @@
-//! Texts with their answers.
+//! Texts and what the lexer answers.
 
 ghost use Rattle.std.specs.Prelude.{◌≤◌, length};
 
-use crate::scan::{end_of, lex, one_answer};
-use crate::token::{Keyword, LexError, Punct, Token, TokenKind};
+use c_lexer::scan::{end_of, lex, one_answer};
+use c_lexer::token::{Keyword, LexError, Punct, TokenKind};
 use c_tree::tree::Pos;
 use std::alloc::Global;
 use std::fmt::Write;
 use std::test::Fail;
 
-/// Each token with its place and its bytes.
-fn spelled(alloc: Global, tokens: &[Token]) -> Result<String, Fail> {
+/// Each token of a text with its place and its bytes.
+fn spelled(alloc: Global, text: &[u8]) -> Result<String, Fail>
+    requires { length text.now ≤ 65536 }
+{
     let mut out = String::new(alloc);
-    for token in tokens {
+    for token in lex(alloc, text)? {
         write!(out, "{}:{} ", token.at.line, token.at.column)?;
         write!(out, "{}-{} {:?}; ", token.from, token.to, token.kind)?;
     }
@@ -60,8 +62,7 @@ fn tokens_of_texts(rt: HostRuntime) -> Result<(), Fail> {
     ];
     for (text, wanted) in table {
         assert!(rt; text.len() <= 65536);
-        let tokens = lex(rt.alloc(), text)?;
-        let told = spelled(rt.alloc(), &tokens)?;
+        let told = spelled(rt.alloc(), text)?;
         assert_eq!(rt; told.as_str(), wanted);
     }
     Ok(())
@@ -290,6 +291,33 @@ fn ends(rt: HostRuntime) -> Result<(), Fail> {
     for (text, line, column) in table {
         assert!(rt; text.len() <= 65536);
         assert_eq!(rt; end_of(text), Pos { line, column });
+    }
+    Ok(())
+}
+
+/// How a fault is shown.
+fn shown(alloc: Global, text: &[u8]) -> Result<String, Fail>
+    requires { length text.now ≤ 65536 }
+{
+    let mut out = String::new(alloc);
+    if let Some(fault) = fault_of(alloc, text) {
+        write!(out, "{fault}")?;
+    }
+    Ok(out)
+}
+
+#[test]
+fn texts_of_faults(rt: HostRuntime) -> Result<(), Fail> {
+    let table: [(&[u8], &str); 4] = [
+        (b"x\n @", "2:2: bad byte"),
+        (b"x /*", "1:3: comment not closed"),
+        (b"9223372036854775808", "1:1: literal too wide"),
+        (b"x", ""),
+    ];
+    for (text, wanted) in table {
+        assert!(rt; text.len() <= 65536);
+        let told = shown(rt.alloc(), text)?;
+        assert_eq!(rt; told.as_str(), wanted);
     }
     Ok(())
 }

@@ -7,13 +7,14 @@ use Rattle.c_lexer.specs.declared.token.Token as the_token
 use Rattle.c_lexer.specs.declared.token.Place.{Place}
 use Rattle.c_lexer.specs.declared.token.LexError.{LexError}
 use Rattle.c_lexer.specs.declared.run.Base.{Base}
+use Rattle.c_lexer.specs.declared.scan.TheConstants.{MAX_BYTES}
 use Rattle.c_lexer.specs.declared.run.Base.TheVariants.{Decimal, Octal, Hexadecimal}
 use Rattle.c_lexer.specs.declared.run.Class.{Class}
 use Rattle.c_lexer.specs.declared.run.Class.TheVariants.{NameByte, OfLine, Indent, Digit}
 use Rattle.c_lexer.specs.declared.literal.Digits.{Digits}
 use Rattle.c_lexer.specs.declared.scan.Piece.{Piece}
 use Rattle.c_lexer.specs.declared.scan.Piece.TheVariants.{Gap, Token}
-use Rattle.c_lexer.specs.Lexing.{after, is_name_byte, is_of_line, is_indent, is_digit_in, Each, Ends, IsNumeral, keyword_text, mark_text, HasNoEnd, token_at, with_token, IsLexed}
+use Rattle.c_lexer.specs.Lexing.{after, is_name_byte, is_of_line, is_indent, is_digit_in, Each, RunEnds, IsNumeral, keyword_text, mark_text, HasNoEnd, token_at, with_token, IsLexed}
 
 -- the test of a class of bytes
 abbrev pub test_of : Class → ℕ → Bool
@@ -29,7 +30,7 @@ pub record IsRun (test : ℕ → Bool) (bytes : List ℕ) (len : ℕ) : Type 0 w
   pub size : length text ≡ len
   pub whole : bytes ≡ text ++ drop len bytes
   pub each : Each test text
-  pub ends : Ends test (drop len bytes)
+  pub ends : RunEnds test (drop len bytes)
 
 -- where a reserved word stands in the table: no two of them have one slot
 abbrev pub slot_of : List ℕ → ℕ
@@ -88,7 +89,7 @@ pub record IsDigitsAt (bytes : List ℕ) (n : Digits) : Type 0 where
   pub within : n.to ≤ length bytes
   pub whole : bytes ≡ front ++ (digits ++ drop n.to bytes)
   pub numeral : IsNumeral n.base front digits
-  pub ends : Ends (is_digit_in n.base) (drop n.to bytes)
+  pub ends : RunEnds (is_digit_in n.base) (drop n.to bytes)
   pub octal : n.base ≡ Octal → begins_hexadecimal bytes ≡ false
 
 -- the first `*/` of a text
@@ -101,7 +102,7 @@ pub record IsFirstEnd (text : List ℕ) (i : ℕ) : Type 0 where
 pub record HasRoom (p : Place) (n : ℕ) : Type 0 where
   pub line : p.at.line ≤ 1 + p.offset
   pub column : p.at.column ≤ 1 + p.offset
-  pub room : p.offset + n ≤ 65536
+  pub room : p.offset + n ≤ MAX_BYTES
 
 -- the bytes that a piece takes are some, and the rules go on behind them
 abbrev pub IsPiece : Place → List ℕ → Piece → Type 0

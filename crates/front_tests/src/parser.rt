@@ -1,9 +1,11 @@
-//! Answers to texts.
+//! Texts and what the parser answers.
 
-use crate::fault::ParseError;
-use crate::parse::parse;
 use c_lexer::scan::lex;
+use c_parser::fault::ParseError;
+use c_parser::parse::{one_tree, parse};
+use c_tree::tree::Pos;
 use std::alloc::Global;
+use std::fmt::Write;
 use std::test::Fail;
 
 /// How a text is answered: the number of its items, or its fault with the column.
@@ -35,8 +37,21 @@ fn repeated(alloc: Global, head: &str, part: &str, count: u32, tail: &str) -> Re
     Ok(text)
 }
 
+/// How a text of a repeated part is answered.
+fn told_of(
+    alloc: Global,
+    head: &str,
+    part: &str,
+    count: u32,
+    tail: &str,
+) -> Result<(&'static str, usize), Fail> {
+    let text = repeated(alloc, head, part, count, tail)?;
+    told(alloc, text.as_str())
+}
+
 #[test]
 fn texts(rt: HostRuntime) -> Result<(), Fail> {
+    one_tree();
     let cases = [
         ("", "items", 0usize),
         ("int main() { }", "items", 1),
@@ -89,10 +104,32 @@ fn limits(rt: HostRuntime) -> Result<(), Fail> {
         ("int f() { ", "if (1) ; else ", 64, "; }", "deep", 900),
     ];
     for (head, part, count, tail, answer, number) in cases {
-        let text = repeated(rt.alloc(), head, part, count, tail)?;
-        let got = told(rt.alloc(), text.as_str())?;
+        let got = told_of(rt.alloc(), head, part, count, tail)?;
         assert_eq!(rt; got.0, answer, "{head}");
         assert_eq!(rt; got.1, number, "{head}");
+    }
+    Ok(())
+}
+
+/// How a fault is shown.
+fn shown(alloc: Global, fault: ParseError) -> Result<String, Fail> {
+    let mut out = String::new(alloc);
+    write!(out, "{fault}")?;
+    Ok(out)
+}
+
+#[test]
+fn texts_of_faults(rt: HostRuntime) -> Result<(), Fail> {
+    let at = Pos { line: 3, column: 7 };
+    let table = [
+        (ParseError::Unexpected(at), "3:7: unexpected token"),
+        (ParseError::End(at), "3:7: unexpected end of file"),
+        (ParseError::TooDeep(at), "3:7: nested too deep"),
+        (ParseError::Memory, "out of memory"),
+    ];
+    for (fault, wanted) in table {
+        let told = shown(rt.alloc(), fault)?;
+        assert_eq!(rt; told.as_str(), wanted);
     }
     Ok(())
 }
