@@ -9,3 +9,4 @@ pub mod ParsingStatements
 pub mod Heads
 pub mod Found
 pub mod ParsingItems
+pub mod Faults

@@ -287,6 +287,24 @@ pub record ReadsStep (ts : List PureToken) (at : ℕ) (s : Option SimpleStatemen
 abbrev pub FailsStep : List PureToken → ℕ → Fault → Type 0
 FailsStep ts at x = (f : ForInit) (t : Option ExpressionTree) (fs : Frames) → Tells ts x (limited (drop at ts) (ForStep f t fs))
 
+pub record ReadsForHead (ts : List PureToken) (at : ℕ) (f : ForInit) (e : Option ExpressionTree) (s : Option SimpleStatement) (next : ℕ) : Type 0 where
+  pub later : at < next
+  pub within : next ≤ length ts
+  pub leads : (fs : Frames) → limited (drop at ts) (ForFirst fs) ≡ limited (drop next ts) (Start (ForBody f e s fs))
+
+-- the state behind the test of an `if`, behind its `else`, behind the body of a `do`, and behind the head of a `for`
+abbrev pub if_tested : ExpressionTree → Frames → State
+if_tested e fs = Start (Then e fs)
+
+abbrev pub else_read : ExpressionTree → StatementTree → Frames → State
+else_read e s fs = Start (Otherwise e s fs)
+
+abbrev pub do_read : StatementTree → Frames → State
+do_read s fs = Done s (Doing fs)
+
+abbrev pub for_headed : ForInit → Option ExpressionTree → Option SimpleStatement → Frames → State
+for_headed f e s fs = Start (ForBody f e s fs)
+
 -- a part of a statement that needs no nesting
 pub record ReadsTail (ts : List PureToken) (at : ℕ) (from : Frames → State) (s : StatementTree) (next : ℕ) : Type 0 where
   pub later : at < next

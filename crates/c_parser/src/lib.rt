@@ -4,6 +4,7 @@
 mod expressions;
 pub mod fault;
 mod file;
+mod for_head;
 mod found;
 mod head;
 mod items;
@@ -16,5 +17,3 @@ mod procedures;
 mod simple;
 mod source;
 mod statements;
-#[cfg(test)]
-mod tests;

@@ -60,53 +60,84 @@ pub fn binary(
     Ok(ExprTree::Binary(op, at, left, right))
 }
 
-pub fn block(inner: Vec<StmtTree>) -> StmtTree
-    ensures { statement_tree_of result ≡ tree.block (statement_trees_of inner.items) }
+/// A statement on the heap.
+fn boxed(alloc: Global, statement: StmtTree) -> Result<Box<StmtTree>, AllocError>
+    ensures { IfOk result (λ b. b.value ≡ statement) }
 {
-    StmtTree::Block(inner)
+    Ok(Box::new(alloc, statement)?)
 }
 
-pub fn simple(inner: SimpleTree) -> StmtTree
-    ensures { statement_tree_of result ≡ tree.simple (simple_of inner) }
+pub fn empty(alloc: Global) -> Result<Box<StmtTree>, AllocError>
+    ensures { IfOk result (λ b. statement_tree_of b.value ≡ tree.empty) }
 {
-    StmtTree::Simple(inner)
+    let made = boxed(alloc, StmtTree::Empty)?;
+    Ok(made)
 }
 
-pub fn declare(declared: Vec<Declared>) -> StmtTree
-    ensures { statement_tree_of result ≡ tree.declare (map declarator_of declared.items) }
+pub fn block(alloc: Global, inner: Vec<StmtTree>) -> Result<Box<StmtTree>, AllocError>
+    ensures { IfOk result (λ b. statement_tree_of b.value ≡ tree.block (statement_trees_of inner.items)) }
 {
-    StmtTree::Declare(declared)
+    let made = boxed(alloc, StmtTree::Block(inner))?;
+    Ok(made)
 }
 
-pub fn if_then(alloc: Global, test: ExprTree, then: StmtTree) -> Result<StmtTree, AllocError>
-    ensures { IfOk result (λ s. statement_tree_of s ≡ tree.if_then (tree_of test) (statement_tree_of then)) }
+pub fn simple(alloc: Global, inner: SimpleTree) -> Result<Box<StmtTree>, AllocError>
+    ensures { IfOk result (λ b. statement_tree_of b.value ≡ tree.simple (simple_of inner)) }
 {
-    Ok(StmtTree::If(test, Box::new(alloc, then)?, None))
+    let made = boxed(alloc, StmtTree::Simple(inner))?;
+    Ok(made)
+}
+
+pub fn declare(alloc: Global, declared: Vec<Declared>) -> Result<Box<StmtTree>, AllocError>
+    ensures { IfOk result (λ b. statement_tree_of b.value ≡ tree.declare (map declarator_of declared.items)) }
+{
+    let made = boxed(alloc, StmtTree::Declare(declared))?;
+    Ok(made)
+}
+
+pub fn if_then(
+    alloc: Global,
+    test: ExprTree,
+    then: Box<StmtTree>,
+) -> Result<Box<StmtTree>, AllocError>
+    ensures { IfOk result (λ b. statement_tree_of b.value ≡ tree.if_then (tree_of test) (statement_tree_of then.value)) }
+{
+    let made = boxed(alloc, StmtTree::If(test, then, None))?;
+    Ok(made)
 }
 
 pub fn if_else(
     alloc: Global,
     test: ExprTree,
-    then: StmtTree,
-    other: StmtTree,
-) -> Result<StmtTree, AllocError>
-    ensures { IfOk result (λ s. statement_tree_of s ≡ tree.if_else (tree_of test) (statement_tree_of then) (statement_tree_of other)) }
+    then: Box<StmtTree>,
+    other: Box<StmtTree>,
+) -> Result<Box<StmtTree>, AllocError>
+    ensures { IfOk result (λ b. statement_tree_of b.value ≡ tree.if_else (tree_of test) (statement_tree_of then.value) (statement_tree_of other.value)) }
 {
-    let then = Box::new(alloc, then)?;
-    let other = Box::new(alloc, other)?;
-    Ok(StmtTree::If(test, then, Some(other)))
+    let made = boxed(alloc, StmtTree::If(test, then, Some(other)))?;
+    Ok(made)
 }
 
-pub fn while_loop(alloc: Global, test: ExprTree, body: StmtTree) -> Result<StmtTree, AllocError>
-    ensures { IfOk result (λ s. statement_tree_of s ≡ tree.while_loop (tree_of test) (statement_tree_of body)) }
+pub fn while_loop(
+    alloc: Global,
+    test: ExprTree,
+    body: Box<StmtTree>,
+) -> Result<Box<StmtTree>, AllocError>
+    ensures { IfOk result (λ b. statement_tree_of b.value ≡ tree.while_loop (tree_of test) (statement_tree_of body.value)) }
 {
-    Ok(StmtTree::While(test, Box::new(alloc, body)?))
+    let made = boxed(alloc, StmtTree::While(test, body))?;
+    Ok(made)
 }
 
-pub fn do_while(alloc: Global, body: StmtTree, test: ExprTree) -> Result<StmtTree, AllocError>
-    ensures { IfOk result (λ s. statement_tree_of s ≡ tree.do_while (statement_tree_of body) (tree_of test)) }
+pub fn do_while(
+    alloc: Global,
+    body: Box<StmtTree>,
+    test: ExprTree,
+) -> Result<Box<StmtTree>, AllocError>
+    ensures { IfOk result (λ b. statement_tree_of b.value ≡ tree.do_while (statement_tree_of body.value) (tree_of test)) }
 {
-    Ok(StmtTree::DoWhile(Box::new(alloc, body)?, test))
+    let made = boxed(alloc, StmtTree::DoWhile(body, test))?;
+    Ok(made)
 }
 
 pub fn for_loop(
@@ -114,21 +145,41 @@ pub fn for_loop(
     first: ForFirst,
     test: Option<ExprTree>,
     step: Option<SimpleTree>,
-    body: StmtTree,
-) -> Result<StmtTree, AllocError>
-    ensures { IfOk result (λ s. statement_tree_of s ≡ tree.for_loop (init_of first) (optional_tree test) (optional_simple step) (statement_tree_of body)) }
+    body: Box<StmtTree>,
+) -> Result<Box<StmtTree>, AllocError>
+    ensures { IfOk result (λ b. statement_tree_of b.value ≡ tree.for_loop (init_of first) (optional_tree test) (optional_simple step) (statement_tree_of body.value)) }
 {
-    let body = Box::new(alloc, body)?;
-    Ok(StmtTree::For {
+    let whole = StmtTree::For {
         first,
         test,
         step,
         body,
-    })
+    };
+    let made = boxed(alloc, whole)?;
+    Ok(made)
 }
 
-pub fn returned(at: Pos, value: Option<ExprTree>) -> StmtTree
-    ensures { statement_tree_of result ≡ tree.return at (optional_tree value) }
+pub fn broken(alloc: Global, at: Pos) -> Result<Box<StmtTree>, AllocError>
+    ensures { IfOk result (λ b. statement_tree_of b.value ≡ tree.break at) }
 {
-    StmtTree::Return(at, value)
+    let made = boxed(alloc, StmtTree::Break(at))?;
+    Ok(made)
+}
+
+pub fn continued(alloc: Global, at: Pos) -> Result<Box<StmtTree>, AllocError>
+    ensures { IfOk result (λ b. statement_tree_of b.value ≡ tree.continue at) }
+{
+    let made = boxed(alloc, StmtTree::Continue(at))?;
+    Ok(made)
+}
+
+pub fn returned(
+    alloc: Global,
+    at: Pos,
+    value: Option<ExprTree>,
+) -> Result<Box<StmtTree>, AllocError>
+    ensures { IfOk result (λ b. statement_tree_of b.value ≡ tree.return at (optional_tree value)) }
+{
+    let made = boxed(alloc, StmtTree::Return(at, value))?;
+    Ok(made)
 }

@@ -21,26 +21,14 @@ block-returns-clause-ok t c =
     record {
       later = omega (arith, r.later);
       within = omega (arith, r.closes.within);
-      leads = λ fs q. r.leads (inner fs) q ∙ block_end ts c.in_ok-inner.end ss fs r.closes ∙ ap (λ x. limited (drop (c.in_ok-inner.end + 1) ts) (Done x fs)) (sym c.block.ensures);
-      ends = ap takes_else c.block.ensures;
+      leads = λ fs q. r.leads (inner fs) q ∙ block_end ts c.in_ok-inner.end ss fs r.closes ∙ ap (λ x. limited (drop (c.in_ok-inner.end + 1) ts) (Done x fs)) (sym c.in_ok-whole.ensures);
+      ends = ap takes_else c.in_ok-whole.ensures;
     }
 
 pub block-returns-in_err-inner-clause-err : goal.block-returns-in_err-inner-clause-err
 block-returns-in_err-inner-clause-err t c =
     let p = err_from_is_err_and c.from_residual.result c.from_residual.ensures.1 in
     rw (p.1, p.2) (λ fs q. c.in_err-inner.ensures.err (inner fs) q)
-
-pub do_statement-returns-in_err-next-clause-err : goal.do_statement-returns-in_err-next-clause-err
-do_statement-returns-in_err-next-clause-err t c =
-    let ts = text_of c.args.source.now in
-    let b = c.in_ok-body.ensures.ok in
-    let w = c.in_ok-open.ensures.ok in
-    let e = c.in_ok-condition.ensures.ok in
-    let s = statement_tree_of c.in_ok-body.body in
-    let p = err_from_is_err_and c.from_residual-in_err-next.result c.from_residual-in_err-next.ensures.1 in
-    rw (p.1, p.2) (λ fs q. subst (λ o. Tells ts c.in_err-next.field-0.0 o)
-    (sym (b.leads (Doing fs) (ap (λ n. n + 1) q) ∙ do_turn ts c.in_ok-body.after c.in_ok-open.open s fs w ∙ e.leads (DoTest s) fs))
-    (ending_misses ts c.in_ok-condition.end c.in_err-next.field-0.0 (tree.do_while s (tree_of c.in_ok-condition.condition)) fs c.in_err-next.ensures.err))
 
 pub item-returns-in_err-declared-clause-err : goal.item-returns-in_err-declared-clause-err
 item-returns-in_err-declared-clause-err t c =
@@ -58,7 +46,7 @@ item-returns-in-Some-clause-ok t c =
       within = d.within;
       leads = λ r ss q. declaration_turn ts c.args.at c.in-Some.after r ss h ∙ d.leads (InBlock (room r ss))
           ∙ declaration_end (drop c.in_ok-declared.next ts) r ss (map declarator_of c.in_ok-declared.declared.items)
-          ∙ ap (λ x. limited (drop c.in_ok-declared.next ts) (Start (room r (also_statement ss x)))) (sym c.declare.ensures);
+          ∙ ap (λ x. limited (drop c.in_ok-declared.next ts) (Start (room r (also_statement ss x)))) (sym c.in_ok-whole.ensures);
     }
 
 pub items-items-preserved : goal.items-items-preserved
@@ -69,7 +57,7 @@ items-items-preserved t c =
     record {
       later = omega (arith, i.later, h.later);
       leads = λ r q. i.leads r q ∙ h.leads r (statement_trees_of c.items.inner.items) q
-          ∙ ap (λ ss. limited (drop c.in_ok-one.after ts) (Start (room r ss))) (sym (ap statement_trees_of c.in_ok-push.ensures.items ∙ statements_of-push c.items.inner.items c.in_ok-one.one));
+          ∙ ap (λ ss. limited (drop c.in_ok-one.after ts) (Start (room r ss))) (sym (ap statement_trees_of c.in_ok-push.ensures.items ∙ statements_of-push c.items.inner.items c.into_inner.result ∙ ap (λ s. also_statement (statement_trees_of c.items.inner.items) (statement_tree_of s)) c.into_inner.ensures));
     }
 
 pub statement-returns-clause-ok : goal.statement-returns-clause-ok
@@ -77,8 +65,8 @@ statement-returns-clause-ok t c =
     let ts = text_of c.args.source.now in
     let x = pure_token c.args.source.now.bytes.now c.in-Some.token in
     let o = c.in-Some-opening_of.opening in
-    if_ok (λ r. ReadsOpened ts c.args.at c.args.nesting x o (statement_tree_of r.0) r.1) (λ r. ReadsStatement ts c.args.at c.args.nesting (statement_tree_of r.0) r.1) c.opened.result
-    (λ r h. statement_reads ts c.args.at c.args.nesting x o (statement_tree_of r.0) r.1 c.in-Some.ensures.some (sym c.opening_of.ensures ∙ c.in-Some-opening_of.is) (sym c.is_deep.ensures ∙ c.if-is_deep.false) h)
+    if_ok (λ r. ReadsOpened ts c.args.at c.args.nesting x o (statement_tree_of r.0.value) r.1) (λ r. ReadsStatement ts c.args.at c.args.nesting (statement_tree_of r.0.value) r.1) c.opened.result
+    (λ r h. statement_reads ts c.args.at c.args.nesting x o (statement_tree_of r.0.value) r.1 c.in-Some.ensures.some (sym c.opening_of.ensures ∙ c.in-Some-opening_of.is) (sym c.is_deep.ensures ∙ c.if-is_deep.false) h)
     c.opened.ensures.ok
 
 pub statement-returns-clause-err : goal.statement-returns-clause-err
@@ -94,8 +82,8 @@ pub opened-returns-in-Simple-clause-ok : goal.opened-returns-in-Simple-clause-ok
 opened-returns-in-Simple-clause-ok t c =
     let ts = text_of c.args.source.now in
     let x = pure_token c.args.source.now.bytes.now c.args.token in
-    if_ok (λ r. ReadsAlone ts c.args.at x (statement_tree_of r.0) r.1) (λ r. ReadsOpened ts c.args.at c.args.nesting x c.args.opening (statement_tree_of r.0) r.1) c.simple_statement.result
-    (λ r h. subst (λ o. ReadsOpened ts c.args.at c.args.nesting x o (statement_tree_of r.0) r.1) (sym c.in-Simple.is) record {
+    if_ok (λ r. ReadsAlone ts c.args.at x (statement_tree_of r.0.value) r.1) (λ r. ReadsOpened ts c.args.at c.args.nesting x c.args.opening (statement_tree_of r.0.value) r.1) c.simple_statement.result
+    (λ r h. subst (λ o. ReadsOpened ts c.args.at c.args.nesting x o (statement_tree_of r.0.value) r.1) (sym c.in-Simple.is) record {
       later = h.later;
       within = h.within;
       leads = λ fs q. h.leads fs;

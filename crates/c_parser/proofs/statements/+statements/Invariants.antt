@@ -17,6 +17,12 @@ decreases-block l = 5 * (length l.source.now.tokens.now - l.at) + 4
 abbrev pub decreases-if_statement : goal.decreases-if_statement
 decreases-if_statement l = 5 * (length l.source.now.tokens.now - l.at)
 
+abbrev pub decreases-then_part : goal.decreases-then_part
+decreases-then_part l = 5 * (length l.source.now.tokens.now - l.at) + 2
+
+abbrev pub decreases-else_part : goal.decreases-else_part
+decreases-else_part l = 5 * (length l.source.now.tokens.now - l.at) + 2
+
 abbrev pub decreases-while_statement : goal.decreases-while_statement
 decreases-while_statement l = 5 * (length l.source.now.tokens.now - l.at)
 
@@ -25,6 +31,9 @@ decreases-do_statement l = 5 * (length l.source.now.tokens.now - l.at) + 2
 
 abbrev pub decreases-for_statement : goal.decreases-for_statement
 decreases-for_statement l = 5 * (length l.source.now.tokens.now - l.at)
+
+abbrev pub decreases-for_body : goal.decreases-for_body
+decreases-for_body l = 5 * (length l.source.now.tokens.now - l.at) + 2
 
 abbrev pub decreases-item : goal.decreases-item
 decreases-item l = 5 * (length l.source.now.tokens.now - l.at) + 2

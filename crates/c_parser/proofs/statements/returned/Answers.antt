@@ -19,13 +19,13 @@ returns-clause-ok c =
       later = r.later;
       within = r.within;
       leads = λ fs. limited-returned (drop c.args.at ts) c.args.place fs c.if-is_mark.ensures.no ∙ r.leads (Returning c.args.place fs) (Done s fs) (λ n. refl)
-          ∙ ap (λ x. limited (drop c.in_ok-value.next ts) (Done x fs)) (sym c.returned-2.ensures);
-      ends = ap takes_else c.returned-2.ensures;
+          ∙ ap (λ x. limited (drop c.in_ok-value.next ts) (Done x fs)) (sym c.in_ok-whole.ensures);
+      ends = ap takes_else c.in_ok-whole.ensures;
     }
 
 pub returns-in_err-value-clause-err : goal.returns-in_err-value-clause-err
 returns-in_err-value-clause-err c =
     let ts = text_of c.args.source.now in
-    let p = err_from_is_err_and c.from_residual.result c.from_residual.ensures.1 in
+    let p = err_from_is_err_and c.from_residual-in_err-value.result c.from_residual-in_err-value.ensures.1 in
     rw (p.1, p.2) (λ fs. subst (λ o. Tells ts c.in_err-value.field-0.0 o) (sym (limited-returned (drop c.args.at ts) c.args.place fs c.if-is_mark.ensures.no))
     (c.in_err-value.ensures.err (Returning c.args.place fs) (ends_returning c.args.place fs)))

@@ -18,8 +18,8 @@ returns-clause-ok c t stands =
       later = omega (arith, r.later, q.later);
       within = omega (arith, q.later, q.within);
       leads = λ fs. alone_turn ts c.args.at t fs stands ∙ r.leads (Alone fs) ∙ simple_ends ts c.in_ok-inner.end c.in_ok-next.next (simple_of c.in_ok-inner.inner) (Alone fs) q
-          ∙ ap (λ x. limited (drop c.in_ok-next.next ts) (Done x fs)) (sym c.simple-2.ensures);
-      ends = ap takes_else c.simple-2.ensures;
+          ∙ ap (λ x. limited (drop c.in_ok-next.next ts) (Done x fs)) (sym c.in_ok-whole.ensures);
+      ends = ap takes_else c.in_ok-whole.ensures;
     }
 
 pub returns-in_err-inner-clause-err : goal.returns-in_err-inner-clause-err

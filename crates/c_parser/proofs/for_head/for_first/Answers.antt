@@ -8,7 +8,7 @@ use Rattle.c_parser.specs.Grammar.{takes_else}
 use Rattle.c_parser.specs.Machine.{Returning, ForTesting, ForTest, ForStep, ForBody, Start, Done, Doing, DoTest, First, Step, Alone, InFor, InBlock, Within, Room, room, inner, also_statement, limited}
 use Rattle.c_parser.specs.Parsing.{text_of, Tells}
 use Rattle.c_parser.proofs.StepsStatements.{limited-returned, limited-for_test, ends_returning, ends_for_testing, simple_first, simple_step, simple_ends, simple_misses, first_turn, alone_turn, ending_misses, do_turn, block_end, declaration_turn, declaration_end, statements_of-push, opened_turn, opened_deep, not_opened}
-use Rattle.c_parser.proofs.statements.for_first.Goals as goal
+use Rattle.c_parser.proofs.for_head.for_first.Goals as goal
 
 pub returns-in-Some-clause-ok : goal.returns-in-Some-clause-ok
 returns-in-Some-clause-ok c =
