@@ -7,7 +7,7 @@ use Rattle.std.proofs.lemmas.Bool.{ltb-true, leb-true}
 use Rattle.std.proofs.lemmas.Bool.Decides.{Decides-eqb, Decides-not}
 use Rattle.flow_graph.specs.declared.graph.Edge.{Edge}
 use Rattle.flow_graph.specs.Shapes.{source, target, is_entry, is_assert, is_return, leads}
-use Rattle.flow_graph.specs.WellFormed.{IsEdge, IsGraph, has_slots, is_entry_of, first_node, max_slots}
+use Rattle.flow_graph.specs.WellFormed.{IsEdge, IsGraph, has_slots, has_terms, is_entry_of, first_node, max_slots}
 
 abbrev pub are_same : Bool → Bool → Bool
 are_same true b = b
@@ -63,18 +63,20 @@ module _ (nodes exit fail params slots : ℕ) where
   has_ends e = are_same (is_return e) (target e == exit) && are_same (is_assert e) (target e == fail)
 
   abbrev pub is_edge : Edge → Bool
-  is_edge e = may_leave (source e) && (nat_lt (target e) nodes && (has_slots slots e && has_ends e))
+  is_edge e = may_leave (source e) && (nat_lt (target e) nodes && (has_slots slots e && (has_terms e && has_ends e)))
 
   edge_by_test : (e : Edge) → IsTrue (is_edge e) → IsEdge nodes exit fail slots e
   edge_by_test e h =
-      let t = both (may_leave (source e)) (nat_lt (target e) nodes && (has_slots slots e && has_ends e)) h in
-      let u = both (nat_lt (target e) nodes) (has_slots slots e && has_ends e) t.1 in
-      let w = both (has_slots slots e) (has_ends e) u.1 in
-      let z = both (are_same (is_return e) (target e == exit)) (are_same (is_assert e) (target e == fail)) w.1 in
+      let t = both (may_leave (source e)) (nat_lt (target e) nodes && (has_slots slots e && (has_terms e && has_ends e))) h in
+      let u = both (nat_lt (target e) nodes) (has_slots slots e && (has_terms e && has_ends e)) t.1 in
+      let w = both (has_slots slots e) (has_terms e && has_ends e) u.1 in
+      let r = both (has_terms e) (has_ends e) w.1 in
+      let z = both (are_same (is_return e) (target e == exit)) (are_same (is_assert e) (target e == fail)) r.1 in
       record {
         leaves = leaving (source e) t.0;
         in_range = ltb-true (target e) nodes u.0;
         slots_named = w.0;
+        terms = r.0;
         to_exit = same (is_return e) (target e == exit) z.0;
         to_fail = same (is_assert e) (target e == fail) z.1;
       }

@@ -1,6 +1,6 @@
 -- The runs of graphs.
 use Rattle.std.specs.Prelude.{◌≡◌, ℕ, zero, suc, List, [], ◌∷◌, map, Option, Some, None, ℤ, pos, ◌+ℤ◌, ◌*ℤ◌, get_or, slice_get, IsTrue, false}
-use Rattle.c_tree.specs.Meaning.{State, with_slot, entered, is_value}
+use Rattle.c_tree.specs.Meaning.{State, with_slot, entered, is_value, Outcome, Returned, Stopped, Failed}
 use Rattle.linear_formula.specs.Formula.{HoldsAll}
 use Rattle.flow_graph.specs.declared.graph.Edge.{Edge}
 use Rattle.flow_graph.specs.declared.graph.Edge.TheVariants.{Entry, Assign, Guard, Input, Pick, Call, Assert, Return}
@@ -21,6 +21,12 @@ pub data End : Type 0 where
   came : List ℤ → End
   stopped : End
   failed : ℕ → End
+
+-- the end of a graph's run where the run of the program comes out so
+abbrev pub end_of : Outcome → End
+end_of (Returned v) = came (v ∷ [])
+end_of Stopped = stopped
+end_of (Failed id) = failed id
 
 -- where a frame stands: at an inner node, at the exit, at `fail`, or at a call whose run is stopped
 pub data Place : Type 0 where

@@ -1,14 +1,16 @@
 -- What graphs keep.
-use Rattle.std.specs.Prelude.{◌≡◌, ◌≢◌, ℕ, ◌<◌, ◌≤◌, nat_lt, nat_le, ◌==◌, Bool, false, ◌&&◌, IsTrue, List, [], ◌∷◌, length, Some, Option, slice_get}
+use Rattle.std.specs.Prelude.{◌≡◌, ◌≢◌, ℕ, ◌<◌, ◌≤◌, nat_lt, nat_le, ◌==◌, Bool, true, false, ◌&&◌, IsTrue, List, [], ◌∷◌, length, Some, Option, slice_get}
 use Rattle.std.specs.List.{list_all}
 use Rattle.linear_formula.specs.declared.formula.Atom.{Atom}
+use Rattle.linear_formula.specs.Formula.{are_terms}
+use Rattle.flow_graph.specs.declared.columns.TheConstants.{MAX_SLOTS}
 use Rattle.flow_graph.specs.declared.graph.Lin.{Lin}
 use Rattle.flow_graph.specs.declared.graph.Edge.{Edge}
 use Rattle.flow_graph.specs.declared.graph.Edge.TheVariants.{Entry, Assign, Guard, Input, Pick, Call, Assert, Return}
 use Rattle.flow_graph.specs.Shapes.{source, target, is_entry, is_assert, is_return, leads}
 
 abbrev pub max_slots : ℕ
-max_slots = 10000
+max_slots = MAX_SLOTS
 
 -- the row names slots alone
 abbrev pub names_slots : (slots : ℕ) → Atom → Bool
@@ -29,11 +31,19 @@ has_slots slots (Call from to proc args slot) = nat_lt slot slots && list_all (�
 has_slots slots (Assert from to id rows) = list_all (names_slots slots) rows.atoms
 has_slots slots (Return from to slot) = nat_lt slot slots
 
+-- the rows of an edge are terms
+abbrev pub has_terms : Edge → Bool
+has_terms (Guard from to rows) = are_terms rows.atoms
+has_terms (Pick from to slot rows) = are_terms rows.atoms
+has_terms (Assert from to id rows) = are_terms rows.atoms
+has_terms _ = true
+
 -- nothing leaves the exit and `fail`; a return leads to the exit and nothing else does, and of edges an assertion to `fail`
 pub record IsEdge (nodes exit fail slots : ℕ) (e : Edge) : Type 0 where
   pub leaves : (n : ℕ) → source e ≡ Some n → (n < nodes) × (n ≢ exit) × (n ≢ fail)
   pub in_range : target e < nodes
   pub slots_named : IsTrue (has_slots slots e)
+  pub terms : IsTrue (has_terms e)
   pub to_exit : is_return e ≡ (target e == exit)
   pub to_fail : is_assert e ≡ (target e == fail)
 

@@ -4,7 +4,7 @@ ghost use Rattle.std.specs.Prelude.{◌≡◌, IfOk};
 ghost use Rattle.flow_graph.specs.Sample.{rows_of, value_of_slots, caller_of, callee_of};
 
 use crate::graph::{Edge, Edges, Graph, Lin, LinParts, Slots};
-use crate::graphs::Graphs;
+use crate::graphs::{GraphList, Graphs};
 use c_tree::tree::Slot;
 use linear_formula::formula::{Atom, Atoms, Cube};
 use linear_formula::term::{Parts, Term};
@@ -214,7 +214,7 @@ fn numbers(graph: &Graph) -> [u32; 5] {
 #[test]
 fn reads_the_graphs_back(rt: HostRuntime) -> Result<(), Fail> {
     let alloc = rt.alloc();
-    let graphs = Graphs::new(vec![in alloc; caller(alloc)?, callee(alloc)?]?);
+    let graphs = Graphs::new(GraphList::from_vec(vec![in alloc; caller(alloc)?, callee(alloc)?]?));
     let [first, second] = graphs.graphs.as_slice() else {
         return Err(Fail::from("not two graphs"));
     };
