@@ -6,10 +6,9 @@ use Rattle.c_tree.specs.Meaning.{World, Progress, goes, ends, stopped as source_
 use Rattle.flow_graph.specs.declared.graph.Edge.{Edge}
 use Rattle.flow_graph.specs.declared.graph.Edge.TheVariants.{Entry}
 use Rattle.flow_graph.specs.declared.graph.Graph.{Graph}
-use Rattle.flow_graph.specs.Runs.{End, came, inside, Called, EndsIn, EntersGraph, GraphRun, GraphRuns}
+use Rattle.flow_graph.specs.Runs.{End, came, inside, Called, EndsIn, EntersGraph, GraphRun, GraphRuns, end_of}
 use Rattle.flow_build.specs.Blocks.{end_node, entry_node, body_node, first_free}
 use Rattle.flow_build.specs.Procedures.{procedure_blocks, procedure_edges, IsGraphOf, AreGraphsOf}
-use Rattle.flow_build.specs.Outcomes.{end_of}
 use Rattle.flow_build.proofs.Translated.{AllPlain}
 use Rattle.flow_build.proofs.Outgoing.{At}
 use Rattle.flow_build.proofs.Slots.{IsArguments, HasValues, Matches}

@@ -7,7 +7,7 @@ use Rattle.c_tree.specs.WellFormed.{statements_nodes}
 use Rattle.flow_graph.specs.declared.graph.Edge.{Edge}
 use Rattle.flow_graph.specs.declared.graph.Edge.TheVariants.{Entry}
 use Rattle.flow_graph.specs.declared.graph.Graph.{Graph}
-use Rattle.flow_graph.specs.WellFormed.{IsEdge, IsGraph}
+use Rattle.flow_graph.specs.WellFormed.{IsEdge, IsGraph, max_slots}
 use Rattle.flow_build.specs.Operands.{constant_lin}
 use Rattle.flow_build.specs.Blocks.{edges_of, exit_node, fail_node, end_node, return_node, entry_node, body_node, first_free}
 use Rattle.flow_build.specs.Procedures.{procedure_blocks, procedure_edges, nodes_of_procedure, slots_of_procedure, IsGraphOf, AreGraphsOf}
@@ -59,12 +59,12 @@ module _ (p : PureProcedure) (plain : AllPlain p.slots p.body) where
         ),
       )
 
-  edges_kept : p.params ≤ p.slots → (i : ℕ) (e : Edge) → slice_get (procedure_edges p) i ≡ Some e → IsEdge N exit_node fail_node S e
-  edges_kept few zero e h =
+  edges_kept : p.params ≤ p.slots → S ≤ max_slots → (i : ℕ) (e : Edge) → slice_get (procedure_edges p) i ≡ Some e → IsEdge N exit_node fail_node S e
+  edges_kept params few zero e h =
       let q : Entry entry_node p.params ≡ e = cc in
       let E : Edge → Type 0 = λ x. IsEdge N exit_node fail_node S x in
-      subst E q (record { leaves = λ n s. absurd cc; in_range = omega arith; slots_named = le-leb p.params S (omega arith); to_exit = refl; to_fail = refl })
-  edges_kept few (suc i) e h = fine_edge p.body N S e (fine_at p.body N S (edges_of (procedure_blocks p)) i e procedure_fine h)
+      subst E q (record { leaves = λ n s. absurd cc; in_range = omega arith; slots_named = le-leb p.params S (omega arith); terms = refl; to_exit = refl; to_fail = refl })
+  edges_kept params few (suc i) e h = fine_edge p.body N S few e (fine_at p.body N S (edges_of (procedure_blocks p)) i e procedure_fine h)
 
   later : (i : ℕ) (e : Edge) → 0 < i → slice_get (procedure_edges p) i ≡ Some e → Fine p.body N S e
   later zero e lt h = absurd (omega arith)
@@ -80,7 +80,7 @@ module _ (p : PureProcedure) (plain : AllPlain p.slots p.body) where
         two_ends = λ q. omega arith;
         params_in_slots = omega arith;
         few_slots = omega (arith, s);
-        are_edges = edges_kept params;
+        are_edges = edges_kept params (omega (arith, s));
         begins = eq-eqb p.params p.params refl;
         one_entry = λ i e lt h. (later i e lt h).inner;
         alone = λ i e lt h. (later i e lt h).apart;

@@ -9,12 +9,13 @@ use Rattle.c_tree.specs.declared.tree.Op.{Op}
 use Rattle.c_tree.specs.declared.tree.Op.TheVariants.{Add, Subtract, Multiply, Less, LessEqual, Greater, GreaterEqual, Equal, Unequal, And, Or}
 use Rattle.c_tree.specs.Meaning.{is_value}
 use Rattle.c_tree.specs.Syntax.{Statements}
+use Rattle.linear_formula.specs.LinearSum.{is_ascending}
 use Rattle.linear_formula.specs.declared.formula.Atom.{Atom}
 use Rattle.flow_graph.specs.declared.graph.Lin.{Lin}
 use Rattle.flow_graph.specs.declared.graph.Edge.{Edge}
-use Rattle.flow_graph.specs.declared.graph.Edge.TheVariants.{Assign, Guard, Input, Call, Assert, Return}
+use Rattle.flow_graph.specs.declared.graph.Edge.TheVariants.{Entry, Assign, Guard, Input, Pick, Call, Assert, Return}
 use Rattle.flow_graph.specs.Shapes.{source, target, is_entry, is_assert, is_return, leads}
-use Rattle.flow_graph.specs.WellFormed.{names_slots, is_lin, has_slots, IsEdge}
+use Rattle.flow_graph.specs.WellFormed.{names_slots, is_lin, has_slots, has_terms, max_slots, IsEdge}
 use Rattle.flow_build.specs.declared.operand.Operand.{Operand}
 use Rattle.flow_build.specs.declared.operand.Operand.TheVariants.{Variable, Constant}
 use Rattle.flow_build.specs.declared.target.Target.{Target}
@@ -23,6 +24,12 @@ use Rattle.flow_build.specs.Operands.{is_operand, multiple_parts, constant_lin, 
 use Rattle.flow_build.specs.Blocks.{exit_node, fail_node, entry_node, way, ways}
 use Rattle.flow_build.specs.Promises.{IsCoefficient, IsBoundedEdge, is_small_row, are_small_rows, statements_call}
 use Rattle.flow_build.proofs.SmallRows.{and_is, row_small}
+use Rattle.flow_build.proofs.Terms.{are_ascending, row_ascends, rows_terms}
+
+abbrev pub has_ordered_rows : Edge → Bool
+has_ordered_rows (Guard from to rows) = are_ascending rows.atoms
+has_ordered_rows (Assert from to id rows) = are_ascending rows.atoms
+has_ordered_rows _ = true
 
 -- In a procedure of this body, whose graph has so many nodes and slots:
 module _ (body : Statements) (nodes slots : ℕ) where
@@ -36,12 +43,25 @@ module _ (body : Statements) (nodes slots : ℕ) where
     pub inner : is_entry e ≡ false
     pub apart : leads fail_node e entry_node ≡ false
     pub bounded : IsBoundedEdge body e
+    pub ordered : IsTrue (has_ordered_rows e)
 
-  pub fine_edge : (e : Edge) → Fine e → IsEdge nodes exit_node fail_node slots e
-  fine_edge e f = record {
+  -- small rows in order are terms
+  edge_terms : slots ≤ max_slots → (e : Edge) → Fine e → IsTrue (has_terms e)
+  edge_terms few (Entry to params) f = refl
+  edge_terms few (Assign from to slot value) f = refl
+  edge_terms few (Guard from to rows) f = rows_terms slots few rows.atoms f.named f.bounded f.ordered
+  edge_terms few (Input from to slot) f = refl
+  edge_terms few (Pick from to slot rows) f = absurd f.bounded
+  edge_terms few (Call from to proc args slot) f = refl
+  edge_terms few (Assert from to id rows) f = rows_terms slots few rows.atoms f.named f.bounded f.ordered
+  edge_terms few (Return from to slot) f = refl
+
+  pub fine_edge : slots ≤ max_slots → (e : Edge) → Fine e → IsEdge nodes exit_node fail_node slots e
+  fine_edge few e f = record {
     leaves = λ n h. ((f.leaves n h).0, (λ q. two (f.leaves n h).1 q), (λ q. one (f.leaves n h).1 q));
     in_range = f.below;
     slots_named = f.named;
+    terms = edge_terms few e f;
     to_exit = f.to_exit;
     to_fail = f.to_fail;
   }
@@ -99,15 +119,17 @@ module _ (body : Statements) (nodes slots : ℕ) where
     inner = refl;
     apart = no_entry to t;
     bounded = v.coefficients;
+    ordered = refl;
   }
 
   -- rows that a guard may have
   pub record AreRows (rows : List Atom) : Type 0 where
     pub named : IsTrue (list_all (names_slots slots) rows)
     pub small : IsTrue (are_small_rows rows)
+    pub ascending : IsTrue (are_ascending rows)
 
   pub no_rows : AreRows []
-  no_rows = record { named = refl; small = refl }
+  no_rows = record { named = refl; small = refl; ascending = refl }
 
   pub guard_fine : (n to : ℕ) (rows : List Atom) → IsSource n → IsInner to → AreRows rows → Fine (Guard n to (record { atoms = rows }))
   guard_fine n to rows s t r = record {
@@ -119,6 +141,7 @@ module _ (body : Statements) (nodes slots : ℕ) where
     inner = refl;
     apart = no_entry to t;
     bounded = r.small;
+    ordered = r.ascending;
   }
 
   pub input_fine : (n to slot : ℕ) → IsSource n → IsInner to → slot < slots → Fine (Input n to slot)
@@ -131,6 +154,7 @@ module _ (body : Statements) (nodes slots : ℕ) where
     inner = refl;
     apart = no_entry to t;
     bounded = tt;
+    ordered = refl;
   }
 
   pub call_fine : (n to p : ℕ) (args : List ℕ) (slot : ℕ) → IsSource n → IsInner to → slot < slots → IsTrue (list_all (λ x. nat_lt x slots) args) → IsTrue (statements_call p (length args) body) → Fine (Call n to p args slot)
@@ -143,6 +167,7 @@ module _ (body : Statements) (nodes slots : ℕ) where
     inner = refl;
     apart = no_entry to t;
     bounded = calls;
+    ordered = refl;
   }
 
   pub assert_fine : (n id : ℕ) (rows : List Atom) → IsSource n → 1 < nodes → AreRows rows → Fine (Assert n fail_node id (record { atoms = rows }))
@@ -155,6 +180,7 @@ module _ (body : Statements) (nodes slots : ℕ) where
     inner = refl;
     apart = refl;
     bounded = r.small;
+    ordered = r.ascending;
   }
 
   pub return_fine : (n slot : ℕ) → IsSource n → 0 < nodes → slot < slots → Fine (Return n exit_node slot)
@@ -167,6 +193,7 @@ module _ (body : Statements) (nodes slots : ℕ) where
     inner = refl;
     apart = refl;
     bounded = tt;
+    ordered = refl;
   }
 
   -- Operands
@@ -263,17 +290,23 @@ module _ (body : Statements) (nodes slots : ℕ) where
   pub record IsRow (r : Atom) : Type 0 where
     pub named : IsTrue (names_slots slots r)
     pub small : IsTrue (is_small_row r)
+    pub ascending : IsTrue (is_ascending r.term.parts)
 
   row_is : (a b : Operand) (k : ℤ) → (k ≡ pos 0) ⊎ (k ≡ pos 1) → IsOperand a → IsOperand b → IsRow (row a b k)
-  row_is a b k one h g = record { named = row_named a b k h g; small = row_small a b k h.fits g.fits one }
+  row_is a b k one h g = record { named = row_named a b k h g; small = row_small a b k h.fits g.fits one; ascending = row_ascends a b k }
 
   one_row : (r : Atom) → IsRow r → AreRows (r ∷ [])
-  one_row r h = record { named = and_is (names_slots slots r) true h.named refl; small = and_is (is_small_row r) true h.small refl }
+  one_row r h = record {
+    named = and_is (names_slots slots r) true h.named refl;
+    small = and_is (is_small_row r) true h.small refl;
+    ascending = and_is (is_ascending r.term.parts) true h.ascending refl;
+  }
 
   two_rows : (r s : Atom) → IsRow r → IsRow s → AreRows (r ∷ s ∷ [])
   two_rows r s h k = record {
     named = and_is (names_slots slots r) (names_slots slots s && true) h.named (and_is (names_slots slots s) true k.named refl);
     small = and_is (is_small_row r) (is_small_row s && true) h.small (and_is (is_small_row s) true k.small refl);
+    ascending = and_is (is_ascending r.term.parts) (is_ascending s.term.parts && true) h.ascending (and_is (is_ascending s.term.parts) true k.ascending refl);
   }
 
   -- each of the lists has such rows

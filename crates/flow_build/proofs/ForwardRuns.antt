@@ -4,10 +4,9 @@ use Rattle.std.specs.Prelude.{slice_get}
 use Rattle.c_tree.specs.Syntax.{block, PureProcedure, PureProgram}
 use Rattle.c_tree.specs.Meaning.{World, Progress, goes, ends, stopped as source_stopped, failed as source_failed, starved, spent, Flow, normal, broken, continued, returned, Gives, Then, Callee, Execs, entered, returned_value, Enters, Run, Outcome, ComesOut, uncounted, Runs}
 use Rattle.flow_graph.specs.declared.graph.Graph.{Graph}
-use Rattle.flow_graph.specs.Runs.{End, came, stopped, failed, inside, Called, EndsIn, EntersGraph, GraphRun, GraphRuns}
+use Rattle.flow_graph.specs.Runs.{End, came, stopped, failed, inside, Called, EndsIn, EntersGraph, GraphRun, GraphRuns, end_of}
 use Rattle.flow_build.specs.Blocks.{end_node, entry_node, body_node, first_free}
 use Rattle.flow_build.specs.Procedures.{procedure_blocks, procedure_edges, IsGraphOf, AreGraphsOf}
-use Rattle.flow_build.specs.Outcomes.{end_of}
 use Rattle.flow_build.proofs.Translated.{AllPlain}
 use Rattle.flow_build.proofs.Outgoing.{At}
 use Rattle.flow_build.proofs.Slots.{IsArguments}

@@ -16,6 +16,7 @@ pub mod FineStatements
 pub mod Facts
 pub mod Linking
 pub mod SmallRows
+pub mod Terms
 pub mod Adding
 pub mod Answering
 pub mod AddingStatements

@@ -4,7 +4,6 @@ pub mod Operands
 pub mod Blocks
 pub mod Lowering
 pub mod Procedures
-pub mod Outcomes
 pub mod Promises
 pub mod Building
 pub mod Additions

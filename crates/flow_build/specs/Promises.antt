@@ -10,9 +10,8 @@ use Rattle.linear_formula.specs.declared.formula.Atom.{Atom}
 use Rattle.flow_graph.specs.declared.graph.Edge.{Edge}
 use Rattle.flow_graph.specs.declared.graph.Edge.TheVariants.{Entry, Assign, Guard, Input, Pick, Call, Assert, Return}
 use Rattle.flow_graph.specs.declared.graph.Graph.{Graph}
-use Rattle.flow_graph.specs.Runs.{End, GraphRuns}
+use Rattle.flow_graph.specs.Runs.{End, GraphRuns, end_of}
 use Rattle.flow_graph.specs.Columns.{AreAllValues}
-use Rattle.flow_build.specs.Outcomes.{end_of}
 use Rattle.flow_build.specs.Translation.{constant_value}
 
 -- The runs of the program's procedures are those of their graphs: equal depth, arguments, inputs and end.

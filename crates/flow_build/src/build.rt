@@ -16,7 +16,7 @@ use crate::linear::constant_lin;
 use crate::statement::{EXIT_NODE, Exits, Frame, RETURN_NODE, block};
 use c_tree::tree::{Procedure, Program};
 use flow_graph::graph::{Edge, Edges, Graph};
-use flow_graph::graphs::Graphs;
+use flow_graph::graphs::{GraphList, Graphs};
 use linear_formula::error::OutOfMemory;
 use linear_formula::formula::{Atoms, Cube};
 use std::alloc::Global;
@@ -103,13 +103,13 @@ fn graph(alloc: Global, procedure: &Procedure) -> Result<Graph, OutOfMemory>
 /// program, with equal depth, arguments, inputs and end.
 pub fn build(alloc: Global, program: &Program) -> Result<Graphs, OutOfMemory>
     ensures runs { IfOk result
-        (λ g. SameRuns (program_from program.now.procedures.items program.now.main program.now.asserts.items) g.graphs.items) }
+        (λ g. SameRuns (program_from program.now.procedures.items program.now.main program.now.asserts.items) g.graphs) }
     ensures bounds { IfOk result
-        (λ g. AreBounded (program_from program.now.procedures.items program.now.main program.now.asserts.items) g.graphs.items) }
+        (λ g. AreBounded (program_from program.now.procedures.items program.now.main program.now.asserts.items) g.graphs) }
 {
     let mut graphs = Vec::with_capacity(alloc, program.procedures.len())?;
     for procedure in &program.procedures {
         graphs.push(graph(alloc, procedure)?)?;
     }
-    Ok(Graphs::new(graphs))
+    Ok(Graphs::new(GraphList::from_vec(graphs)))
 }
