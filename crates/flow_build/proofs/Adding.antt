@@ -12,14 +12,14 @@ use Rattle.flow_build.specs.declared.operand.Operand.{Operand}
 use Rattle.flow_build.specs.declared.operand.Operand.TheVariants.{Variable, Constant}
 use Rattle.flow_build.specs.declared.target.Target.{Target}
 use Rattle.flow_build.specs.declared.target.Target.TheVariants.{Node}
-use Rattle.flow_build.specs.Forms.{Value, Values, Test}
-use Rattle.flow_build.specs.Forms as form
-use Rattle.flow_build.specs.Translation.{kept, kept_if, nonzero, scaled, overflows_by}
-use Rattle.flow_build.specs.Operands.{operand_lin, constant_lin, scaled_lin, sum_lin, difference_lin, overflows_in_place, slot_or_zero, is_constant_operand, rows_where, opposite_op}
-use Rattle.flow_build.specs.Blocks.{Block, edges_of, one, ways}
-use Rattle.flow_build.specs.Lowering.{operand_at, argument_slot, argument_slots, landing, landing_of_all, nodes_of, nodes_of_all, slots_of, value_blocks, values_blocks}
-use Rattle.flow_build.specs.Building.{is_in_place, copied, copied_where, copied_node, copied_nodes, copied_operand, one_if, node_where, operand_where}
-use Rattle.flow_build.specs.Additions.{argument_of, AddsBlocks, Adds, AddsAll, AddsSlot, AddsBoth, AddsTest}
+use Rattle.flow_build.specs.steps.Forms.{Value, Values, Test}
+use Rattle.flow_build.specs.steps.Forms as form
+use Rattle.flow_build.specs.steps.Translation.{kept, kept_if, nonzero, scaled, overflows_by}
+use Rattle.flow_build.specs.steps.Operands.{operand_lin, constant_lin, scaled_lin, sum_lin, difference_lin, overflows_in_place, slot_or_zero, is_constant_operand, rows_where, opposite_op}
+use Rattle.flow_build.specs.steps.Blocks.{Block, edges_of, one, ways}
+use Rattle.flow_build.specs.steps.Lowering.{operand_at, argument_slot, argument_slots, landing, landing_of_all, nodes_of, nodes_of_all, slots_of, value_blocks, values_blocks}
+use Rattle.flow_build.specs.steps.Building.{is_in_place, copied, copied_where, copied_node, copied_nodes, copied_operand, one_if, node_where, operand_where}
+use Rattle.flow_build.specs.steps.Additions.{argument_of, AddsBlocks, Adds, AddsAll, AddsSlot, AddsBoth, AddsTest}
 
 pub append_nil : (xs : List Edge) → xs ++ [] ≡ xs
 append_nil [] = refl

@@ -16,13 +16,13 @@ use Rattle.flow_build.specs.declared.landing.Landed.{Landed}
 use Rattle.flow_build.specs.declared.statement.Frame.{Frame}
 use Rattle.flow_build.specs.declared.statement.Exits.{Exits}
 use Rattle.flow_build.specs.declared.target.Target.TheVariants.{Node}
-use Rattle.flow_build.specs.Translation.{value_of, test_of}
-use Rattle.flow_build.specs.Operands.{slot_or_zero}
-use Rattle.flow_build.specs.Blocks.{edges_of, one}
-use Rattle.flow_build.specs.Lowering.{argument_slot, result_of, return_edge, landing, between, nodes_between, nodes_of_statement, nodes_of_statements, slots_of_statement, slots_of_statements, statement_blocks, statements_blocks}
-use Rattle.flow_build.specs.Building.{node_where, one_if, statement_literals_fit, statements_literals_fit}
-use Rattle.flow_build.specs.Additions.{TakesFew, Adds, AddsTest}
-use Rattle.flow_build.specs.StatementAdditions.{AddsResult, AddsStatement}
+use Rattle.flow_build.specs.steps.Translation.{value_of, test_of}
+use Rattle.flow_build.specs.steps.Operands.{slot_or_zero}
+use Rattle.flow_build.specs.steps.Blocks.{edges_of, one}
+use Rattle.flow_build.specs.steps.Lowering.{argument_slot, result_of, return_edge, landing, between, nodes_between, nodes_of_statement, nodes_of_statements, slots_of_statement, slots_of_statements, statement_blocks, statements_blocks}
+use Rattle.flow_build.specs.steps.Building.{node_where, one_if, statement_literals_fit, statements_literals_fit}
+use Rattle.flow_build.specs.steps.Additions.{TakesFew, Adds, AddsTest}
+use Rattle.flow_build.specs.steps.StatementAdditions.{AddsResult, AddsStatement}
 use Rattle.flow_build.proofs.Adding.{edges_of-append, append_nil, argument_operand}
 
 max_three : (a b c : ℕ) → max a (max b c) ≡ max (max a b) c
@@ -75,7 +75,7 @@ tested_repetition_added body e frame from exits again left tested b0 b1 b2 b3 e1
 
 -- a value, and an edge behind it
 pub value_then : (v : _) (d : ℕ → Edge) (from t : ℕ) (b0 b1 b2 : Builder) (l : Landed) → Adds v from t b0 b1 l → b2.edges.items ≡ b1.edges.items ++ d l.node ∷ [] → b2.next ≡ b1.next →
-    b2.edges.items ≡ b0.edges.items ++ edges_of (Rattle.flow_build.specs.Lowering.value_blocks v from t b0.next ++ one (landing v from b0.next) (d (landing v from b0.next)) ∷ [])
+    b2.edges.items ≡ b0.edges.items ++ edges_of (Rattle.flow_build.specs.steps.Lowering.value_blocks v from t b0.next ++ one (landing v from b0.next) (d (landing v from b0.next)) ∷ [])
 value_then v d from t b0 b1 b2 l h e n = simp (e, h.blocks.edges, h.node, edges_of-append, append_assoc) refl
 
 -- Statements one after another

@@ -7,10 +7,11 @@ use Rattle.c_tree.specs.declared.tree.Op.{Op}
 use Rattle.c_tree.specs.declared.tree.Op.TheVariants.{Add, Subtract, Multiply, Less, LessEqual, Greater, GreaterEqual, Equal, Unequal, And, Or}
 use Rattle.c_tree.specs.Syntax.{Expression, literal, read, input, call, negate, not as not_of, binary, Expressions, no_expressions, expression}
 use Rattle.c_tree.specs.WellFormed.{count}
-use Rattle.flow_build.specs.Forms.{Value, Values, no_values, value, Test, compare, opposite, both, either}
-use Rattle.flow_build.specs.Forms as form
-use Rattle.flow_build.specs.Translation.{constant_value, has_call, have_call, kept, kept_if, in_slot, overflows_by, scaled, overflows, added, subtracted, multiplied, value_by, test_by, value_of, values_of, test_of}
-use Rattle.flow_build.specs.Lowering.{result_of}
+use Rattle.flow_build.specs.steps.Forms.{Value, Values, no_values, value, Test, compare, opposite, both, either}
+use Rattle.flow_build.specs.steps.Forms as form
+use Rattle.flow_build.specs.Constants.{constant_value}
+use Rattle.flow_build.specs.steps.Translation.{has_call, have_call, kept, kept_if, in_slot, overflows_by, scaled, overflows, added, subtracted, multiplied, value_by, test_by, value_of, values_of, test_of}
+use Rattle.flow_build.specs.steps.Lowering.{result_of}
 use Rattle.flow_build.specs.Promises.{calls, calls_any, listed, sides, factors, factors_in}
 
 abbrev pub how_many : Values → ℕ

@@ -13,13 +13,13 @@ use Rattle.c_tree.specs.Meaning.{is_value}
 use Rattle.c_tree.specs.Operators.{is_arithmetic}
 use Rattle.flow_build.specs.declared.operand.Operand.{Operand}
 use Rattle.flow_build.specs.declared.operand.Operand.TheVariants.{Variable, Constant}
-use Rattle.flow_build.specs.Forms.{Value, Test}
-use Rattle.flow_build.specs.Forms as form
-use Rattle.flow_build.specs.Translation.{has_call, kept_if, overflows, nonzero, value_of, test_of}
-use Rattle.flow_build.specs.Operands.{is_operand, constant_of, overflows_in_place}
-use Rattle.flow_build.specs.Building.{is_operand_landed, copied_operand, operand_where}
-use Rattle.flow_build.specs.Lowering.{operand_at}
-use Rattle.flow_build.specs.Additions.{binary_value, binary_test}
+use Rattle.flow_build.specs.steps.Forms.{Value, Test}
+use Rattle.flow_build.specs.steps.Forms as form
+use Rattle.flow_build.specs.steps.Translation.{has_call, kept_if, overflows, nonzero, value_of, test_of}
+use Rattle.flow_build.specs.steps.Operands.{is_operand, constant_of, overflows_in_place}
+use Rattle.flow_build.specs.steps.Building.{is_operand_landed, copied_operand, operand_where}
+use Rattle.flow_build.specs.steps.Lowering.{operand_at}
+use Rattle.flow_build.specs.steps.Additions.{binary_value, binary_test}
 
 pub if_ok : {A E : Type 0} (r : Result A E) (G : A → Type 0) → ((v : A) → r ≡ Ok v → G v) → IfOk r G
 if_ok (Ok v) G f = f v refl

@@ -7,12 +7,13 @@ use Rattle.flow_graph.specs.declared.graph.Edge.{Edge}
 use Rattle.flow_graph.specs.declared.graph.Edge.TheVariants.{Entry}
 use Rattle.flow_graph.specs.declared.graph.Graph.{Graph}
 use Rattle.flow_graph.specs.Runs.{End, came, inside, Called, EndsIn, EntersGraph, GraphRun, GraphRuns, end_of}
-use Rattle.flow_build.specs.Blocks.{end_node, entry_node, body_node, first_free}
-use Rattle.flow_build.specs.Procedures.{procedure_blocks, procedure_edges, IsGraphOf, AreGraphsOf}
+use Rattle.flow_graph.specs.Columns.{AreValues, AreAllValues}
+use Rattle.flow_graph.proofs.Values.{run_values}
+use Rattle.flow_build.specs.steps.Blocks.{end_node, entry_node, body_node, first_free}
+use Rattle.flow_build.specs.steps.Procedures.{procedure_blocks, procedure_edges, IsGraphOf, AreGraphsOf}
 use Rattle.flow_build.proofs.Translated.{AllPlain}
 use Rattle.flow_build.proofs.Outgoing.{At}
-use Rattle.flow_build.proofs.Slots.{IsArguments, HasValues, Matches}
-use Rattle.flow_build.proofs.Good.{runs_good}
+use Rattle.flow_build.proofs.Slots.{Matches}
 use Rattle.flow_build.proofs.Coming.{le_self, Hears, Heard, Covers, Comes, then_comes, over_skip}
 use Rattle.flow_build.proofs.BackwardStatements.{BehindFlow, exec_comes, zero_returned}
 
@@ -45,13 +46,13 @@ module _ (C : Called) (rest : List ℤ) (end : End) (p : PureProcedure) (at : At
   flow_closes D hears K w (continued s) b = zero_returned C edges rest end p.gives p.slots D hears p.slots (le_self p.slots) at.1.1.0 b.3.0 end_node b.0 w.inputs at.1.0 b.3.2
   flow_closes D hears K w (returned v) b = b
 
-  procedure_comes : (D : Callee) → Hears C D → AllPlain p.slots p.body → (args : List ℤ) → IsArguments args → (w : World) (k : ℕ) → EndsIn C edges k (inside entry_node (entered args)) w.inputs rest end
+  procedure_comes : (D : Callee) → Hears C D → AllPlain p.slots p.body → (args : List ℤ) → AreAllValues args → (w : World) (k : ℕ) → EndsIn C edges k (inside entry_node (entered args)) w.inputs rest end
       → Comes C edges rest end (Then (Execs false D p.body (entered args)) (λ f. Gives (returned_value p.gives f))) w Closes
   procedure_comes D hears plain args ok w k h =
       let σ = entered args in
       let b = over_skip C edges rest end k k entry_node body_node σ w.inputs at.0 (le_self k) h in
       let matches : Matches p.slots σ σ = record { each = λ x lt. refl } in
-      let vals : HasValues σ = record { each = ok.each } in
+      let vals : AreValues σ = ok in
       then_comes C edges rest end (Execs false D p.body σ) (λ f. Gives (returned_value p.gives f)) w (BehindFlow C edges rest end p.gives p.slots b.0 end_node end_node end_node) Closes
       (exec_comes C edges rest end p.gives p.slots D hears p.slots (le_self p.slots) at.1.1.0 (block p.body) body_node end_node end_node end_node first_free plain at.1.1.1 σ σ matches vals w b.0 b.0 (le_self b.0) b.2)
       (λ w1 f c. (goes w1 (returned_value p.gives f), refl, flow_closes D hears b.0 w1 f c))
@@ -65,7 +66,7 @@ module _ (C : Called) (rest : List ℤ) (end : End) (p : PureProcedure) (at : At
 
 module _ (P : PureProgram) (gs : List Graph) (graphs : AreGraphsOf P.procedures gs) (at : (p : PureProcedure) → At (procedure_edges p) (procedure_blocks p))
     (plain : (i : ℕ) (p : PureProcedure) → slice_get P.procedures i ≡ Some p → AllPlain p.slots p.body) where
-  enters_heard : (d : ℕ) → Hears (GraphRun gs d) (Run false P d) → (i : ℕ) (args : List ℤ) (w : World) (mid : List ℤ) (e : End) → IsArguments args → GraphRun gs (suc d) i args w.inputs mid e
+  enters_heard : (d : ℕ) → Hears (GraphRun gs d) (Run false P d) → (i : ℕ) (args : List ℤ) (w : World) (mid : List ℤ) (e : End) → AreAllValues args → GraphRun gs (suc d) i args w.inputs mid e
       → (r : Progress ℤ) × Run false P (suc d) i args w r × Heard mid e r
   enters_heard d hears i args w mid e ok h =
       let C = GraphRun gs d in
@@ -81,7 +82,7 @@ module _ (P : PureProgram) (gs : List Graph) (graphs : AreGraphsOf P.procedures 
 
   pub run_heard : (d : ℕ) → Hears (GraphRun gs d) (Run false P d)
   run_heard zero = record { good = λ i args w mid e ok h. absurd h; result = λ i args w mid e ok h. absurd h }
-  run_heard (suc d) = record { good = λ i args w mid e ok h. runs_good gs (suc d) i args w.inputs mid e ok h; result = enters_heard d (run_heard d) }
+  run_heard (suc d) = record { good = λ i args w mid e ok h. run_values gs (suc d) i args w.inputs mid e ok h; result = enters_heard d (run_heard d) }
 
   outcome_of : (d i : ℕ) (args ins : List ℤ) (e : End) (r : Progress ℤ) → Run false P d i args (uncounted ins) r → Heard [] e r → (out : Outcome) × (e ≡ end_of out) × Runs P d i args ins out
   outcome_of d i args ins e (goes w v) run h = (Returned v, h.1, (goes w v, run, (refl, sym h.0)))
@@ -90,12 +91,12 @@ module _ (P : PureProgram) (gs : List Graph) (graphs : AreGraphsOf P.procedures 
   outcome_of d i args ins e (ends w starved) run h = absurd h
   outcome_of d i args ins e (ends w spent) run h = absurd h
 
-  run_of_end : (d i : ℕ) (args ins : List ℤ) (e : End) → IsArguments args → GraphRuns gs d i args ins e → (out : Outcome) × (e ≡ end_of out) × Runs P d i args ins out
+  run_of_end : (d i : ℕ) (args ins : List ℤ) (e : End) → AreAllValues args → GraphRuns gs d i args ins e → (out : Outcome) × (e ≡ end_of out) × Runs P d i args ins out
   run_of_end d i args ins e ok h =
       let hears = run_heard d in
       let c = hears.result i args (uncounted ins) [] e ok h in
       outcome_of d i args ins e c.0 c.1 c.2
 
 -- each run of the graphs is one of the program
-pub graph_of_run : (P : PureProgram) (gs : List Graph) → AreGraphsOf P.procedures gs → ((p : PureProcedure) → At (procedure_edges p) (procedure_blocks p)) → ((i : ℕ) (p : PureProcedure) → slice_get P.procedures i ≡ Some p → AllPlain p.slots p.body) → (d i : ℕ) (args ins : List ℤ) (e : End) → IsArguments args → GraphRuns gs d i args ins e → (out : Outcome) × (e ≡ end_of out) × Runs P d i args ins out
+pub graph_of_run : (P : PureProgram) (gs : List Graph) → AreGraphsOf P.procedures gs → ((p : PureProcedure) → At (procedure_edges p) (procedure_blocks p)) → ((i : ℕ) (p : PureProcedure) → slice_get P.procedures i ≡ Some p → AllPlain p.slots p.body) → (d i : ℕ) (args ins : List ℤ) (e : End) → AreAllValues args → GraphRuns gs d i args ins e → (out : Outcome) × (e ≡ end_of out) × Runs P d i args ins out
 graph_of_run P gs graphs at plain d i args ins e ok h = run_of_end P gs graphs at plain d i args ins e ok h

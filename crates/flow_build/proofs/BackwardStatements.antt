@@ -5,16 +5,18 @@ use Rattle.c_tree.specs.Meaning.{State, with_slot, World, Progress, goes, ends, 
 use Rattle.flow_graph.specs.declared.graph.Edge.{Edge}
 use Rattle.flow_graph.specs.declared.graph.Edge.TheVariants.{Assign, Guard, Return}
 use Rattle.flow_graph.specs.Runs.{End, came, inside, Called, EndsIn, lin_value}
+use Rattle.flow_graph.specs.Columns.{AreValues}
+use Rattle.flow_graph.proofs.Values.{values_with}
 use Rattle.flow_build.specs.declared.target.Target.{Target}
 use Rattle.flow_build.specs.declared.target.Target.TheVariants.{Node, Fails, Nowhere}
-use Rattle.flow_build.specs.Translation.{value_of, test_of}
-use Rattle.flow_build.specs.Operands.{constant_lin, operand_lin}
-use Rattle.flow_build.specs.Blocks.{exit_node, return_node}
-use Rattle.flow_build.specs.Lowering.{operand_at, argument_slot, landing, value_blocks, test_blocks, between, nodes_between, nodes_of_test, result_of, nodes_of_statement, return_edge, statement_blocks, statements_blocks}
+use Rattle.flow_build.specs.steps.Translation.{value_of, test_of}
+use Rattle.flow_build.specs.steps.Operands.{constant_lin, operand_lin}
+use Rattle.flow_build.specs.steps.Blocks.{exit_node, return_node}
+use Rattle.flow_build.specs.steps.Lowering.{operand_at, argument_slot, landing, value_blocks, test_blocks, between, nodes_between, nodes_of_test, result_of, nodes_of_statement, return_edge, statement_blocks, statements_blocks}
 use Rattle.flow_build.proofs.FormMeaning.{Yields, Decides}
 use Rattle.flow_build.proofs.Translated.{IsPlain, RunsPlain, AllPlain, value_fits, test_fits, result_fits, result_in_slot, by_value, by_result, by_test}
 use Rattle.flow_build.proofs.Outgoing.{out, At, at_left, at_right}
-use Rattle.flow_build.proofs.Slots.{slot_there, HasValues, values_with, Matches, matches_on, matches_with, operand_value, operand_is, operand_has, constant_is, argument_is}
+use Rattle.flow_build.proofs.Slots.{slot_there, Matches, matches_on, matches_with, operand_value, operand_is, operand_has, constant_is, argument_is}
 use Rattle.flow_build.proofs.Coming.{Hears, Comes, then_comes, le_self, lt_le, Within, within, over_value, over_skip, over_return, Led}
 use Rattle.flow_build.proofs.BackwardValues.{Behind, BehindTest, TestComes, value_comes, test_comes}
 
@@ -124,7 +126,7 @@ begins_between (statement a ss) to lo = tt
 module _ (C : Called) (g : List Edge) (rest : List ℤ) (end : End) (gives : Bool) (vars : ℕ) where
   -- at the node, in a state of the source
   abbrev pub StandsAt : ℕ → ℕ → World → State → Type 0
-  StandsAt K n w s = (σ : State) × Matches vars σ s × HasValues σ × Within C g rest end K (inside n σ) w.inputs
+  StandsAt K n w s = (σ : State) × Matches vars σ s × AreValues σ × Within C g rest end K (inside n σ) w.inputs
 
   abbrev pub BehindFlow : (K to brk con : ℕ) → World → Flow → Type 0
   BehindFlow K to brk con w (normal s) = StandsAt K to w s
@@ -135,7 +137,7 @@ module _ (C : Called) (g : List Edge) (rest : List ℤ) (end : End) (gives : Boo
   -- what is proved of statements
   abbrev pub RunComes : (State → Relation Flow) → (from to brk con : ℕ) → Type 0
   RunComes S from to brk con =
-      (s σ : State) → Matches vars σ s → HasValues σ → (w : World) (K k : ℕ) → k ≤ K → EndsIn C g k (inside from σ) w.inputs rest end
+      (s σ : State) → Matches vars σ s → AreValues σ → (w : World) (K k : ℕ) → k ≤ K → EndsIn C g k (inside from σ) w.inputs rest end
       → Comes C g rest end (S s) w (BehindFlow K to brk con)
 
   wider : (j K n : ℕ) (w : World) (s : State) → j ≤ K → StandsAt j n w s → StandsAt K n w s
@@ -163,9 +165,9 @@ module _ (C : Called) (g : List Edge) (rest : List ℤ) (end : End) (gives : Boo
   module _ (D : Callee) (t : ℕ) (low : vars ≤ t) where
     -- what follows a test of the source
     decided_comes : (e : Expression) (from : ℕ) (met unmet : Target) (lo : ℕ) → IsPlain vars e → TestComes C g rest end D vars (test_of e) from met unmet t lo
-        → (P Q : Relation Flow) (L : World → Flow → Type 0) (s σ : State) → Matches vars σ s → HasValues σ → (w : World) (K k : ℕ) → k ≤ K → EndsIn C g k (inside from σ) w.inputs rest end
-        → ((w1 : World) (σ1 : State) → Matches vars σ1 s → HasValues σ1 → Led C g rest end K unmet σ1 w1.inputs → Comes C g rest end P w1 L)
-        → ((w1 : World) (σ1 : State) → Matches vars σ1 s → HasValues σ1 → Led C g rest end K met σ1 w1.inputs → Comes C g rest end Q w1 L)
+        → (P Q : Relation Flow) (L : World → Flow → Type 0) (s σ : State) → Matches vars σ s → AreValues σ → (w : World) (K k : ℕ) → k ≤ K → EndsIn C g k (inside from σ) w.inputs rest end
+        → ((w1 : World) (σ1 : State) → Matches vars σ1 s → AreValues σ1 → Led C g rest end K unmet σ1 w1.inputs → Comes C g rest end P w1 L)
+        → ((w1 : World) (σ1 : State) → Matches vars σ1 s → AreValues σ1 → Led C g rest end K met σ1 w1.inputs → Comes C g rest end Q w1 L)
         → Comes C g rest end (Then (Eval false D e s) (λ v. Choice (is_zero v) P Q)) w L
     decided_comes e from met unmet lo plain comes P Q L s σ m vals w K k le h otherwise then_so =
         let c = then_comes C g rest end (Decides D (test_of e) s) (λ b. Choice b Q P) w (BehindTest C g rest end K met unmet t σ) L (comes s σ m vals w K k le h) on in
@@ -184,7 +186,7 @@ module _ (C : Called) (g : List Edge) (rest : List ℤ) (end : End) (gives : Boo
 
       loop_comes : (bound from lo lo2 : ℕ) → TestComes C g rest end D vars (test_of e) from (Node lo) (Node to) t lo2
           → RunComes B lo (lo + 1) to (lo + 1) → RunComes S (lo + 1) from to from
-          → (s σ : State) → Matches vars σ s → HasValues σ → (w : World) (K k : ℕ) → k < bound → k ≤ K → EndsIn C g k (inside from σ) w.inputs rest end
+          → (s σ : State) → Matches vars σ s → AreValues σ → (w : World) (K k : ℕ) → k < bound → k ≤ K → EndsIn C g k (inside from σ) w.inputs rest end
           → Comes C g rest end (Looping s) w (BehindFlow K to brk con)
       loop_comes zero from lo lo2 test body step s σ m vals w K k lt le h = absurd (none_below k lt)
       loop_comes (suc bound) from lo lo2 test body step s σ m vals w K k lt le h =
@@ -205,7 +207,7 @@ module _ (C : Called) (g : List Edge) (rest : List ℤ) (end : End) (gives : Boo
       DoLooping = DoLoops D (Eval false D e) B
 
       do_comes : (bound from lo lo2 : ℕ) → RunComes B from lo to lo → TestComes C g rest end D vars (test_of e) lo (Node from) (Node to) t lo2
-          → (s σ : State) → Matches vars σ s → HasValues σ → (w : World) (K k : ℕ) → k < bound → k ≤ K → EndsIn C g k (inside from σ) w.inputs rest end
+          → (s σ : State) → Matches vars σ s → AreValues σ → (w : World) (K k : ℕ) → k < bound → k ≤ K → EndsIn C g k (inside from σ) w.inputs rest end
           → Comes C g rest end (DoLooping s) w (BehindFlow K to brk con)
       do_comes zero from lo lo2 body test s σ m vals w K k lt le h = absurd (none_below k lt)
       do_comes (suc bound) from lo lo2 body test s σ m vals w K k lt le h =
@@ -298,7 +300,7 @@ module _ (C : Called) (g : List Edge) (rest : List ℤ) (end : End) (gives : Boo
         (goes w1 (returned z), refl, (r.0 ∙ ap (λ y. came (cond gives y (pos 0) ∷ [])) is, r.1))) in
         (c.0, (by_result vars D e s (λ z. Gives (returned z)) plain).back w c.0 c.1, c.2)
 
-    skip_stands : (K k from n : ℕ) (s σ : State) (w : World) → out from g ≡ Guard from n (record { atoms = [] }) ∷ [] → Matches vars σ s → HasValues σ → k ≤ K → EndsIn C g k (inside from σ) w.inputs rest end → StandsAt K n w s
+    skip_stands : (K k from n : ℕ) (s σ : State) (w : World) → out from g ≡ Guard from n (record { atoms = [] }) ∷ [] → Matches vars σ s → AreValues σ → k ≤ K → EndsIn C g k (inside from σ) w.inputs rest end → StandsAt K n w s
     skip_stands K k from n s σ w h m vals le f = (σ, m, vals, within C g rest end K (inside n σ) w.inputs (over_skip C g rest end K k from n σ w.inputs h le f))
 
     mutual

@@ -6,16 +6,18 @@ use Rattle.flow_graph.specs.declared.graph.Edge.{Edge}
 use Rattle.flow_graph.specs.declared.graph.Edge.TheVariants.{Assign, Call, Input}
 use Rattle.flow_graph.specs.declared.graph.Lin.{Lin}
 use Rattle.flow_graph.specs.Runs.{End, inside, Called, EndsIn, lin_value}
+use Rattle.flow_graph.specs.Columns.{AreValues}
+use Rattle.flow_graph.proofs.Values.{values_with, values_map}
 use Rattle.flow_build.specs.declared.operand.Operand.{Operand}
 use Rattle.flow_build.specs.declared.operand.Operand.TheVariants.{Variable}
 use Rattle.flow_build.specs.declared.target.Target.{Target}
 use Rattle.flow_build.specs.declared.target.Target.TheVariants.{Node}
-use Rattle.flow_build.specs.Forms.{Value, literal, read, input, call, scale, sum, difference, truth, Values, no_values, value, Test, compare, opposite, both, either}
-use Rattle.flow_build.specs.Operands.{constant_lin, operand_lin, scaled_lin, sum_lin, difference_lin}
-use Rattle.flow_build.specs.Lowering.{operand_at, landing, nodes_of, slots_of, slots_of_test, nodes_of_test, argument_slot, argument_slots, landing_of_all, value_blocks, values_blocks, test_blocks}
+use Rattle.flow_build.specs.steps.Forms.{Value, literal, read, input, call, scale, sum, difference, truth, Values, no_values, value, Test, compare, opposite, both, either}
+use Rattle.flow_build.specs.steps.Operands.{constant_lin, operand_lin, scaled_lin, sum_lin, difference_lin}
+use Rattle.flow_build.specs.steps.Lowering.{operand_at, landing, nodes_of, slots_of, slots_of_test, nodes_of_test, argument_slot, argument_slots, landing_of_all, value_blocks, values_blocks, test_blocks}
 use Rattle.flow_build.proofs.FormMeaning.{comparison, Yields, YieldsAll, Decides, IsInSlot, FitsValue, FitsValues, FitsTest}
 use Rattle.flow_build.proofs.Outgoing.{out, At, at_left, at_right}
-use Rattle.flow_build.proofs.Slots.{slot_there, HasValues, values_with, arguments_map, Matches, Keeps, keeps_all, keeps_with, keeps_on, matches_on, operand_value, operand_is, constant_is, scaled_is, sum_is, difference_is, operand_kept, argument_is}
+use Rattle.flow_build.proofs.Slots.{slot_there, Matches, Keeps, keeps_all, keeps_with, keeps_on, matches_on, operand_value, operand_is, constant_is, scaled_is, sum_is, difference_is, operand_kept, argument_is}
 use Rattle.flow_build.proofs.Coming.{Hears, Covers, covers_map, Comes, then_comes, le_self, lt_le, Before, Within, within, Assigned, over_assign, over_value, over_input, CameBack, over_call, Led, over_compare}
 
 fewer_kept : (t u : ℕ) (a b : State) → t ≤ u → Keeps u a b → Keeps t a b
@@ -27,16 +29,16 @@ le_plus a b c le = omega arith
 module _ (C : Called) (g : List Edge) (rest : List ℤ) (end : End) where
   -- what follows a value: at the next node the operand has it
   abbrev pub Behind : (K to : ℕ) (a : Operand) (t : ℕ) (σ : State) → World → ℤ → Type 0
-  Behind K to a t σ w v = (σ' : State) × Keeps t σ σ' × HasValues σ' × (operand_value σ' a ≡ v) × Within C g rest end K (inside to σ') w.inputs
+  Behind K to a t σ w v = (σ' : State) × Keeps t σ σ' × AreValues σ' × (operand_value σ' a ≡ v) × Within C g rest end K (inside to σ') w.inputs
 
   abbrev pub BehindAll : (K to t : ℕ) (vs : Values) (σ : State) → World → List ℤ → Type 0
-  BehindAll K to t vs σ w xs = (σ' : State) × Keeps t σ σ' × HasValues σ' × (map σ' (argument_slots vs t) ≡ xs) × Within C g rest end K (inside to σ') w.inputs
+  BehindAll K to t vs σ w xs = (σ' : State) × Keeps t σ σ' × AreValues σ' × (map σ' (argument_slots vs t) ≡ xs) × Within C g rest end K (inside to σ') w.inputs
 
   abbrev pub BehindTest : (K : ℕ) (met unmet : Target) (t : ℕ) (σ : State) → World → Bool → Type 0
-  BehindTest K met unmet t σ w b = (σ' : State) × Keeps t σ σ' × HasValues σ' × Led C g rest end K (cond b met unmet) σ' w.inputs
+  BehindTest K met unmet t σ w b = (σ' : State) × Keeps t σ σ' × AreValues σ' × Led C g rest end K (cond b met unmet) σ' w.inputs
 
   -- the exact value, assigned to the slot
-  exact_comes : (K k n to t : ℕ) (l : Lin) (z : ℤ) (σ σ0 : State) (w : World) → out n g ≡ Assign n to t l ∷ [] → lin_value σ l ≡ z → Keeps t σ0 σ → HasValues σ → k ≤ K → EndsIn C g k (inside n σ) w.inputs rest end → Comes C g rest end (ExactOrStopped z) w (Behind K to (Variable t) t σ0)
+  exact_comes : (K k n to t : ℕ) (l : Lin) (z : ℤ) (σ σ0 : State) (w : World) → out n g ≡ Assign n to t l ∷ [] → lin_value σ l ≡ z → Keeps t σ0 σ → AreValues σ → k ≤ K → EndsIn C g k (inside n σ) w.inputs rest end → Comes C g rest end (ExactOrStopped z) w (Behind K to (Variable t) t σ0)
   exact_comes K k n to t l z σ σ0 w h e keep vals le f = on (over_assign C g rest end K k n to t l σ w.inputs h le f)
     where
       on : Assigned C g rest end K to t l σ w.inputs → Comes C g rest end (ExactOrStopped z) w (Behind K to (Variable t) t σ0)
@@ -48,13 +50,13 @@ module _ (C : Called) (g : List Edge) (rest : List ℤ) (end : End) where
       on (inr n) = (ends w source_stopped, subst (λ b. Choice b (Gives z) (Ends source_stopped) w (ends w source_stopped)) (sym (ap is_value (sym e) ∙ n.0)) refl, n.1)
 
   -- what is a value, assigned to the slot
-  gives_comes : (K k n to t : ℕ) (l : Lin) (z : ℤ) (σ σ0 : State) (w : World) → out n g ≡ Assign n to t l ∷ [] → lin_value σ l ≡ z → IsTrue (is_value z) → Keeps t σ0 σ → HasValues σ → k ≤ K → EndsIn C g k (inside n σ) w.inputs rest end → Comes C g rest end (Gives z) w (Behind K to (Variable t) t σ0)
+  gives_comes : (K k n to t : ℕ) (l : Lin) (z : ℤ) (σ σ0 : State) (w : World) → out n g ≡ Assign n to t l ∷ [] → lin_value σ l ≡ z → IsTrue (is_value z) → Keeps t σ0 σ → AreValues σ → k ≤ K → EndsIn C g k (inside n σ) w.inputs rest end → Comes C g rest end (Gives z) w (Behind K to (Variable t) t σ0)
   gives_comes K k n to t l z σ σ0 w h e ok keep vals le f =
       let ok' = subst (λ y. IsTrue (is_value y)) (sym e) ok in
       let σ1 = with_slot σ t (lin_value σ l) in
       (goes w z, refl, (σ1, keeps_on t t σ0 σ σ1 (le_self t) keep (keeps_with t t σ (lin_value σ l) (le_self t)), values_with σ t (lin_value σ l) vals ok', slot_there σ t (lin_value σ l) ∙ e, within C g rest end K (inside to σ1) w.inputs (over_value C g rest end K k n to t l σ w.inputs h ok' le f)))
 
-  input_comes : (K k n to t : ℕ) (σ : State) (w : World) → out n g ≡ Input n to t ∷ [] → HasValues σ → k ≤ K → EndsIn C g k (inside n σ) w.inputs rest end → Comes C g rest end (λ w o. TakesInput w.inputs w o) w (Behind K to (Variable t) t σ)
+  input_comes : (K k n to t : ℕ) (σ : State) (w : World) → out n g ≡ Input n to t ∷ [] → AreValues σ → k ≤ K → EndsIn C g k (inside n σ) w.inputs rest end → Comes C g rest end (λ w o. TakesInput w.inputs w o) w (Behind K to (Variable t) t σ)
   input_comes K k n to t σ w h vals le f =
       let c = over_input C g rest end K k n to t σ w.inputs h le f in
       let v = c.0 in
@@ -66,23 +68,23 @@ module _ (C : Called) (g : List Edge) (rest : List ℤ) (end : End) where
     -- what is proved of values, arguments and tests
     abbrev pub ValueComes : Value → (from t lo : ℕ) → Type 0
     ValueComes v from t lo =
-        (s σ : State) → Matches vars σ s → HasValues σ → (w : World) (K k : ℕ) → k ≤ K → EndsIn C g k (inside from σ) w.inputs rest end
+        (s σ : State) → Matches vars σ s → AreValues σ → (w : World) (K k : ℕ) → k ≤ K → EndsIn C g k (inside from σ) w.inputs rest end
         → Comes C g rest end (Yields D v s) w (Behind K (landing v from lo) (operand_at v t) t σ)
 
     abbrev pub ValuesCome : Values → (from t lo : ℕ) → Type 0
     ValuesCome vs from t lo =
-        (s σ : State) → Matches vars σ s → HasValues σ → (w : World) (K k : ℕ) → k ≤ K → EndsIn C g k (inside from σ) w.inputs rest end
+        (s σ : State) → Matches vars σ s → AreValues σ → (w : World) (K k : ℕ) → k ≤ K → EndsIn C g k (inside from σ) w.inputs rest end
         → Comes C g rest end (YieldsAll D vs s) w (BehindAll K (landing_of_all vs from lo) t vs σ)
 
     abbrev pub TestComes : Test → (from : ℕ) (met unmet : Target) (t lo : ℕ) → Type 0
     TestComes c from met unmet t lo =
-        (s σ : State) → Matches vars σ s → HasValues σ → (w : World) (K k : ℕ) → k ≤ K → EndsIn C g k (inside from σ) w.inputs rest end
+        (s σ : State) → Matches vars σ s → AreValues σ → (w : World) (K k : ℕ) → k ≤ K → EndsIn C g k (inside from σ) w.inputs rest end
         → Comes C g rest end (Decides D c s) w (BehindTest K met unmet t σ)
 
     -- one side's value, and what is done with it
     one_comes : {A : Type 0} (v : Value) (from t lo : ℕ) (F : ℤ → Relation A) (L : World → A → Type 0) → ValueComes v from t lo
-        → (s σ : State) → Matches vars σ s → HasValues σ → (w : World) (K k : ℕ) → k ≤ K → EndsIn C g k (inside from σ) w.inputs rest end
-        → ((w1 : World) (σ1 : State) (x : ℤ) (j : ℕ) → Keeps t σ σ1 → HasValues σ1 → operand_value σ1 (operand_at v t) ≡ x → j ≤ K → EndsIn C g j (inside (landing v from lo) σ1) w1.inputs rest end → Comes C g rest end (F x) w1 L)
+        → (s σ : State) → Matches vars σ s → AreValues σ → (w : World) (K k : ℕ) → k ≤ K → EndsIn C g k (inside from σ) w.inputs rest end
+        → ((w1 : World) (σ1 : State) (x : ℤ) (j : ℕ) → Keeps t σ σ1 → AreValues σ1 → operand_value σ1 (operand_at v t) ≡ x → j ≤ K → EndsIn C g j (inside (landing v from lo) σ1) w1.inputs rest end → Comes C g rest end (F x) w1 L)
         → Comes C g rest end (Then (Yields D v s) F) w L
     one_comes v from t lo F L comes s σ m vals w K k le h next =
         then_comes C g rest end (Yields D v s) F w (Behind K (landing v from lo) (operand_at v t) t σ) L (comes s σ m vals w K k le h)
@@ -91,8 +93,8 @@ module _ (C : Called) (g : List Edge) (rest : List ℤ) (end : End) where
     -- both sides' values, and what is done with them
     both_come : {A : Type 0} (v u : Value) (from t lo : ℕ) (F : ℤ → ℤ → Relation A) (L : World → A → Type 0) → vars ≤ t → FitsValue vars v
         → ValueComes v from t lo → ValueComes u (landing v from lo) (t + slots_of v) (lo + nodes_of v)
-        → (s σ : State) → Matches vars σ s → HasValues σ → (w : World) (K k : ℕ) → k ≤ K → EndsIn C g k (inside from σ) w.inputs rest end
-        → ((w2 : World) (σ2 : State) (x y : ℤ) (j : ℕ) → Keeps t σ σ2 → HasValues σ2 → operand_value σ2 (operand_at v t) ≡ x → operand_value σ2 (operand_at u (t + slots_of v)) ≡ y
+        → (s σ : State) → Matches vars σ s → AreValues σ → (w : World) (K k : ℕ) → k ≤ K → EndsIn C g k (inside from σ) w.inputs rest end
+        → ((w2 : World) (σ2 : State) (x y : ℤ) (j : ℕ) → Keeps t σ σ2 → AreValues σ2 → operand_value σ2 (operand_at v t) ≡ x → operand_value σ2 (operand_at u (t + slots_of v)) ≡ y
         → j ≤ K → EndsIn C g j (inside (landing u (landing v from lo) (lo + nodes_of v)) σ2) w2.inputs rest end → Comes C g rest end (F x y) w2 L)
         → Comes C g rest end (Then (Yields D v s) (λ x. Then (Yields D u s) (F x))) w L
     both_come v u from t lo F L low fits first second s σ m vals w K k le h next =
@@ -125,7 +127,7 @@ module _ (C : Called) (g : List Edge) (rest : List ℤ) (end : End) where
 
     -- the second test, behind the first
     second_comes : (d : Test) (lo : ℕ) (met unmet : Target) (t u lo2 : ℕ) → vars ≤ t → TestComes d lo met unmet (t + u) lo2
-        → (s σ σ1 : State) → Matches vars σ s → Keeps t σ σ1 → HasValues σ1 → (w : World) (K : ℕ) → Before C g rest end K (inside lo σ1) w.inputs
+        → (s σ σ1 : State) → Matches vars σ s → Keeps t σ σ1 → AreValues σ1 → (w : World) (K : ℕ) → Before C g rest end K (inside lo σ1) w.inputs
         → Comes C g rest end (Decides D d s) w (BehindTest K met unmet t σ)
     second_comes d lo met unmet t u lo2 low comes s σ σ1 m keep vals w K b =
         let c = comes s σ1 (matches_on vars t σ σ1 s low keep m) vals w K b.0 (lt_le b.0 K b.1) b.2 in
@@ -186,7 +188,7 @@ module _ (C : Called) (g : List Edge) (rest : List ℤ) (end : End) where
           let σ1 = c.0 in
           let slots = argument_slots vs (t + 1) in
           let keep = fewer_kept t (t + 1) σ σ1 (le_plus t t 1 (le_self t)) c.1 in
-          let r = over_call C g rest end D hears K c.4.0 n lo t p slots σ1 w1 node (arguments_map σ1 c.2 slots) c.4.1 c.4.2 in (
+          let r = over_call C g rest end D hears K c.4.0 n lo t p slots σ1 w1 node (values_map σ1 c.2 slots) c.4.1 c.4.2 in (
             r.0,
             subst (λ ys. D p ys w1 r.0) c.3 r.1,
             covers_map C g rest end (CameBack C g rest end K lo t σ1) (Behind K lo (Variable t) t σ)
@@ -200,7 +202,7 @@ module _ (C : Called) (g : List Edge) (rest : List ℤ) (end : End) where
             gives_comes K k from lo t (constant_lin n) n σ σ w at.0 (constant_is σ n) fits (keeps_all t σ) vals le h
         value_comes (read false x) from t lo fits low at s σ m vals w K k le h = (goes w (s x), refl, (σ, keeps_all t σ, vals, m.each x fits, (k, le, h)))
         value_comes (read true x) from t lo fits low at s σ m vals w K k le h =
-            gives_comes K k from lo t (operand_lin (Variable x)) (s x) σ σ w at.0 (operand_is σ (Variable x) ∙ m.each x fits) (subst (λ z. IsTrue (is_value z)) (m.each x fits) (vals.each x)) (keeps_all t σ) vals le h
+            gives_comes K k from lo t (operand_lin (Variable x)) (s x) σ σ w at.0 (operand_is σ (Variable x) ∙ m.each x fits) (subst (λ z. IsTrue (is_value z)) (m.each x fits) (vals x)) (keeps_all t σ) vals le h
         value_comes input from t lo fits low at s σ m vals w K k le h = input_comes K k from lo t σ w at.0 vals le h
         value_comes (call p vs) from t lo fits low at s σ m vals w K k le h =
             call_comes p vs from t lo (at_right g (values_blocks vs from (t + 1) (lo + 1)) _ at).0 (values_come vs from (t + 1) (lo + 1) fits (le_plus vars t 1 low) (at_left g (values_blocks vs from (t + 1) (lo + 1)) _ at)) s σ m vals w K k le h

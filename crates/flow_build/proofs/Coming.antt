@@ -10,18 +10,19 @@ use Rattle.flow_graph.specs.declared.graph.Edge.TheVariants.{Assign, Guard, Inpu
 use Rattle.flow_graph.specs.declared.graph.Lin.{Lin}
 use Rattle.flow_graph.specs.Runs.{End, came, stopped, failed, Place, inside, left, failing, halted, Called, Step, EndsIn, lin_value, after_call}
 use Rattle.flow_graph.specs.Shapes.{is_call}
+use Rattle.flow_graph.specs.Columns.{AreAllValues}
+use Rattle.flow_graph.specs.Laws.{ReturnsValues}
 use Rattle.flow_build.specs.declared.operand.Operand.{Operand}
 use Rattle.flow_build.specs.declared.target.Target.{Target}
 use Rattle.flow_build.specs.declared.target.Target.TheVariants.{Node, Fails, Nowhere}
-use Rattle.flow_build.specs.Operands.{rows_where, opposite_op}
-use Rattle.flow_build.specs.Blocks.{ways, exit_node, fail_node}
+use Rattle.flow_build.specs.steps.Operands.{rows_where, opposite_op}
+use Rattle.flow_build.specs.steps.Blocks.{ways, exit_node, fail_node}
 use Rattle.flow_build.proofs.FormMeaning.{comparison}
 use Rattle.c_tree.specs.Operators.{is_comparison}
 use Rattle.flow_build.proofs.Outgoing.{out, Member}
 use Rattle.flow_build.proofs.Moves.{Went, went}
-use Rattle.flow_build.proofs.Slots.{IsArguments, operand_value}
+use Rattle.flow_build.proofs.Slots.{operand_value}
 use Rattle.flow_build.proofs.Comparing.{OneOf, some_rows_hold, rows_tell, opposite_comparison}
-use Rattle.flow_build.proofs.Good.{IsGood}
 
 -- the source's result of a call says how the graph's call ends
 abbrev pub Heard : List ℤ → End → Progress ℤ → Type 0
@@ -33,8 +34,8 @@ Heard mid e (ends w spent) = ⊥
 
 -- Each end of a graph's call is a result of the source's.
 pub record Hears (C : Called) (D : Callee) : Type 0 where
-  pub good : (p : ℕ) (args : List ℤ) (w : World) (mid : List ℤ) (e : End) → IsArguments args → C p args w.inputs mid e → IsGood e
-  pub result : (p : ℕ) (args : List ℤ) (w : World) (mid : List ℤ) (e : End) → IsArguments args → C p args w.inputs mid e → (r : Progress ℤ) × D p args w r × Heard mid e r
+  pub good : (p : ℕ) (args : List ℤ) (w : World) (mid : List ℤ) (e : End) → AreAllValues args → C p args w.inputs mid e → ReturnsValues e
+  pub result : (p : ℕ) (args : List ℤ) (w : World) (mid : List ℤ) (e : End) → AreAllValues args → C p args w.inputs mid e → (r : Progress ℤ) × D p args w r × Heard mid e r
 
 is_false : (b : Bool) → (IsTrue b → ⊥) → b ≡ false
 is_false false h = refl
@@ -173,7 +174,7 @@ module _ (C : Called) (g : List Edge) (rest : List ℤ) (end : End) where
   CameBack K to t σ w v = IsTrue (is_value v) × Before K (inside to (with_slot σ t v)) w.inputs
 
   -- over a call whose results are the source's
-  pub over_call : (D : Callee) → Hears C D → (K k n to t p : ℕ) (args : List ℕ) (σ : State) (w : World) → out n g ≡ Call n to p args t ∷ [] → IsArguments (map σ args) → k ≤ K → EndsIn C g k (inside n σ) w.inputs rest end
+  pub over_call : (D : Callee) → Hears C D → (K k n to t p : ℕ) (args : List ℕ) (σ : State) (w : World) → out n g ≡ Call n to p args t ∷ [] → AreAllValues (map σ args) → k ≤ K → EndsIn C g k (inside n σ) w.inputs rest end
       → Comes (D p (map σ args)) w (CameBack K to t σ)
   over_call D hears K k n to t p args σ w h are le f =
       over_one (Comes (D p (map σ args)) w (CameBack K to t σ)) k n (Call n to p args t) σ w.inputs h f
@@ -186,9 +187,9 @@ module _ (C : Called) (g : List Edge) (rest : List ℤ) (end : End) where
       lead j e e' b mid mid' at same is more =
           subst (λ x. EndsIn C g j (after_call to t σ x) mid' rest end) same (subst (λ m. EndsIn C g j (after_call to t σ e) m rest end) is (subst (λ x. EndsIn C g j x mid rest end) at more))
 
-      ended : (j : ℕ) (e : End) (b : Place) (mid : List ℤ) → k ≡ suc j → IsGood e → b ≡ after_call to t σ e → EndsIn C g j b mid rest end → (r : Progress ℤ) → D p (map σ args) w r → Heard mid e r → Comes (D p (map σ args)) w (CameBack K to t σ)
+      ended : (j : ℕ) (e : End) (b : Place) (mid : List ℤ) → k ≡ suc j → ReturnsValues e → b ≡ after_call to t σ e → EndsIn C g j b mid rest end → (r : Progress ℤ) → D p (map σ args) w r → Heard mid e r → Comes (D p (map σ args)) w (CameBack K to t σ)
       ended j e b mid eq ok at more (goes w' v) d hd =
-          (goes w' v, d, (subst IsGood hd.1 ok, (j, at_most_by_one j k K eq le, lead j e (came (v ∷ [])) b mid w'.inputs at hd.1 hd.0 more)))
+          (goes w' v, d, (subst ReturnsValues hd.1 ok 0, (j, at_most_by_one j k K eq le, lead j e (came (v ∷ [])) b mid w'.inputs at hd.1 hd.0 more)))
       ended j e b mid eq ok at more (ends w' source_stopped) d hd =
           (ends w' source_stopped, d, over_halt j w'.inputs (lead j e stopped b mid w'.inputs at hd.1 hd.0 more))
       ended j e b mid eq ok at more (ends w' (source_failed id)) d hd =

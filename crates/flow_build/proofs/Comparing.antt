@@ -12,7 +12,7 @@ use Rattle.linear_formula.specs.declared.formula.Atom.{Atom}
 use Rattle.linear_formula.proofs.Values.{value-combination}
 use Rattle.flow_build.specs.declared.operand.Operand.{Operand}
 use Rattle.flow_build.specs.declared.operand.Operand.TheVariants.{Variable, Constant}
-use Rattle.flow_build.specs.Operands.{operand_sum, row, less, at_most, rows_where, opposite_op}
+use Rattle.flow_build.specs.steps.Operands.{operand_sum, row, less, at_most, rows_where, opposite_op}
 use Rattle.flow_build.proofs.FormMeaning.{comparison}
 use Rattle.c_tree.specs.Operators.{is_comparison}
 use Rattle.flow_build.proofs.Slots.{operand_value}

@@ -8,9 +8,9 @@ use Rattle.flow_graph.specs.declared.graph.Edge.{Edge}
 use Rattle.flow_graph.specs.declared.graph.Edge.TheVariants.{Entry}
 use Rattle.flow_graph.specs.declared.graph.Graph.{Graph}
 use Rattle.flow_graph.specs.WellFormed.{IsEdge, IsGraph, max_slots}
-use Rattle.flow_build.specs.Operands.{constant_lin}
-use Rattle.flow_build.specs.Blocks.{edges_of, exit_node, fail_node, end_node, return_node, entry_node, body_node, first_free}
-use Rattle.flow_build.specs.Procedures.{procedure_blocks, procedure_edges, nodes_of_procedure, slots_of_procedure, IsGraphOf, AreGraphsOf}
+use Rattle.flow_build.specs.steps.Operands.{constant_lin}
+use Rattle.flow_build.specs.steps.Blocks.{edges_of, exit_node, fail_node, end_node, return_node, entry_node, body_node, first_free}
+use Rattle.flow_build.specs.steps.Procedures.{procedure_blocks, procedure_edges, nodes_of_procedure, slots_of_procedure, IsGraphOf, AreGraphsOf}
 use Rattle.flow_build.specs.Promises.{IsBoundedEdge, IsBounded, AreBounded}
 use Rattle.flow_build.proofs.Translated.{AllPlain}
 use Rattle.flow_build.proofs.Sizes.{procedure_size, few_slots_all}

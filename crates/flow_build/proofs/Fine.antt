@@ -20,8 +20,8 @@ use Rattle.flow_build.specs.declared.operand.Operand.{Operand}
 use Rattle.flow_build.specs.declared.operand.Operand.TheVariants.{Variable, Constant}
 use Rattle.flow_build.specs.declared.target.Target.{Target}
 use Rattle.flow_build.specs.declared.target.Target.TheVariants.{Node, Fails, Nowhere}
-use Rattle.flow_build.specs.Operands.{is_operand, multiple_parts, constant_lin, operand_lin, row, less, at_most, rows_where}
-use Rattle.flow_build.specs.Blocks.{exit_node, fail_node, entry_node, way, ways}
+use Rattle.flow_build.specs.steps.Operands.{is_operand, multiple_parts, constant_lin, operand_lin, row, less, at_most, rows_where}
+use Rattle.flow_build.specs.steps.Blocks.{exit_node, fail_node, entry_node, way, ways}
 use Rattle.flow_build.specs.Promises.{IsCoefficient, IsBoundedEdge, is_small_row, are_small_rows, statements_call}
 use Rattle.flow_build.proofs.SmallRows.{and_is, row_small}
 use Rattle.flow_build.proofs.Terms.{are_ascending, row_ascends, rows_terms}

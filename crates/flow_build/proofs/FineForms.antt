@@ -9,11 +9,11 @@ use Rattle.flow_graph.specs.declared.graph.Edge.TheVariants.{Assign, Call}
 use Rattle.flow_build.specs.declared.operand.Operand.TheVariants.{Variable}
 use Rattle.flow_build.specs.declared.target.Target.{Target}
 use Rattle.flow_build.specs.declared.target.Target.TheVariants.{Node}
-use Rattle.flow_build.specs.Forms.{Value, literal, read, input, call, scale, sum, difference, truth, Values, no_values, value, Test, compare, opposite, both, either}
-use Rattle.flow_build.specs.Operands.{constant_lin, scaled_lin, operand_lin, sum_lin, difference_lin, constant_of, rows_where, opposite_op}
+use Rattle.flow_build.specs.steps.Forms.{Value, literal, read, input, call, scale, sum, difference, truth, Values, no_values, value, Test, compare, opposite, both, either}
+use Rattle.flow_build.specs.steps.Operands.{constant_lin, scaled_lin, operand_lin, sum_lin, difference_lin, constant_of, rows_where, opposite_op}
 use Rattle.std.specs.Prelude.{◌+ℤ◌, ◌-ℤ◌, ◌*ℤ◌}
-use Rattle.flow_build.specs.Blocks.{Block, edges_of, one, ways}
-use Rattle.flow_build.specs.Lowering.{operand_at, landing, nodes_of, nodes_of_all, nodes_of_test, slots_of, slots_of_all, slots_of_test, argument_slot, argument_slots, landing_of_all, value_blocks, values_blocks, test_blocks}
+use Rattle.flow_build.specs.steps.Blocks.{Block, edges_of, one, ways}
+use Rattle.flow_build.specs.steps.Lowering.{operand_at, landing, nodes_of, nodes_of_all, nodes_of_test, slots_of, slots_of_all, slots_of_test, argument_slot, argument_slots, landing_of_all, value_blocks, values_blocks, test_blocks}
 use Rattle.flow_build.specs.Promises.{IsCoefficient, statements_call}
 use Rattle.flow_build.proofs.FormMeaning.{FitsValue, FitsValues, FitsTest, IsInSlot}
 use Rattle.flow_build.proofs.SmallRows.{and_is}

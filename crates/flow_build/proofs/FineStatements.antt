@@ -5,10 +5,10 @@ use Rattle.c_tree.specs.Syntax.{Expression, Statement, block, set, ignore, assum
 use Rattle.flow_graph.specs.declared.graph.Edge.TheVariants.{Assign, Guard}
 use Rattle.flow_build.specs.declared.target.Target.{Target}
 use Rattle.flow_build.specs.declared.target.Target.TheVariants.{Node, Fails, Nowhere}
-use Rattle.flow_build.specs.Translation.{value_of, test_of}
-use Rattle.flow_build.specs.Operands.{constant_lin, operand_lin}
-use Rattle.flow_build.specs.Blocks.{Block, one, return_node}
-use Rattle.flow_build.specs.Lowering.{operand_at, landing, nodes_of_test, slots_of, slots_of_test, argument_slot, value_blocks, test_blocks, between, nodes_between, result_of, nodes_of_statement, nodes_of_statements, slots_of_statement, slots_of_statements, return_edge, statement_blocks, statements_blocks}
+use Rattle.flow_build.specs.steps.Translation.{value_of, test_of}
+use Rattle.flow_build.specs.steps.Operands.{constant_lin, operand_lin}
+use Rattle.flow_build.specs.steps.Blocks.{Block, one, return_node}
+use Rattle.flow_build.specs.steps.Lowering.{operand_at, landing, nodes_of_test, slots_of, slots_of_test, argument_slot, value_blocks, test_blocks, between, nodes_between, result_of, nodes_of_statement, nodes_of_statements, slots_of_statement, slots_of_statements, return_edge, statement_blocks, statements_blocks}
 use Rattle.flow_build.specs.Promises.{IsCoefficient, calls, factors, statement_calls, statements_call, statement_factors, statements_factors}
 use Rattle.flow_build.proofs.Translated.{IsPlain, RunsPlain, AllPlain, value_fits, test_fits, result_fits, result_in_slot}
 use Rattle.flow_build.proofs.Allowed.{or_left, or_right, Allows, allows_left, allows_right, AllowsOf, value_keeps, test_keeps, result_keeps}

@@ -5,7 +5,7 @@ use Rattle.c_tree.specs.declared.tree.Op.{Op}
 use Rattle.c_tree.specs.declared.tree.Op.TheVariants.{Less, LessEqual, Greater, GreaterEqual, Equal, Unequal}
 use Rattle.c_tree.specs.Operators.{is_comparison}
 use Rattle.c_tree.specs.Meaning.{State, Relation, Gives, Then, Choice, ExactOrStopped, TakesInput, Callee, is_value, is_zero, bit}
-use Rattle.flow_build.specs.Forms.{Value, literal, read, input, call, scale, sum, difference, truth, Values, no_values, value, Test, compare, opposite, both, either}
+use Rattle.flow_build.specs.steps.Forms.{Value, literal, read, input, call, scale, sum, difference, truth, Values, no_values, value, Test, compare, opposite, both, either}
 
 abbrev pub comparison : Op → ℤ → ℤ → Bool
 comparison Less x y = int_lt x y

@@ -5,15 +5,17 @@ use Rattle.c_tree.specs.Meaning.{State, with_slot, World, Progress, ends, Ending
 use Rattle.flow_graph.specs.declared.graph.Edge.{Edge}
 use Rattle.flow_graph.specs.declared.graph.Edge.TheVariants.{Assign, Guard, Return}
 use Rattle.flow_graph.specs.Runs.{lin_value, End, came, inside, Called}
+use Rattle.flow_graph.specs.Columns.{AreValues, AreAllValues}
+use Rattle.flow_graph.proofs.Values.{values_with}
 use Rattle.flow_build.specs.declared.target.Target.{Target}
 use Rattle.flow_build.specs.declared.target.Target.TheVariants.{Node, Fails, Nowhere}
-use Rattle.flow_build.specs.Translation.{value_of, test_of}
-use Rattle.flow_build.specs.Operands.{constant_lin, operand_lin}
-use Rattle.flow_build.specs.Blocks.{one, exit_node, return_node}
-use Rattle.flow_build.specs.Lowering.{operand_at, landing, nodes_of_test, argument_slot, value_blocks, test_blocks, between, nodes_between, result_of, nodes_of_statement, return_edge, statement_blocks, statements_blocks}
+use Rattle.flow_build.specs.steps.Translation.{value_of, test_of}
+use Rattle.flow_build.specs.steps.Operands.{constant_lin, operand_lin}
+use Rattle.flow_build.specs.steps.Blocks.{one, exit_node, return_node}
+use Rattle.flow_build.specs.steps.Lowering.{operand_at, landing, nodes_of_test, argument_slot, value_blocks, test_blocks, between, nodes_between, result_of, nodes_of_statement, return_edge, statement_blocks, statements_blocks}
 use Rattle.flow_build.proofs.Translated.{IsPlain, RunsPlain, AllPlain, value_fits, result_fits, result_in_slot, test_fits, by_test, by_value, by_result}
 use Rattle.flow_build.proofs.Outgoing.{out, At}
-use Rattle.flow_build.proofs.Slots.{slot_there, HasValues, values_with, IsArguments, Matches, matches_on, matches_with, operand_is, operand_has, constant_is, argument_is}
+use Rattle.flow_build.proofs.Slots.{slot_there, Matches, matches_on, matches_with, operand_is, operand_has, constant_is, argument_is}
 use Rattle.flow_build.proofs.Reaching.{Told, Reach, Covers, then_covers, goes_on, Meets, passed, assigned, returns}
 use Rattle.flow_build.proofs.ForwardValues.{at_two, at_three, chosen, AfterValue, AfterTest, value_reaches, test_reaches}
 
@@ -37,7 +39,7 @@ module _ (C : Called) (g : List Edge) (rest : List ℤ) (end : End) (t : ℕ) (a
   Came z ins = (end ≡ came (z ∷ [])) × (rest ≡ ins)
 
   abbrev pub Here : ℕ → World → State → Type 0
-  Here n w s = (σ : State) → Matches t σ s → HasValues σ → Comes n σ w.inputs
+  Here n w s = (σ : State) → Matches t σ s → AreValues σ → Comes n σ w.inputs
 
   ended : {A : Type 0} (K : World → A → Type 0) (w : World) (e : Ending) (r : Progress A) → r ≡ ends w e → Cov K r → Cov K (ends w e)
   ended K w e r h cov = subst (Cov K) h cov
@@ -77,16 +79,16 @@ module _ (C : Called) (g : List Edge) (rest : List ℤ) (end : End) (t : ℕ) (a
     -- a statement's part of the graph
     abbrev pub Forth : (State → Relation Flow) → ℕ → ℕ → ℕ → ℕ → Type 0
     Forth S from to brk con =
-        (s σ : State) → Matches t σ s → HasValues σ → (w : World) (r : Progress Flow) → S s w r → Cov (AfterFlow to brk con) r → Comes from σ w.inputs
+        (s σ : State) → Matches t σ s → AreValues σ → (w : World) (r : Progress Flow) → S s w r → Cov (AfterFlow to brk con) r → Comes from σ w.inputs
 
     -- a condition's part: P follows where it's 0, and Q elsewhere
     abbrev pub TestForth : (State → Relation ℤ) → ℕ → Target → Target → Type 1
     TestForth T from met unmet =
-        (P Q : Relation Flow) (K : World → Flow → Type 0) (s σ : State) → Matches t σ s → HasValues σ → (w : World) (r : Progress Flow) → Then (T s) (λ v. Choice (is_zero v) P Q) w r → Cov K r
-        → ((w' : World) (σ' : State) → Matches t σ' s → HasValues σ' → Q w' r → Met met σ' w'.inputs)
-        → ((w' : World) (σ' : State) → Matches t σ' s → HasValues σ' → P w' r → Met unmet σ' w'.inputs) → Comes from σ w.inputs
+        (P Q : Relation Flow) (K : World → Flow → Type 0) (s σ : State) → Matches t σ s → AreValues σ → (w : World) (r : Progress Flow) → Then (T s) (λ v. Choice (is_zero v) P Q) w r → Cov K r
+        → ((w' : World) (σ' : State) → Matches t σ' s → AreValues σ' → Q w' r → Met met σ' w'.inputs)
+        → ((w' : World) (σ' : State) → Matches t σ' s → AreValues σ' → P w' r → Met unmet σ' w'.inputs) → Comes from σ w.inputs
 
-    module _ (D : Callee) (told : (p : ℕ) (args : List ℤ) (w : World) (r : Progress ℤ) → IsArguments args → D p args w r → Told (C p args w.inputs) r) where
+    module _ (D : Callee) (told : (p : ℕ) (args : List ℤ) (w : World) (r : Progress ℤ) → AreAllValues args → D p args w r → Told (C p args w.inputs) r) where
       abbrev Next : ℕ → (State → Relation ℤ) → (S B : State → Relation Flow) → State → Relation Flow
       Next n T S B s = Then (B s) (λ f. AfterBody f (λ s1. Then (S s1) (λ g. AfterBody g (Turns false D n T S B))))
 

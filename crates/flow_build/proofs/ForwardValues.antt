@@ -4,16 +4,18 @@ use Rattle.c_tree.specs.Meaning.{State, World, Progress, Relation, Gives, Then, 
 use Rattle.flow_graph.specs.declared.graph.Edge.{Edge}
 use Rattle.flow_graph.specs.declared.graph.Edge.TheVariants.{Assign, Call}
 use Rattle.flow_graph.specs.Runs.{End, inside, Called}
+use Rattle.flow_graph.specs.Columns.{AreValues, AreAllValues}
+use Rattle.flow_graph.proofs.Values.{values_map}
 use Rattle.flow_build.specs.declared.target.Target.{Target}
 use Rattle.flow_build.specs.declared.target.Target.TheVariants.{Node}
 use Rattle.flow_build.specs.declared.operand.Operand.TheVariants.{Variable}
-use Rattle.flow_build.specs.Forms.{Value, literal, read, input, call, scale, sum, difference, truth, Values, no_values, value, Test, compare, opposite, both, either}
-use Rattle.flow_build.specs.Operands.{constant_lin, scaled_lin, operand_lin, sum_lin, difference_lin, rows_where, opposite_op}
-use Rattle.flow_build.specs.Blocks.{Block, one, ways}
-use Rattle.flow_build.specs.Lowering.{operand_at, landing, nodes_of, nodes_of_test, slots_of, slots_of_test, argument_slots, landing_of_all, value_blocks, values_blocks, test_blocks}
+use Rattle.flow_build.specs.steps.Forms.{Value, literal, read, input, call, scale, sum, difference, truth, Values, no_values, value, Test, compare, opposite, both, either}
+use Rattle.flow_build.specs.steps.Operands.{constant_lin, scaled_lin, operand_lin, sum_lin, difference_lin, rows_where, opposite_op}
+use Rattle.flow_build.specs.steps.Blocks.{Block, one, ways}
+use Rattle.flow_build.specs.steps.Lowering.{operand_at, landing, nodes_of, nodes_of_test, slots_of, slots_of_test, argument_slots, landing_of_all, value_blocks, values_blocks, test_blocks}
 use Rattle.flow_build.proofs.FormMeaning.{Yields, YieldsAll, Decides, comparison, FitsValue, FitsValues, FitsTest}
 use Rattle.flow_build.proofs.Outgoing.{out, At, at_left, at_right}
-use Rattle.flow_build.proofs.Slots.{HasValues, IsArguments, arguments_map, Matches, Keeps, keeps_all, keeps_on, matches_on, operand_value, operand_is, constant_is, scaled_is, sum_is, difference_is, operand_kept, argument_is}
+use Rattle.flow_build.proofs.Slots.{Matches, Keeps, keeps_all, keeps_on, matches_on, operand_value, operand_is, constant_is, scaled_is, sum_is, difference_is, operand_kept, argument_is}
 use Rattle.flow_build.proofs.Reaching.{Told, Reach, Covers, then_covers, covers_on, goes_on, Meets, value_after, exact_after, input_after, call_after, compared_meets}
 
 pub at_two : (g : List Edge) (xs ys : List Block) → At g (xs ++ ys) → At g xs × At g ys
@@ -45,26 +47,26 @@ module _ (C : Called) (g : List Edge) (rest : List ℤ) (end : End) where
   chosen true P Q w r met unmet σ ins h yes_case no_case = yes_case h
   chosen false P Q w r met unmet σ ins h yes_case no_case = no_case h
 
-  module _ (D : Callee) (told : (p : ℕ) (args : List ℤ) (w : World) (r : Progress ℤ) → IsArguments args → D p args w r → Told (C p args w.inputs) r) (vars : ℕ) where
+  module _ (D : Callee) (told : (p : ℕ) (args : List ℤ) (w : World) (r : Progress ℤ) → AreAllValues args → D p args w r → Told (C p args w.inputs) r) (vars : ℕ) where
     -- what follows a value: at the next node, with its value in its operand
     abbrev pub AfterValue : Value → ℕ → ℕ → State → World → ℤ → Type 0
-    AfterValue v to t σ w z = (σ' : State) → Keeps t σ σ' → HasValues σ' → operand_value σ' (operand_at v t) ≡ z → Comes to σ' w.inputs
+    AfterValue v to t σ w z = (σ' : State) → Keeps t σ σ' → AreValues σ' → operand_value σ' (operand_at v t) ≡ z → Comes to σ' w.inputs
 
     abbrev pub AfterValues : Values → ℕ → ℕ → State → World → List ℤ → Type 0
-    AfterValues vs to t σ w zs = (σ' : State) → Keeps t σ σ' → HasValues σ' → map σ' (argument_slots vs t) ≡ zs → Comes to σ' w.inputs
+    AfterValues vs to t σ w zs = (σ' : State) → Keeps t σ σ' → AreValues σ' → map σ' (argument_slots vs t) ≡ zs → Comes to σ' w.inputs
 
     abbrev pub AfterTest : Target → Target → ℕ → State → World → Bool → Type 0
-    AfterTest met unmet t σ w b = (σ' : State) → Keeps t σ σ' → HasValues σ' → Met (cond b met unmet) σ' w.inputs
+    AfterTest met unmet t σ w b = (σ' : State) → Keeps t σ σ' → AreValues σ' → Met (cond b met unmet) σ' w.inputs
 
     -- a value's part of the graph
     abbrev pub ValueForth : Value → ℕ → ℕ → ℕ → Type 0
     ValueForth v from to t =
-        (s σ : State) → Matches vars σ s → HasValues σ → (w : World) (r : Progress ℤ) → Yields D v s w r → Cov (AfterValue v to t σ) r → Comes from σ w.inputs
+        (s σ : State) → Matches vars σ s → AreValues σ → (w : World) (r : Progress ℤ) → Yields D v s w r → Cov (AfterValue v to t σ) r → Comes from σ w.inputs
 
     -- one value and then another
     pair_reaches : {A : Type 0} (v u : Value) (from m n t : ℕ) → FitsValue vars v → vars ≤ t → ValueForth v from m t → ValueForth u m n (t + slots_of v)
-        → (Q : ℤ → ℤ → Relation A) (K : World → A → Type 0) (s σ : State) → Matches vars σ s → HasValues σ → (w : World) (r : Progress A) → Then (Yields D v s) (λ x. Then (Yields D u s) (λ y. Q x y)) w r → Cov K r
-        → ((w' : World) (x y : ℤ) (σ' : State) → Keeps t σ σ' → HasValues σ' → operand_value σ' (operand_at v t) ≡ x → operand_value σ' (operand_at u (t + slots_of v)) ≡ y → Q x y w' r → Comes n σ' w'.inputs) → Comes from σ w.inputs
+        → (Q : ℤ → ℤ → Relation A) (K : World → A → Type 0) (s σ : State) → Matches vars σ s → AreValues σ → (w : World) (r : Progress A) → Then (Yields D v s) (λ x. Then (Yields D u s) (λ y. Q x y)) w r → Cov K r
+        → ((w' : World) (x y : ℤ) (σ' : State) → Keeps t σ σ' → AreValues σ' → operand_value σ' (operand_at v t) ≡ x → operand_value σ' (operand_at u (t + slots_of v)) ≡ y → Q x y w' r → Comes n σ' w'.inputs) → Comes from σ w.inputs
     pair_reaches v u from m n t fits le fv fu Q K s σ ms vals w r h cov more =
         fv s σ ms vals w h.0 h.1
         (then_covers C g rest end (λ x. Then (Yields D u s) (λ y. Q x y)) K (AfterValue v m t σ) r (λ w1 x q σ1 keep1 vals1 x_is.
@@ -74,14 +76,14 @@ module _ (C : Called) (g : List Edge) (rest : List ℤ) (end : End) where
 
     -- the bit of a decision
     truth_after : (b : Bool) (lo t : ℕ) (σ σ0 : State) (w : World) → out (lo + 1) g ≡ Assign (lo + 1) lo t (constant_lin (pos 1)) ∷ [] → out (lo + 2) g ≡ Assign (lo + 2) lo t (constant_lin (pos 0)) ∷ []
-        → Keeps t σ0 σ → HasValues σ → ((σ' : State) → Keeps t σ0 σ' → HasValues σ' → σ' t ≡ bit b → Comes lo σ' w.inputs) → Met (cond b (Node (lo + 1)) (Node (lo + 2))) σ w.inputs
+        → Keeps t σ0 σ → AreValues σ → ((σ' : State) → Keeps t σ0 σ' → AreValues σ' → σ' t ≡ bit b → Comes lo σ' w.inputs) → Met (cond b (Node (lo + 1)) (Node (lo + 2))) σ w.inputs
     truth_after true lo t σ σ0 w one_at zero_at keep vals more =
         value_after C g rest end (lo + 1) lo t (constant_lin (pos 1)) (pos 1) σ σ0 w one_at (constant_is σ (pos 1)) refl keep vals more
     truth_after false lo t σ σ0 w one_at zero_at keep vals more =
         value_after C g rest end (lo + 2) lo t (constant_lin (pos 0)) (pos 0) σ σ0 w zero_at (constant_is σ (pos 0)) refl keep vals more
 
     mutual
-      pub value_reaches : (v : Value) (from t lo : ℕ) → FitsValue vars v → vars ≤ t → At g (value_blocks v from t lo) → (s σ : State) → Matches vars σ s → HasValues σ → (w : World) (r : Progress ℤ) → Yields D v s w r → Cov (AfterValue v (landing v from lo) t σ) r → Comes from σ w.inputs
+      pub value_reaches : (v : Value) (from t lo : ℕ) → FitsValue vars v → vars ≤ t → At g (value_blocks v from t lo) → (s σ : State) → Matches vars σ s → AreValues σ → (w : World) (r : Progress ℤ) → Yields D v s w r → Cov (AfterValue v (landing v from lo) t σ) r → Comes from σ w.inputs
       value_reaches (literal false n) from t lo fits le at s σ ms vals w r h cov =
           goes_on C g rest end (AfterValue (literal false n) from t σ) w n r h cov σ (keeps_all t σ) vals refl
       value_reaches (literal true n) from t lo fits le at s σ ms vals w r h cov =
@@ -89,7 +91,7 @@ module _ (C : Called) (g : List Edge) (rest : List ℤ) (end : End) where
       value_reaches (read false x) from t lo fits le at s σ ms vals w r h cov =
           goes_on C g rest end (AfterValue (read false x) from t σ) w (s x) r h cov σ (keeps_all t σ) vals (ms.each x fits)
       value_reaches (read true x) from t lo fits le at s σ ms vals w r h cov =
-          value_after C g rest end from lo t (operand_lin (Variable x)) (s x) σ σ w at.0 (operand_is σ (Variable x) ∙ ms.each x fits) (subst (λ z. IsTrue (is_value z)) (ms.each x fits) (vals.each x)) (keeps_all t σ) vals (goes_on C g rest end (AfterValue (read true x) lo t σ) w (s x) r h cov)
+          value_after C g rest end from lo t (operand_lin (Variable x)) (s x) σ σ w at.0 (operand_is σ (Variable x) ∙ ms.each x fits) (subst (λ z. IsTrue (is_value z)) (ms.each x fits) (vals x)) (keeps_all t σ) vals (goes_on C g rest end (AfterValue (read true x) lo t σ) w (s x) r h cov)
       value_reaches input from t lo fits le at s σ ms vals w r h cov =
           input_after C g rest end from lo t σ w w.inputs r at.0 refl h vals cov
       value_reaches (call p vs) from t lo fits le at s σ ms vals w r h cov =
@@ -98,7 +100,7 @@ module _ (C : Called) (g : List Edge) (rest : List ℤ) (end : End) where
           let parts = at_two g (values_blocks vs from (t + 1) (lo + 1)) (one n (Call n lo p args t) ∷ []) at in
           values_reach vs from (t + 1) (lo + 1) fits (omega arith) parts.0 s σ ms vals w h.0 h.1
           (then_covers C g rest end (D p) (AfterValue (call p vs) lo t σ) (AfterValues vs n (t + 1) σ) r (λ w1 zs q σ1 keep1 vals1 args_are.
-          let c = subst (λ x. Told (C p x w1.inputs) r) (sym args_are) (told p zs w1 r (subst IsArguments args_are (arguments_map σ1 vals1 args)) q) in
+          let c = subst (λ x. Told (C p x w1.inputs) r) (sym args_are) (told p zs w1 r (subst AreAllValues args_are (values_map σ1 vals1 args)) q) in
           call_after C g rest end n lo t p args σ1 σ w1 r parts.1.0 c (keeps_lower t (t + 1) σ σ1 (omega arith) keep1) vals1 cov) h.0 h.2 cov)
       value_reaches (scale c v) from t lo fits le at s σ ms vals w r h cov =
           let n = landing v from (lo + 1) in
@@ -131,7 +133,7 @@ module _ (C : Called) (g : List Edge) (rest : List ℤ) (end : End) where
           (then_covers C g rest end (λ b. Gives (bit b)) (AfterValue (truth c) lo t σ) (AfterTest (Node (lo + 1)) (Node (lo + 2)) (t + 1) σ) r (λ w1 b q σ1 keep1 vals1.
           truth_after b lo t σ1 σ w1 parts.1.0 parts.1.1.0 (keeps_lower t (t + 1) σ σ1 (omega arith) keep1) vals1 (goes_on C g rest end (AfterValue (truth c) lo t σ) w1 (bit b) r q cov)) h.0 h.2 cov)
 
-      pub values_reach : (vs : Values) (from t lo : ℕ) → FitsValues vars vs → vars ≤ t → At g (values_blocks vs from t lo) → (s σ : State) → Matches vars σ s → HasValues σ → (w : World) (r : Progress (List ℤ)) → YieldsAll D vs s w r → Cov (AfterValues vs (landing_of_all vs from lo) t σ) r → Comes from σ w.inputs
+      pub values_reach : (vs : Values) (from t lo : ℕ) → FitsValues vars vs → vars ≤ t → At g (values_blocks vs from t lo) → (s σ : State) → Matches vars σ s → AreValues σ → (w : World) (r : Progress (List ℤ)) → YieldsAll D vs s w r → Cov (AfterValues vs (landing_of_all vs from lo) t σ) r → Comes from σ w.inputs
       values_reach no_values from t lo fits le at s σ ms vals w r h cov =
           goes_on C g rest end (AfterValues no_values from t σ) w [] r h cov σ (keeps_all t σ) vals refl
       values_reach (value v vs) from t lo fits le at s σ ms vals w r h cov =
@@ -146,7 +148,7 @@ module _ (C : Called) (g : List Edge) (rest : List ℤ) (end : End) where
           goes_on C g rest end (AfterValues (value v vs) n t σ) w2 (x ∷ xs) r k cov σ2 (keeps_on t t2 σ σ1 σ2 (omega arith) keep1 keep2) vals2
           (ap (λ z. z ∷ map σ2 (argument_slots vs t2)) (argument_is t v σ2 fits.0 ∙ operand_kept vars t v σ1 σ2 le fits.1 keep2 ∙ x_is) ∙ ap (λ l. x ∷ l) xs_are)) q.0 q.2 cov)) h.0 h.2 cov)
 
-      pub test_reaches : (c : Test) (from : ℕ) (met unmet : Target) (t lo : ℕ) → FitsTest vars c → vars ≤ t → At g (test_blocks c from met unmet t lo) → (s σ : State) → Matches vars σ s → HasValues σ → (w : World) (r : Progress Bool) → Decides D c s w r → Cov (AfterTest met unmet t σ) r → Comes from σ w.inputs
+      pub test_reaches : (c : Test) (from : ℕ) (met unmet : Target) (t lo : ℕ) → FitsTest vars c → vars ≤ t → At g (test_blocks c from met unmet t lo) → (s σ : State) → Matches vars σ s → AreValues σ → (w : World) (r : Progress Bool) → Decides D c s w r → Cov (AfterTest met unmet t σ) r → Comes from σ w.inputs
       test_reaches (compare op v u) from met unmet t lo fits le at s σ ms vals w r h cov =
           let m = landing v from lo in
           let n = landing u m (lo + nodes_of v) in

@@ -2,7 +2,7 @@
 use Rattle.std.proofs.Common.{◌≡◌, ℕ, ◌<◌, ◌≤◌, List, [], ◌∷◌, ◌++◌, Some, refl, sym, ap, ◌∙◌, subst, ◌⊎◌, inl, inr, append_assoc, arith}
 use Rattle.flow_graph.specs.declared.graph.Edge.{Edge}
 use Rattle.flow_graph.specs.Shapes.{source}
-use Rattle.flow_build.specs.Blocks.{Block, edges_of}
+use Rattle.flow_build.specs.steps.Blocks.{Block, edges_of}
 use Rattle.flow_build.proofs.Outgoing.{out, out-append, out_here, out_other, left_part, right_part, no_part, At}
 
 pub edges-append : (xs ys : List Block) → edges_of (xs ++ ys) ≡ edges_of xs ++ edges_of ys

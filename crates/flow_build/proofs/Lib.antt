@@ -24,7 +24,6 @@ pub mod Measures
 pub mod Plain
 pub mod Making
 pub mod Whole
-pub mod Good
 pub mod Coming
 pub mod BackwardValues
 pub mod BackwardStatements

@@ -8,7 +8,7 @@ use Rattle.flow_graph.specs.declared.graph.Edge.TheVariants.{Call}
 use Rattle.flow_graph.specs.declared.graph.Graph.{Graph}
 use Rattle.flow_graph.specs.Linked.{AreGraphs}
 use Rattle.flow_graph.specs.Linked as linked
-use Rattle.flow_build.specs.Procedures.{AreGraphsOf}
+use Rattle.flow_build.specs.steps.Procedures.{AreGraphsOf}
 use Rattle.flow_build.specs.Promises.{calls, calls_any, result_calls, statement_calls, statements_call}
 use Rattle.flow_build.proofs.Translated.{AllPlain}
 use Rattle.flow_build.proofs.Facts.{bounded, procedure_of, graph_of}

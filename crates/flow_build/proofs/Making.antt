@@ -5,11 +5,11 @@ use Rattle.flow_graph.specs.WellFormed.{IsGraph}
 use Rattle.flow_graph.specs.declared.graph.Edge.{Edge}
 use Rattle.flow_graph.specs.declared.graph.Edge.TheVariants.{Entry, Assign, Guard, Return}
 use Rattle.flow_build.specs.declared.builder.Builder.{Builder}
-use Rattle.flow_build.specs.Operands.{constant_lin}
-use Rattle.flow_build.specs.Blocks.{edges_of}
-use Rattle.flow_build.specs.Lowering.{statement_blocks, slots_of_statements}
-use Rattle.flow_build.specs.Procedures.{nodes_of_procedure, slots_of_procedure, procedure_edges}
-use Rattle.flow_build.specs.StatementAdditions.{AddsStatement}
+use Rattle.flow_build.specs.steps.Operands.{constant_lin}
+use Rattle.flow_build.specs.steps.Blocks.{edges_of}
+use Rattle.flow_build.specs.steps.Lowering.{statement_blocks, slots_of_statements}
+use Rattle.flow_build.specs.steps.Procedures.{nodes_of_procedure, slots_of_procedure, procedure_edges}
+use Rattle.flow_build.specs.steps.StatementAdditions.{AddsStatement}
 use Rattle.flow_build.proofs.Plain.{slots_are}
 
 -- the edges round a body
@@ -25,7 +25,7 @@ pub makes : (p : PureProcedure) (b0 b1 : Builder) (free slots : ℕ) (edges : Li
     AddsStatement (block p.body) (record { gives = p.gives; free = p.slots }) 5 (record { to = 2; on_break = 2; on_continue = 2 }) b0 b1 free → slots ≡ max free (p.slots + 1) → edges ≡ b1.edges.items →
     Makes p b1.next slots edges
 makes p b0 b1 free slots edges e n h s is = record {
-  nodes_are = h.blocks.next ∙ ap (λ i. i + Rattle.flow_build.specs.Lowering.nodes_of_statements p.body) n;
+  nodes_are = h.blocks.next ∙ ap (λ i. i + Rattle.flow_build.specs.steps.Lowering.nodes_of_statements p.body) n;
   slots_are = s ∙ slots_are p.slots (slots_of_statements p.body) free h.slot;
   edges_are = is ∙ h.blocks.edges ∙ ap (λ es. es ++ edges_of (statement_blocks p.gives p.slots (block p.body) 5 2 2 2 b0.next)) e
       ∙ ap (λ lo. frame_edges p.params p.slots ++ edges_of (statement_blocks p.gives p.slots (block p.body) 5 2 2 2 lo)) n;

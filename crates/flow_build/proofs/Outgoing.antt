@@ -5,7 +5,7 @@ use Rattle.std.proofs.lemmas.Bool.{eq-eqb, ne_eqb}
 use Rattle.std.proofs.lemmas.Bool.Decides.{eqb_tells}
 use Rattle.flow_graph.specs.declared.graph.Edge.{Edge}
 use Rattle.flow_graph.specs.Shapes.{source}
-use Rattle.flow_build.specs.Blocks.{Block}
+use Rattle.flow_build.specs.steps.Blocks.{Block}
 
 abbrev pub leaves : Option ℕ → ℕ → Bool
 leaves None n = false

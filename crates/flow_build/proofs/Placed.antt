@@ -8,12 +8,12 @@ use Rattle.flow_graph.specs.Shapes.{source}
 use Rattle.flow_build.specs.declared.target.Target.{Target}
 use Rattle.flow_build.specs.declared.target.Target.TheVariants.{Node, Fails, Nowhere}
 use Rattle.flow_build.specs.declared.operand.Operand.TheVariants.{Variable}
-use Rattle.flow_build.specs.Forms.{Value, literal, read, input, call, scale, sum, difference, truth, Values, no_values, value, Test, compare, opposite, both, either}
-use Rattle.flow_build.specs.Translation.{value_of, test_of}
-use Rattle.flow_build.specs.Operands.{constant_lin, scaled_lin, operand_lin, sum_lin, difference_lin, rows_where, opposite_op}
-use Rattle.flow_build.specs.Blocks.{Block, edges_of, one, way, ways, exit_node, end_node, return_node, entry_node, body_node, first_free}
-use Rattle.flow_build.specs.Lowering.{operand_at, landing, nodes_of, nodes_of_all, nodes_of_test, slots_of, slots_of_test, argument_slot, argument_slots, landing_of_all, value_blocks, values_blocks, test_blocks, result_of, nodes_of_statement, nodes_of_statements, return_edge, statement_blocks, statements_blocks}
-use Rattle.flow_build.specs.Procedures.{procedure_blocks, procedure_edges}
+use Rattle.flow_build.specs.steps.Forms.{Value, literal, read, input, call, scale, sum, difference, truth, Values, no_values, value, Test, compare, opposite, both, either}
+use Rattle.flow_build.specs.steps.Translation.{value_of, test_of}
+use Rattle.flow_build.specs.steps.Operands.{constant_lin, scaled_lin, operand_lin, sum_lin, difference_lin, rows_where, opposite_op}
+use Rattle.flow_build.specs.steps.Blocks.{Block, edges_of, one, way, ways, exit_node, end_node, return_node, entry_node, body_node, first_free}
+use Rattle.flow_build.specs.steps.Lowering.{operand_at, landing, nodes_of, nodes_of_all, nodes_of_test, slots_of, slots_of_test, argument_slot, argument_slots, landing_of_all, value_blocks, values_blocks, test_blocks, result_of, nodes_of_statement, nodes_of_statements, return_edge, statement_blocks, statements_blocks}
+use Rattle.flow_build.specs.steps.Procedures.{procedure_blocks, procedure_edges}
 use Rattle.flow_build.proofs.Outgoing.{At}
 use Rattle.flow_build.proofs.Fresh.{Fresh, fresh_none, fresh_both, Leave, leave_both, fresh_block, Range, fresh_within, fresh_then, fresh_three, fresh_first}
 

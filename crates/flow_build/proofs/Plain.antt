@@ -8,7 +8,7 @@ use Rattle.c_tree.specs.declared.tree.Op.TheVariants.{Add, Subtract, Multiply, L
 use Rattle.c_tree.specs.Syntax.{Expression, literal, read, input, call, negate, not as not_of, binary, Expressions, no_expressions, expression, Statement, block, set, ignore, assume, assert, if_else, loop, do_while, break, continue, return, Statements, no_statements, statement, PureProcedure, PureProgram}
 use Rattle.c_tree.specs.WellFormed.{takes, count, is_well_scoped, are_well_scoped, returns_well_scoped, runs_well_scoped, all_well_scoped, is_constant, is_linear, are_linear, returns_linear, runs_linear, all_linear, is_well_formed_procedure, statements_nodes}
 use Rattle.c_tree.specs.Operators.{is_product}
-use Rattle.flow_build.specs.Building.{literals_fit, all_literals_fit, result_literals_fit, statement_literals_fit, statements_literals_fit}
+use Rattle.flow_build.specs.steps.Building.{literals_fit, all_literals_fit, result_literals_fit, statement_literals_fit, statements_literals_fit}
 use Rattle.flow_build.proofs.Translated.{HasConstantSide, IsPlain, ArePlain, IsPlainResult, RunsPlain, AllPlain}
 use Rattle.flow_build.proofs.AddingStatements.{max_add}
 

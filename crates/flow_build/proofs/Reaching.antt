@@ -9,17 +9,19 @@ use Rattle.flow_graph.specs.declared.graph.Edge.TheVariants.{Assign, Guard, Inpu
 use Rattle.flow_graph.specs.declared.graph.Lin.{Lin}
 use Rattle.flow_graph.specs.Runs.{lin_value, End, came, stopped, failed, Place, inside, left, failing, halted, Called, Step, EndsIn}
 use Rattle.flow_graph.specs.Shapes.{is_call}
+use Rattle.flow_graph.specs.Columns.{AreValues}
+use Rattle.flow_graph.proofs.Values.{values_with}
 use Rattle.flow_build.specs.declared.operand.Operand.{Operand}
 use Rattle.flow_build.specs.declared.target.Target.{Target}
 use Rattle.flow_build.specs.declared.target.Target.TheVariants.{Node, Fails, Nowhere}
-use Rattle.flow_build.specs.Operands.{rows_where, opposite_op}
-use Rattle.flow_build.specs.Blocks.{way, ways, exit_node, fail_node}
+use Rattle.flow_build.specs.steps.Operands.{rows_where, opposite_op}
+use Rattle.flow_build.specs.steps.Blocks.{way, ways, exit_node, fail_node}
 use Rattle.flow_build.proofs.FormMeaning.{comparison}
 use Rattle.c_tree.specs.Operators.{is_comparison}
 use Rattle.flow_build.proofs.Comparing.{OneOf, some_rows_hold, rows_tell, opposite_comparison}
 use Rattle.flow_build.proofs.Outgoing.{out, Member}
 use Rattle.flow_build.proofs.Moves.{goes as moves, sticks}
-use Rattle.flow_build.proofs.Slots.{slot_there, HasValues, values_with, Keeps, keeps_with, keeps_on, operand_value}
+use Rattle.flow_build.proofs.Slots.{slot_there, Keeps, keeps_with, keeps_on, operand_value}
 
 -- what a result of a call says of the graph's call
 abbrev pub Told : (List ℤ → End → Type 0) → Progress ℤ → Type 0
@@ -135,14 +137,14 @@ module _ (C : Called) (g : List Edge) (rest : List ℤ) (end : End) where
 
   -- what follows at the next node, with a value in slot t
   abbrev pub AfterSlot : ℕ → ℕ → State → World → ℤ → Type 0
-  AfterSlot to t σ w z = (σ' : State) → Keeps t σ σ' → HasValues σ' → σ' t ≡ z → Reach (inside to σ') w.inputs
+  AfterSlot to t σ w z = (σ' : State) → Keeps t σ σ' → AreValues σ' → σ' t ≡ z → Reach (inside to σ') w.inputs
 
-  pub value_after : (n to t : ℕ) (l : Lin) (z : ℤ) (σ σ0 : State) (w : World) → out n g ≡ Assign n to t l ∷ [] → lin_value σ l ≡ z → IsTrue (is_value z) → Keeps t σ0 σ → HasValues σ → AfterSlot to t σ0 w z → Reach (inside n σ) w.inputs
+  pub value_after : (n to t : ℕ) (l : Lin) (z : ℤ) (σ σ0 : State) (w : World) → out n g ≡ Assign n to t l ∷ [] → lin_value σ l ≡ z → IsTrue (is_value z) → Keeps t σ0 σ → AreValues σ → AfterSlot to t σ0 w z → Reach (inside n σ) w.inputs
   value_after n to t l z σ σ0 w h e ok keep vals more =
       let ok' = subst (λ y. IsTrue (is_value y)) (sym e) ok in
       assigned n to t l σ w.inputs h ok' (more (with_slot σ t (lin_value σ l)) (keeps_on t t σ0 σ (with_slot σ t (lin_value σ l)) (omega arith) keep (keeps_with t t σ (lin_value σ l) (omega arith))) (values_with σ t (lin_value σ l) vals ok') (slot_there σ t (lin_value σ l) ∙ e))
 
-  pub exact_after : (n to t : ℕ) (l : Lin) (z : ℤ) (σ σ0 : State) (w : World) (o : Progress ℤ) → out n g ≡ Assign n to t l ∷ [] → lin_value σ l ≡ z → Keeps t σ0 σ → HasValues σ → ExactOrStopped z w o → Covers (AfterSlot to t σ0) o → Reach (inside n σ) w.inputs
+  pub exact_after : (n to t : ℕ) (l : Lin) (z : ℤ) (σ σ0 : State) (w : World) (o : Progress ℤ) → out n g ≡ Assign n to t l ∷ [] → lin_value σ l ≡ z → Keeps t σ0 σ → AreValues σ → ExactOrStopped z w o → Covers (AfterSlot to t σ0) o → Reach (inside n σ) w.inputs
   exact_after n to t l z σ σ0 w o h e keep vals k cov = pick (is_value z) refl k
     where
       pick : (b : Bool) → is_value z ≡ b → Choice b (Gives z) (λ w' o'. o' ≡ ends w' source_stopped) w o → Reach (inside n σ) w.inputs
@@ -150,14 +152,14 @@ module _ (C : Called) (g : List Edge) (rest : List ℤ) (end : End) where
       pick false is q =
           stops n (Assign n to t l ∷ []) σ w.inputs h (assign_shut C σ n to t l (ap is_value e ∙ is)) (subst (Covers (AfterSlot to t σ0)) q cov)
 
-  pub input_after : (n to t : ℕ) (σ : State) (w : World) (is : List ℤ) (r : Progress ℤ) → out n g ≡ Input n to t ∷ [] → w.inputs ≡ is → TakesInput is w r → HasValues σ → Covers (AfterSlot to t σ) r → Reach (inside n σ) w.inputs
+  pub input_after : (n to t : ℕ) (σ : State) (w : World) (is : List ℤ) (r : Progress ℤ) → out n g ≡ Input n to t ∷ [] → w.inputs ≡ is → TakesInput is w r → AreValues σ → Covers (AfterSlot to t σ) r → Reach (inside n σ) w.inputs
   input_after n to t σ w [] r h e tk vals cov = absurd (subst (Covers (AfterSlot to t σ)) tk cov)
   input_after n to t σ w (v ∷ vs) r h e tk vals cov =
       let k = subst (Covers (AfterSlot to t σ)) tk.1 cov in
       let more = k (with_slot σ t v) (keeps_with t t σ v (omega arith)) (values_with σ t v vals tk.0) (slot_there σ t v) in
       (suc more.0, moves C g n more.0 (Input n to t) (Input n to t ∷ []) σ w.inputs vs rest (inside to (with_slot σ t v)) end h (inl refl) (v, tk.0, e, refl) more.1)
 
-  pub call_after : (n to t p : ℕ) (args : List ℕ) (σ σ0 : State) (w : World) (r : Progress ℤ) → out n g ≡ Call n to p args t ∷ [] → Told (C p (map σ args) w.inputs) r → Keeps t σ0 σ → HasValues σ → Covers (AfterSlot to t σ0) r → Reach (inside n σ) w.inputs
+  pub call_after : (n to t p : ℕ) (args : List ℕ) (σ σ0 : State) (w : World) (r : Progress ℤ) → out n g ≡ Call n to p args t ∷ [] → Told (C p (map σ args) w.inputs) r → Keeps t σ0 σ → AreValues σ → Covers (AfterSlot to t σ0) r → Reach (inside n σ) w.inputs
   call_after n to t p args σ σ0 w (goes w' v) h c keep vals cov =
       let more = cov (with_slot σ t v) (keeps_on t t σ0 σ (with_slot σ t v) (omega arith) keep (keeps_with t t σ v (omega arith))) (values_with σ t v vals c.1) (slot_there σ t v) in
       (suc more.0, moves C g n more.0 (Call n to p args t) (Call n to p args t ∷ []) σ w.inputs w'.inputs rest (inside to (with_slot σ t v)) end h (inl refl) (came (v ∷ []), c.0, refl) more.1)

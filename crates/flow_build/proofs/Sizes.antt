@@ -9,12 +9,12 @@ use Rattle.flow_graph.specs.declared.graph.Edge.TheVariants.{Assign, Guard, Call
 use Rattle.flow_build.specs.declared.operand.Operand.{Operand}
 use Rattle.flow_build.specs.declared.target.Target.{Target}
 use Rattle.flow_build.specs.declared.target.Target.TheVariants.{Node, Fails, Nowhere}
-use Rattle.flow_build.specs.Forms.{Value, literal, read, input, call, scale, sum, difference, truth, Values, no_values, value, Test, compare, opposite, both, either}
-use Rattle.flow_build.specs.Translation.{value_of, values_of, test_of, kept_if}
-use Rattle.flow_build.specs.Operands.{rows_where, opposite_op, constant_lin, scaled_lin, sum_lin, difference_lin, operand_lin}
-use Rattle.flow_build.specs.Blocks.{Block, edges_of, one, way, ways, end_node, body_node, first_free}
-use Rattle.flow_build.specs.Lowering.{operand_at, landing, nodes_of, nodes_of_all, nodes_of_test, slots_of, slots_of_all, slots_of_test, argument_slots, landing_of_all, value_blocks, values_blocks, test_blocks, between, nodes_between, result_of, nodes_of_statement, nodes_of_statements, slots_of_statement, slots_of_statements, return_edge, argument_slot, statement_blocks, statements_blocks}
-use Rattle.flow_build.specs.Procedures.{procedure_edges, nodes_of_procedure, slots_of_procedure}
+use Rattle.flow_build.specs.steps.Forms.{Value, literal, read, input, call, scale, sum, difference, truth, Values, no_values, value, Test, compare, opposite, both, either}
+use Rattle.flow_build.specs.steps.Translation.{value_of, values_of, test_of, kept_if}
+use Rattle.flow_build.specs.steps.Operands.{rows_where, opposite_op, constant_lin, scaled_lin, sum_lin, difference_lin, operand_lin}
+use Rattle.flow_build.specs.steps.Blocks.{Block, edges_of, one, way, ways, end_node, body_node, first_free}
+use Rattle.flow_build.specs.steps.Lowering.{operand_at, landing, nodes_of, nodes_of_all, nodes_of_test, slots_of, slots_of_all, slots_of_test, argument_slots, landing_of_all, value_blocks, values_blocks, test_blocks, between, nodes_between, result_of, nodes_of_statement, nodes_of_statements, slots_of_statement, slots_of_statements, return_edge, argument_slot, statement_blocks, statements_blocks}
+use Rattle.flow_build.specs.steps.Procedures.{procedure_edges, nodes_of_procedure, slots_of_procedure}
 use Rattle.flow_build.proofs.Fresh.{edges-append}
 use Rattle.flow_build.proofs.Weights.{weight, weight_all, weight_test, some_times, kept_if_few, few_values, nodes_weigh_all, slots_weigh_all, few_value, few_test, few_result, nodes_weigh, nodes_weigh_test, slots_weigh, slots_weigh_test}
 

@@ -4,11 +4,12 @@ use Rattle.std.proofs.lemmas.Int.{ints}
 use Rattle.std.proofs.lemmas.Bool.{eq-eqb, ne_eqb}
 use Rattle.c_tree.specs.Meaning.{State, with_slot, is_value}
 use Rattle.flow_graph.specs.Runs.{lin_value}
+use Rattle.flow_graph.specs.Columns.{AreValues}
 use Rattle.flow_build.specs.declared.operand.Operand.{Operand}
 use Rattle.flow_build.specs.declared.operand.Operand.TheVariants.{Variable, Constant}
-use Rattle.flow_build.specs.Forms.{Value, literal, read, input, call, scale, sum, difference, truth}
-use Rattle.flow_build.specs.Operands.{constant_lin, scaled_lin, operand_lin, sum_lin, difference_lin}
-use Rattle.flow_build.specs.Lowering.{operand_at, argument_slot, slots_of}
+use Rattle.flow_build.specs.steps.Forms.{Value, literal, read, input, call, scale, sum, difference, truth}
+use Rattle.flow_build.specs.steps.Operands.{constant_lin, scaled_lin, operand_lin, sum_lin, difference_lin}
+use Rattle.flow_build.specs.steps.Lowering.{operand_at, argument_slot, slots_of}
 use Rattle.flow_build.proofs.FormMeaning.{FitsValue, IsInSlot}
 
 pub slot_there : (s : State) (x : ℕ) (v : ℤ) → with_slot s x v x ≡ v
@@ -16,29 +17,6 @@ slot_there s x v = ap (λ b. cond b v (s x)) (eq-eqb x x refl)
 
 pub slot_other : (s : State) (x y : ℕ) (v : ℤ) → (y ≡ x → ⊥) → with_slot s x v y ≡ s y
 slot_other s x y v ne = ap (λ b. cond b v (s y)) (ne_eqb y x ne)
-
--- each slot has a value
-pub record HasValues (s : State) : Type 0 where
-  pub each : (x : ℕ) → IsTrue (is_value (s x))
-
--- each argument is a value
-pub record IsArguments (args : List ℤ) : Type 0 where
-  pub each : (i : ℕ) → IsTrue (is_value (get_or args i (pos 0)))
-
-cond_value : (b : Bool) (v u : ℤ) → IsTrue (is_value v) → IsTrue (is_value u) → IsTrue (is_value (cond b v u))
-cond_value true v u h k = h
-cond_value false v u h k = k
-
-pub values_with : (s : State) (x : ℕ) (v : ℤ) → HasValues s → IsTrue (is_value v) → HasValues (with_slot s x v)
-values_with s x v h k = record { each = λ y. cond_value _ v (s y) k (h.each y) }
-
-argument_of : (s : State) → HasValues s → (xs : List ℕ) (i : ℕ) → IsTrue (is_value (get_or (map s xs) i (pos 0)))
-argument_of s h [] i = refl
-argument_of s h (x ∷ xs) zero = h.each x
-argument_of s h (x ∷ xs) (suc i) = argument_of s h xs i
-
-pub arguments_map : (s : State) → HasValues s → (xs : List ℕ) → IsArguments (map s xs)
-arguments_map s h xs = record { each = argument_of s h xs }
 
 -- the graph's slots of variables are the program's
 pub record Matches (vars : ℕ) (σ s : State) : Type 0 where
@@ -104,17 +82,17 @@ operand_kept vars t (difference v u) σ σ' le fits k = k.each t (omega arith)
 operand_kept vars t (truth c) σ σ' le fits k = k.each t (omega arith)
 
 -- An operand has a value.
-pub operand_has : (vars t : ℕ) (v : Value) (σ : State) → FitsValue vars v → HasValues σ → IsTrue (is_value (operand_value σ (operand_at v t)))
+pub operand_has : (vars t : ℕ) (v : Value) (σ : State) → FitsValue vars v → AreValues σ → IsTrue (is_value (operand_value σ (operand_at v t)))
 operand_has vars t (literal false n) σ fits h = fits
-operand_has vars t (literal true n) σ fits h = h.each t
-operand_has vars t (read false x) σ fits h = h.each x
-operand_has vars t (read true x) σ fits h = h.each t
-operand_has vars t input σ fits h = h.each t
-operand_has vars t (call p vs) σ fits h = h.each t
-operand_has vars t (scale c v) σ fits h = h.each t
-operand_has vars t (sum v u) σ fits h = h.each t
-operand_has vars t (difference v u) σ fits h = h.each t
-operand_has vars t (truth c) σ fits h = h.each t
+operand_has vars t (literal true n) σ fits h = h t
+operand_has vars t (read false x) σ fits h = h x
+operand_has vars t (read true x) σ fits h = h t
+operand_has vars t input σ fits h = h t
+operand_has vars t (call p vs) σ fits h = h t
+operand_has vars t (scale c v) σ fits h = h t
+operand_has vars t (sum v u) σ fits h = h t
+operand_has vars t (difference v u) σ fits h = h t
+operand_has vars t (truth c) σ fits h = h t
 
 -- An argument's slot has the operand's value.
 pub argument_is : (t : ℕ) (v : Value) (σ : State) → IsInSlot v → σ (argument_slot v t) ≡ operand_value σ (operand_at v t)

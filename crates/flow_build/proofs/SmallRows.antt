@@ -10,7 +10,7 @@ use Rattle.c_tree.specs.Meaning.{is_value}
 use Rattle.linear_formula.specs.LinearSum.{is_within, are_coefficients_within}
 use Rattle.flow_build.specs.declared.operand.Operand.{Operand}
 use Rattle.flow_build.specs.declared.operand.Operand.TheVariants.{Variable, Constant}
-use Rattle.flow_build.specs.Operands.{is_operand, constant_of, row}
+use Rattle.flow_build.specs.steps.Operands.{is_operand, constant_of, row}
 use Rattle.flow_build.specs.Promises.{is_small_row}
 
 and_of : (a b : Bool) → (a && b) ≡ true → (a ≡ true) × (b ≡ true)

@@ -13,7 +13,7 @@ use Rattle.flow_graph.specs.declared.graph.Edge.{Edge}
 use Rattle.flow_graph.specs.declared.graph.Edge.TheVariants.{Entry, Assign, Guard, Input, Pick, Call, Assert, Return}
 use Rattle.flow_build.specs.declared.operand.Operand.{Operand}
 use Rattle.flow_build.specs.declared.operand.Operand.TheVariants.{Variable, Constant}
-use Rattle.flow_build.specs.Operands.{row}
+use Rattle.flow_build.specs.steps.Operands.{row}
 use Rattle.flow_build.specs.Promises.{is_small_row, are_small_rows}
 
 abbrev pub are_ascending : List Atom → Bool

@@ -9,11 +9,12 @@ use Rattle.c_tree.specs.WellFormed.{is_constant}
 use Rattle.c_tree.specs.Operators.{is_arithmetic}
 use Rattle.c_tree.specs.declared.tree.Op.{Op}
 use Rattle.c_tree.specs.declared.tree.Op.TheVariants.{Add, Subtract, Multiply, Less, LessEqual, Greater, GreaterEqual, Equal, Unequal, And, Or}
-use Rattle.flow_build.specs.Forms.{Value, Values, no_values, value, Test, compare, opposite, both, either}
-use Rattle.flow_build.specs.Forms as form
-use Rattle.flow_build.specs.Translation.{operation_of, negation_of, constant_value, has_call, have_call, kept, kept_if, in_slot, overflows_by, scaled, overflows, added, subtracted, multiplied, compared, nonzero, value_by, test_by, value_of, values_of, test_of}
+use Rattle.flow_build.specs.steps.Forms.{Value, Values, no_values, value, Test, compare, opposite, both, either}
+use Rattle.flow_build.specs.steps.Forms as form
+use Rattle.flow_build.specs.Constants.{operation_of, negation_of, constant_value}
+use Rattle.flow_build.specs.steps.Translation.{has_call, have_call, kept, kept_if, in_slot, overflows_by, scaled, overflows, added, subtracted, multiplied, compared, nonzero, value_by, test_by, value_of, values_of, test_of}
 use Rattle.c_tree.specs.Operators.{exact, operation}
-use Rattle.flow_build.specs.Lowering.{result_of}
+use Rattle.flow_build.specs.steps.Lowering.{result_of}
 pub use Rattle.flow_build.proofs.Sameness.{Same}
 use Rattle.flow_build.proofs.Sameness.{itself, swapped, through, then_same, first_same, next_same, then_then, gives_then, then_gives, gives_same, exact_same, other_choice, Never, never_same}
 use Rattle.flow_build.proofs.FormMeaning.{comparison, Yields, YieldsAll, Decides, FitsValue, FitsValues, FitsTest, IsInSlot}

@@ -5,10 +5,11 @@ use Rattle.c_tree.specs.declared.tree.Op.TheVariants.{Add, Subtract, Multiply, L
 use Rattle.c_tree.specs.Syntax.{Expression, literal, read, input, call, negate, not as not_of, binary, Expressions, no_expressions, expression}
 use Rattle.c_tree.specs.WellFormed.{nodes, nodes_all}
 use Rattle.std.specs.Prelude.{◌+ℤ◌, ◌-ℤ◌}
-use Rattle.flow_build.specs.Forms.{Value, Values, no_values, value, Test, compare, opposite, both, either}
-use Rattle.flow_build.specs.Forms as form
-use Rattle.flow_build.specs.Translation.{constant_value, has_call, have_call, kept, kept_if, in_slot, overflows_by, scaled, overflows, added, subtracted, multiplied, value_by, test_by, value_of, values_of, test_of}
-use Rattle.flow_build.specs.Lowering.{nodes_of, nodes_of_all, nodes_of_test, slots_of, slots_of_all, slots_of_test}
+use Rattle.flow_build.specs.steps.Forms.{Value, Values, no_values, value, Test, compare, opposite, both, either}
+use Rattle.flow_build.specs.steps.Forms as form
+use Rattle.flow_build.specs.Constants.{constant_value}
+use Rattle.flow_build.specs.steps.Translation.{has_call, have_call, kept, kept_if, in_slot, overflows_by, scaled, overflows, added, subtracted, multiplied, value_by, test_by, value_of, values_of, test_of}
+use Rattle.flow_build.specs.steps.Lowering.{nodes_of, nodes_of_all, nodes_of_test, slots_of, slots_of_all, slots_of_test}
 
 pub some_nodes : (e : Expression) → 1 ≤ nodes e
 some_nodes (literal n) = omega arith

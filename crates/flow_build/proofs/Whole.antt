@@ -8,8 +8,8 @@ use Rattle.c_tree.specs.Syntax.{PureProcedure, PureProgram}
 use Rattle.c_tree.specs.WellFormed.{IsWellFormed}
 use Rattle.flow_graph.specs.declared.graph.Graph.{Graph}
 use Rattle.flow_graph.specs.Linked.{AreGraphs}
-use Rattle.flow_build.specs.Building.{statements_literals_fit}
-use Rattle.flow_build.specs.Procedures.{IsGraphOf, AreGraphsOf}
+use Rattle.flow_build.specs.steps.Building.{statements_literals_fit}
+use Rattle.flow_build.specs.steps.Procedures.{IsGraphOf, AreGraphsOf}
 use Rattle.flow_build.specs.Promises.{SameRuns, AreBounded}
 use Rattle.flow_build.proofs.Translated.{AllPlain}
 use Rattle.flow_build.proofs.Placed.{procedure_at}
@@ -89,6 +89,6 @@ module _ (P : PureProgram) (well : IsWellFormed P) (gs : List Graph) (graphs : A
 
   pub same_runs : SameRuns P gs
   same_runs = record {
-    of_graphs = λ d p args ins out ok h. run_of_graph P gs graphs procedure_at plain d p args ins out (record { each = ok }) h;
-    of_program = λ d p args ins end ok h. graph_of_run P gs graphs procedure_at plain d p args ins end (record { each = ok }) h;
+    program_to_graphs = λ d p args ins out ok h. run_of_graph P gs graphs procedure_at plain d p args ins out ok h;
+    graphs_to_program = λ d p args ins end ok h. graph_of_run P gs graphs procedure_at plain d p args ins end ok h;
   }

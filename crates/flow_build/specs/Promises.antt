@@ -12,12 +12,14 @@ use Rattle.flow_graph.specs.declared.graph.Edge.TheVariants.{Entry, Assign, Guar
 use Rattle.flow_graph.specs.declared.graph.Graph.{Graph}
 use Rattle.flow_graph.specs.Runs.{End, GraphRuns, end_of}
 use Rattle.flow_graph.specs.Columns.{AreAllValues}
-use Rattle.flow_build.specs.Translation.{constant_value}
+use Rattle.flow_build.specs.Constants.{constant_value}
 
 -- The runs of the program's procedures are those of their graphs: equal depth, arguments, inputs and end.
 pub record SameRuns (P : PureProgram) (gs : List Graph) : Type 0 where
-  pub of_graphs : (d p : ℕ) (args ins : List ℤ) (out : Outcome) → AreAllValues args → Runs P d p args ins out → GraphRuns gs d p args ins (end_of out)
-  pub of_program : (d p : ℕ) (args ins : List ℤ) (end : End) → AreAllValues args → GraphRuns gs d p args ins end →
+  pub program_to_graphs : (d p : ℕ) (args ins : List ℤ) (out : Outcome) → AreAllValues args →
+      Runs P d p args ins out → GraphRuns gs d p args ins (end_of out)
+  pub graphs_to_program : (d p : ℕ) (args ins : List ℤ) (end : End) → AreAllValues args →
+      GraphRuns gs d p args ins end →
       (out : Outcome) × (end ≡ end_of out) × Runs P d p args ins out
 
 -- the call of a procedure with so many arguments stands there
@@ -109,7 +111,9 @@ IsCoefficient body c = (c ≡ pos 1) ⊎ ((c ≡ negsuc 0) ⊎ Contains (stateme
 
 -- a row of at most two parts with the coefficients 1 and -1, and a constant of magnitude at most 2^64
 abbrev pub is_small_row : Atom → Bool
-is_small_row row = nat_le (length row.term.parts) 2 && list_all (λ p. unsigned_abs p.1 == 1) row.term.parts && nat_le (unsigned_abs row.term.constant) (2 ^ 64)
+is_small_row row =
+    nat_le (length row.term.parts) 2 && list_all (λ p. unsigned_abs p.1 == 1) row.term.parts
+    && nat_le (unsigned_abs row.term.constant) (2 ^ 64)
 
 abbrev pub are_small_rows : List Atom → Bool
 are_small_rows rows = nat_le (length rows) 2 && list_all is_small_row rows
@@ -117,11 +121,13 @@ are_small_rows rows = nat_le (length rows) 2 && list_all is_small_row rows
 -- what an edge of a procedure's graph keeps; no edge picks a value
 abbrev pub IsBoundedEdge : Statements → Edge → Type 0
 IsBoundedEdge body (Entry to params) = Unit {0}
-IsBoundedEdge body (Assign from to slot value) = All (λ part. IsCoefficient body part.0) value.parts
+IsBoundedEdge body (Assign from to slot value) =
+    All (λ part. IsCoefficient body part.0) value.parts
 IsBoundedEdge body (Guard from to rows) = IsTrue (are_small_rows rows.atoms)
 IsBoundedEdge body (Input from to slot) = Unit {0}
 IsBoundedEdge body (Pick from to slot rows) = ⊥
-IsBoundedEdge body (Call from to proc args slot) = IsTrue (statements_call proc (length args) body)
+IsBoundedEdge body (Call from to proc args slot) =
+    IsTrue (statements_call proc (length args) body)
 IsBoundedEdge body (Assert from to id rows) = IsTrue (are_small_rows rows.atoms)
 IsBoundedEdge body (Return from to slot) = Unit {0}
 
@@ -134,4 +140,5 @@ pub record IsBounded (p : PureProcedure) (g : Graph) : Type 0 where
 -- one graph for each procedure, by its number
 pub record AreBounded (P : PureProgram) (gs : List Graph) : Type 0 where
   pub each_procedure : length gs ≡ length P.procedures
-  pub bounded : (i : ℕ) (p : PureProcedure) (g : Graph) → slice_get P.procedures i ≡ Some p → slice_get gs i ≡ Some g → IsBounded p g
+  pub bounded : (i : ℕ) (p : PureProcedure) (g : Graph) →
+      slice_get P.procedures i ≡ Some p → slice_get gs i ≡ Some g → IsBounded p g

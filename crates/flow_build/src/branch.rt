@@ -1,8 +1,8 @@
 //! The edges of comparisons.
 
 ghost use Rattle.std.specs.Prelude.{◌≡◌, ◌++◌, ◌∷◌, [], IfOk, OnOk};
-ghost use Rattle.flow_build.specs.Blocks.{way, ways};
-ghost use Rattle.flow_build.specs.Operands.{rows_where, opposite_op};
+ghost use Rattle.flow_build.specs.steps.Blocks.{way, ways};
+ghost use Rattle.flow_build.specs.steps.Operands.{less, at_most, rows_where, opposite_op};
 
 use crate::builder::Builder;
 use crate::linear::{at_most, less};
@@ -51,6 +51,56 @@ fn push_way(b: &mut Builder, from: u32, target: Target, atoms: Atoms) -> Result<
     }
 }
 
+/// The edge to a target where the left side is less.
+fn push_less(
+    b: &mut Builder,
+    alloc: Global,
+    from: u32,
+    target: Target,
+    left: Operand,
+    right: Operand,
+) -> Result<(), AllocError>
+    ensures edges { OnOk result (b.new.edges.items ≡ b.old.edges.items ++ way from target (less left right ∷ [])) }
+    ensures next { b.new.next ≡ b.old.next }
+{
+    let rows = one_row(alloc, less(alloc, left, right)?)?;
+    push_way(b, from, target, rows)
+}
+
+/// The edge to a target where the left side is at most the right one.
+fn push_at_most(
+    b: &mut Builder,
+    alloc: Global,
+    from: u32,
+    target: Target,
+    left: Operand,
+    right: Operand,
+) -> Result<(), AllocError>
+    ensures edges { OnOk result (b.new.edges.items ≡ b.old.edges.items ++ way from target (at_most left right ∷ [])) }
+    ensures next { b.new.next ≡ b.old.next }
+{
+    let rows = one_row(alloc, at_most(alloc, left, right)?)?;
+    push_way(b, from, target, rows)
+}
+
+/// The edge to a target where both sides are equal.
+fn push_equal(
+    b: &mut Builder,
+    alloc: Global,
+    from: u32,
+    target: Target,
+    left: Operand,
+    right: Operand,
+) -> Result<(), AllocError>
+    ensures edges { OnOk result (b.new.edges.items ≡
+        b.old.edges.items ++ way from target (at_most left right ∷ at_most right left ∷ [])) }
+    ensures next { b.new.next ≡ b.old.next }
+{
+    let first = at_most(alloc, left, right)?;
+    let rows = two_rows(alloc, first, at_most(alloc, right, left)?)?;
+    push_way(b, from, target, rows)
+}
+
 /// The edges to a target where the comparison holds. For an unequal there are two, first the one for greater.
 fn push_ways(
     b: &mut Builder,
@@ -65,27 +115,14 @@ fn push_ways(
     ensures next { b.new.next ≡ b.old.next }
 {
     match op {
-        Op::Less => push_way(b, from, target, one_row(alloc, less(alloc, left, right)?)?),
-        Op::LessEqual => push_way(
-            b,
-            from,
-            target,
-            one_row(alloc, at_most(alloc, left, right)?)?,
-        ),
-        Op::Greater => push_way(b, from, target, one_row(alloc, less(alloc, right, left)?)?),
-        Op::GreaterEqual => push_way(
-            b,
-            from,
-            target,
-            one_row(alloc, at_most(alloc, right, left)?)?,
-        ),
-        Op::Equal => {
-            let rows = two_rows(alloc, at_most(alloc, left, right)?, at_most(alloc, right, left)?)?;
-            push_way(b, from, target, rows)
-        }
+        Op::Less => push_less(b, alloc, from, target, left, right),
+        Op::LessEqual => push_at_most(b, alloc, from, target, left, right),
+        Op::Greater => push_less(b, alloc, from, target, right, left),
+        Op::GreaterEqual => push_at_most(b, alloc, from, target, right, left),
+        Op::Equal => push_equal(b, alloc, from, target, left, right),
         Op::Unequal => {
-            push_way(b, from, target, one_row(alloc, less(alloc, right, left)?)?)?;
-            push_way(b, from, target, one_row(alloc, less(alloc, left, right)?)?)
+            push_less(b, alloc, from, target, right, left)?;
+            push_less(b, alloc, from, target, left, right)
         }
         Op::Add | Op::Subtract | Op::Multiply | Op::And | Op::Or => Ok(()),
     }

@@ -5,9 +5,9 @@ ghost use Rattle.c_tree.specs.Syntax.{PureProgram};
 ghost use Rattle.c_tree.specs.View.{program_from, procedure_of};
 ghost use Rattle.c_tree.specs.WellFormed.{is_well_formed_procedure, all_linear};
 ghost use Rattle.flow_graph.specs.declared.graph.Edge.TheVariants.{Entry, Assign, Guard, Return};
-ghost use Rattle.flow_build.specs.Building.{statements_literals_fit};
-ghost use Rattle.flow_build.specs.Operands.{constant_lin};
-ghost use Rattle.flow_build.specs.Procedures.{IsGraphOf};
+ghost use Rattle.flow_build.specs.steps.Building.{statements_literals_fit};
+ghost use Rattle.flow_build.specs.steps.Operands.{constant_lin};
+ghost use Rattle.flow_build.specs.steps.Procedures.{IsGraphOf};
 ghost use Rattle.flow_build.specs.Promises.{SameRuns, AreBounded};
 
 use crate::branch::FAIL_NODE;

@@ -2,32 +2,13 @@
 
 ghost use Rattle.std.specs.Prelude.{◌≡◌, ◌+ℤ◌, ◌-ℤ◌, OnSome, IsTrue};
 ghost use Rattle.c_tree.specs.View.{expression_of, expressions_of};
-ghost use Rattle.c_tree.specs.Operators.{is_arithmetic};
-ghost use Rattle.flow_build.specs.Translation.{constant_value, has_call, have_call, value_of, overflows};
-ghost use Rattle.c_tree.specs.Operators.{operation};
-ghost use Rattle.flow_build.specs.Operands.{overflows_in_place};
-ghost use Rattle.flow_build.specs.Building.{literals_fit};
+ghost use Rattle.flow_build.specs.Constants.{constant_value};
+ghost use Rattle.flow_build.specs.steps.Translation.{has_call, have_call, value_of, overflows};
+ghost use Rattle.flow_build.specs.steps.Operands.{overflows_in_place};
+ghost use Rattle.flow_build.specs.steps.Building.{literals_fit};
 
 use crate::operand::Operand;
-use c_tree::tree::{Expr, Op};
-
-pub fn is_arithmetic(op: Op) -> bool
-    ensures { result ≡ is_arithmetic op }
-{
-    matches!(op, Op::Add | Op::Subtract | Op::Multiply)
-}
-
-/// The exact value of an operation of two values, where it is one.
-fn operation(op: Op, x: i64, y: i64) -> Option<i64>
-    ensures { result ≡ operation op x y }
-{
-    match op {
-        Op::Add => x.checked_add(y),
-        Op::Subtract => x.checked_sub(y),
-        Op::Multiply => x.checked_mul(y),
-        _ => None,
-    }
-}
+use c_tree::tree::Expr;
 
 /// The value of a constant expression, unless an operation in it stops the run.
 pub fn constant_value(e: &Expr) -> Option<i64>
@@ -40,7 +21,7 @@ pub fn constant_value(e: &Expr) -> Option<i64>
         Expr::Binary(op, left, right) => {
             let left = constant_value(left)?;
             let right = constant_value(right)?;
-            operation(*op, left, right)
+            op.operation(left, right)
         }
         _ => None,
     }

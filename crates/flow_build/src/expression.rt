@@ -4,18 +4,17 @@ ghost use Rattle.std.specs.Prelude.{◌≡◌, ◌+◌, ◌*◌, ◌<◌, ◌++�
 ghost use Rattle.c_tree.specs.View.{expression_of, expressions_of};
 ghost use Rattle.c_tree.specs.WellFormed.{nodes, nodes_all};
 ghost use Rattle.c_tree.specs.Operators.{is_arithmetic};
-ghost use Rattle.flow_build.specs.Forms.{call};
-ghost use Rattle.flow_build.specs.Operands.{is_operand};
-ghost use Rattle.flow_build.specs.Translation.{value_of, values_of, test_of, has_call, scaled, added, subtracted, kept_if as kept_value_if};
-ghost use Rattle.flow_build.specs.Lowering.{argument_slots};
-ghost use Rattle.flow_build.specs.Building.{is_landed, literals_fit, all_literals_fit};
-ghost use Rattle.flow_build.specs.Additions.{binary_value, binary_test, argument_of, HasRoom, TakesFew, TakesFewAll, Adds, AddsAll, AddsSlot, AddsBoth, AddsTest};
+ghost use Rattle.flow_build.specs.steps.Forms.{call};
+ghost use Rattle.flow_build.specs.steps.Operands.{is_operand};
+ghost use Rattle.flow_build.specs.steps.Translation.{value_of, values_of, test_of, has_call, scaled, added, subtracted, kept_if as kept_value_if};
+ghost use Rattle.flow_build.specs.steps.Lowering.{argument_slots};
+ghost use Rattle.flow_build.specs.steps.Building.{is_landed, literals_fit, all_literals_fit};
+ghost use Rattle.flow_build.specs.steps.Additions.{binary_value, binary_test, argument_of, HasRoom, TakesFew, TakesFewAll, Adds, AddsAll, AddsSlot, AddsBoth, AddsTest};
 
 use crate::branch::compare;
 use crate::builder::Builder;
 use crate::constant::{
-    constant_value, difference_overflows, has_call, have_call, is_arithmetic, overflows_by,
-    sum_overflows,
+    constant_value, difference_overflows, has_call, have_call, overflows_by, sum_overflows,
 };
 use crate::landing::{
     ArgumentSlot, BothSides, Landed, Reached, in_slot, kept_if, multiple, settle, truth_nodes,
@@ -70,7 +69,7 @@ pub fn value(
             settle(b, alloc, truth, t, free)
         }
         Expr::Binary(op, left, right) => {
-            if is_arithmetic(*op) {
+            if op.is_arithmetic() {
                 return arithmetic(b, alloc, *op, left, right, from, t);
             }
             let truth = truth_nodes(b);
@@ -345,7 +344,7 @@ pub fn test(
     match e {
         Expr::Not(inner) => return test(b, alloc, inner, from, unmet, met, t),
         Expr::Binary(op, left, right) => {
-            if !is_arithmetic(*op) {
+            if !op.is_arithmetic() {
                 return condition(b, alloc, *op, left, right, from, met, unmet, t);
             }
         }

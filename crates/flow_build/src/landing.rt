@@ -2,8 +2,8 @@
 
 ghost use Rattle.std.specs.Prelude.{◌≡◌, ◌+◌, ◌<◌, ◌^◌, ◌++◌, ◌∷◌, [], ◌&&◌, not, pos, false, IfOk, OnOk, IsTrue};
 ghost use Rattle.flow_graph.specs.declared.graph.Edge.TheVariants.{Assign};
-ghost use Rattle.flow_build.specs.Operands.{overflows_in_place, scaled_lin, constant_lin};
-ghost use Rattle.flow_build.specs.Building.{is_landed, copied, copied_node, copied_nodes, copied_operand};
+ghost use Rattle.flow_build.specs.steps.Operands.{overflows_in_place, scaled_lin, constant_lin};
+ghost use Rattle.flow_build.specs.steps.Building.{is_landed, copied, copied_node, copied_nodes, copied_operand};
 
 use crate::builder::Builder;
 use crate::constant::overflows_by;

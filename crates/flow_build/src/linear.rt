@@ -2,7 +2,7 @@
 
 ghost use Rattle.std.specs.Prelude.{◌≡◌, ◌⊎◌, ◌++◌, ◌+ℤ◌, ◌-ℤ◌, ◌*ℤ◌, pos, IfOk, OnOk, IsTrue};
 ghost use Rattle.c_tree.specs.Meaning.{is_value};
-ghost use Rattle.flow_build.specs.Operands.{multiple_parts, constant_of, constant_lin, scaled_lin, operand_lin, sum_lin, difference_lin, row, less, at_most};
+ghost use Rattle.flow_build.specs.steps.Operands.{multiple_parts, constant_of, constant_lin, scaled_lin, operand_lin, sum_lin, difference_lin, row, less, at_most};
 
 use crate::operand::Operand;
 use c_tree::tree::Slot;

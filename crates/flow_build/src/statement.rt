@@ -5,9 +5,9 @@ ghost use Rattle.c_tree.specs.Syntax.{block, if_else, loop, do_while};
 ghost use Rattle.c_tree.specs.View.{expression_of, statement_of, statements_of};
 ghost use Rattle.c_tree.specs.WellFormed.{nodes, statement_nodes, statements_nodes};
 ghost use Rattle.flow_graph.specs.declared.graph.Edge.TheVariants.{Guard};
-ghost use Rattle.flow_build.specs.Building.{node_where, one_if, literals_fit, statement_literals_fit, statements_literals_fit};
-ghost use Rattle.flow_build.specs.Additions.{HasRoom, TakesFew};
-ghost use Rattle.flow_build.specs.StatementAdditions.{AddsSet, AddsResult, AddsStatement};
+ghost use Rattle.flow_build.specs.steps.Building.{node_where, one_if, literals_fit, statement_literals_fit, statements_literals_fit};
+ghost use Rattle.flow_build.specs.steps.Additions.{HasRoom, TakesFew};
+ghost use Rattle.flow_build.specs.steps.StatementAdditions.{AddsSet, AddsResult, AddsStatement};
 
 use crate::builder::Builder;
 use crate::expression::{test, value};

@@ -7,11 +7,12 @@ use Rattle.flow_build.specs.declared.landing.Landed.{Landed}
 use Rattle.flow_build.specs.declared.landing.Reached.{Reached}
 use Rattle.flow_build.specs.declared.landing.BothSides.{BothSides}
 use Rattle.flow_build.specs.declared.target.Target.{Target}
-use Rattle.flow_build.specs.Forms.{Value, Values, Test}
-use Rattle.flow_build.specs.Translation.{constant_value, has_call, in_slot, kept_if, value_by, test_by, value_of, test_of}
-use Rattle.flow_build.specs.Blocks.{Block, edges_of}
-use Rattle.flow_build.specs.Lowering.{operand_at, landing, landing_of_all, argument_slot, nodes_of, nodes_of_all, nodes_of_test, slots_of, slots_of_all, slots_of_test, value_blocks, values_blocks, test_blocks}
-use Rattle.flow_build.specs.Building.{is_in_place}
+use Rattle.flow_build.specs.steps.Forms.{Value, Values, Test}
+use Rattle.flow_build.specs.Constants.{constant_value}
+use Rattle.flow_build.specs.steps.Translation.{has_call, in_slot, kept_if, value_by, test_by, value_of, test_of}
+use Rattle.flow_build.specs.steps.Blocks.{Block, edges_of}
+use Rattle.flow_build.specs.steps.Lowering.{operand_at, landing, landing_of_all, argument_slot, nodes_of, nodes_of_all, nodes_of_test, slots_of, slots_of_all, slots_of_test, value_blocks, values_blocks, test_blocks}
+use Rattle.flow_build.specs.steps.Building.{is_in_place}
 
 abbrev pub binary_value : Op → Expression → Expression → Value
 binary_value op a b = value_by op (constant_value a) (constant_value b) (has_call b) (value_of a) (value_of b) (test_of a) (test_of b)

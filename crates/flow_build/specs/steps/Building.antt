@@ -7,9 +7,9 @@ use Rattle.flow_graph.specs.declared.graph.Edge.TheVariants.{Assign}
 use Rattle.flow_build.specs.declared.operand.Operand.{Operand}
 use Rattle.flow_build.specs.declared.operand.Operand.TheVariants.{Variable, Constant}
 use Rattle.flow_build.specs.declared.landing.Landed.{Landed}
-use Rattle.flow_build.specs.Forms.{Value}
-use Rattle.flow_build.specs.Forms as form
-use Rattle.flow_build.specs.Operands.{operand_lin}
+use Rattle.flow_build.specs.steps.Forms.{Value}
+use Rattle.flow_build.specs.steps.Forms as form
+use Rattle.flow_build.specs.steps.Operands.{operand_lin}
 
 abbrev pub is_in_place : Value → Bool
 is_in_place (form.literal false n) = true

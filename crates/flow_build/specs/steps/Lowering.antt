@@ -8,10 +8,10 @@ use Rattle.flow_build.specs.declared.operand.Operand.{Operand}
 use Rattle.flow_build.specs.declared.operand.Operand.TheVariants.{Variable, Constant}
 use Rattle.flow_build.specs.declared.target.Target.{Target}
 use Rattle.flow_build.specs.declared.target.Target.TheVariants.{Node, Fails, Nowhere}
-use Rattle.flow_build.specs.Forms.{Value, literal, read, input, call, scale, sum, difference, truth, Values, no_values, value, Test, compare, opposite, both, either}
-use Rattle.flow_build.specs.Translation.{value_of, test_of, in_slot}
-use Rattle.flow_build.specs.Operands.{constant_lin, scaled_lin, operand_lin, sum_lin, difference_lin, rows_where, opposite_op}
-use Rattle.flow_build.specs.Blocks.{Block, one, ways, exit_node, return_node}
+use Rattle.flow_build.specs.steps.Forms.{Value, literal, read, input, call, scale, sum, difference, truth, Values, no_values, value, Test, compare, opposite, both, either}
+use Rattle.flow_build.specs.steps.Translation.{value_of, test_of, in_slot}
+use Rattle.flow_build.specs.steps.Operands.{constant_lin, scaled_lin, operand_lin, sum_lin, difference_lin, rows_where, opposite_op}
+use Rattle.flow_build.specs.steps.Blocks.{Block, one, ways, exit_node, return_node}
 
 -- A literal or a variable that isn't kept is used in place: it has no blocks.
 abbrev pub operand_at : Value → (t : ℕ) → Operand

@@ -4,9 +4,9 @@ use Rattle.c_tree.specs.Syntax.{block, PureProcedure}
 use Rattle.flow_graph.specs.declared.graph.Edge.{Edge}
 use Rattle.flow_graph.specs.declared.graph.Edge.TheVariants.{Entry, Assign, Guard, Return}
 use Rattle.flow_graph.specs.declared.graph.Graph.{Graph}
-use Rattle.flow_build.specs.Operands.{constant_lin}
-use Rattle.flow_build.specs.Blocks.{Block, edges_of, one, exit_node, fail_node, end_node, return_node, entry_node, body_node, first_free}
-use Rattle.flow_build.specs.Lowering.{nodes_of_statements, slots_of_statements, statement_blocks}
+use Rattle.flow_build.specs.steps.Operands.{constant_lin}
+use Rattle.flow_build.specs.steps.Blocks.{Block, edges_of, one, exit_node, fail_node, end_node, return_node, entry_node, body_node, first_free}
+use Rattle.flow_build.specs.steps.Lowering.{nodes_of_statements, slots_of_statements, statement_blocks}
 
 -- What the body is behind: the entry leads to it, and 0 is returned at its end.
 abbrev pub procedure_blocks : PureProcedure → List Block

@@ -5,11 +5,11 @@ use Rattle.flow_graph.specs.declared.graph.Edge.TheVariants.{Assign}
 use Rattle.flow_build.specs.declared.builder.Builder.{Builder}
 use Rattle.flow_build.specs.declared.statement.Frame.{Frame}
 use Rattle.flow_build.specs.declared.statement.Exits.{Exits}
-use Rattle.flow_build.specs.Translation.{value_of}
-use Rattle.flow_build.specs.Operands.{operand_lin}
-use Rattle.flow_build.specs.Blocks.{one}
-use Rattle.flow_build.specs.Lowering.{operand_at, argument_slot, landing, nodes_of, slots_of, value_blocks, result_of, return_edge, nodes_of_statement, slots_of_statement, statement_blocks}
-use Rattle.flow_build.specs.Additions.{AddsBlocks}
+use Rattle.flow_build.specs.steps.Translation.{value_of}
+use Rattle.flow_build.specs.steps.Operands.{operand_lin}
+use Rattle.flow_build.specs.steps.Blocks.{one}
+use Rattle.flow_build.specs.steps.Lowering.{operand_at, argument_slot, landing, nodes_of, slots_of, value_blocks, result_of, return_edge, nodes_of_statement, slots_of_statement, statement_blocks}
+use Rattle.flow_build.specs.steps.Additions.{AddsBlocks}
 
 -- the assignment of an expression's value to a variable
 pub record AddsSet (x : ℕ) (e : Expression) (frame : Frame) (from to : ℕ) (old new : Builder) (free : ℕ) : Type 0 where

@@ -1,30 +1,12 @@
 -- The form of an expression.
 use Rattle.std.specs.Prelude.{Bool, true, false, ◌||◌, not as not_bool, Option, None, Some, ℤ, pos, negsuc, ◌+ℤ◌, ◌-ℤ◌, ◌*ℤ◌, neg_ℤ, if◌then◌else◌}
 use Rattle.c_tree.specs.Meaning.{is_value}
-use Rattle.c_tree.specs.Operators.{exact, operation}
 use Rattle.c_tree.specs.declared.tree.Op.{Op}
 use Rattle.c_tree.specs.declared.tree.Op.TheVariants.{Add, Subtract, Multiply, Unequal, And, Or}
 use Rattle.c_tree.specs.Syntax.{Expression, Expressions, no_expressions, expression}
 use Rattle.c_tree.specs.Syntax as source
-use Rattle.flow_build.specs.Forms.{Value, literal, read, input, call, scale, sum, difference, truth, Values, no_values, value, Test, compare, opposite, both, either}
-
-abbrev pub operation_of : Op → Option ℤ → Option ℤ → Option ℤ
-operation_of op (Some x) (Some y) = operation op x y
-operation_of op _ _ = None
-
-abbrev pub negation_of : Option ℤ → Option ℤ
-negation_of (Some x) = exact (neg_ℤ x)
-negation_of None = None
-
--- the value of a constant expression, where it has one
-abbrev pub constant_value : Expression → Option ℤ
-constant_value (source.literal n) = Some n
-constant_value (source.read x) = None
-constant_value source.input = None
-constant_value (source.call p es) = None
-constant_value (source.negate e) = negation_of (constant_value e)
-constant_value (source.not e) = None
-constant_value (source.binary op a b) = operation_of op (constant_value a) (constant_value b)
+use Rattle.flow_build.specs.Constants.{constant_value}
+use Rattle.flow_build.specs.steps.Forms.{Value, literal, read, input, call, scale, sum, difference, truth, Values, no_values, value, Test, compare, opposite, both, either}
 
 abbrev mutual
   pub has_call : Expression → Bool

@@ -1,10 +1,11 @@
-use Rattle.std.proofs.Common.{◌≡◌, ℕ, List, Some, ◌<◌, ◌≤◌, length, map, take, get_or, sym, subst}
+use Rattle.std.proofs.Common.{◌≡◌, ◌∙◌, ℕ, List, Some, ◌<◌, ◌≤◌, length, map, take, get_or, sym, subst}
 use Rattle.std.specs.Prelude.{slice_get}
 use Rattle.c_tree.specs.declared.tree.Procedure.{Procedure}
 use Rattle.c_tree.specs.declared.tree.Program.{Program}
 use Rattle.c_tree.specs.Syntax.{PureProgram}
 use Rattle.c_tree.specs.View.{procedure_of, program_from}
 use Rattle.flow_graph.specs.declared.graph.Graph.{Graph}
+use Rattle.flow_graph.specs.Linked.{AreGraphs}
 use Rattle.flow_build.specs.Promises.{SameRuns, AreBounded}
 use Rattle.flow_build.proofs.Whole.{Made, made_next, made_all, procedure_there, are_graphs, are_bounded, same_runs}
 use Rattle.flow_build.proofs.build.build.Goals as goal
@@ -38,16 +39,16 @@ all_made program ps i gs same h out = let P : List Procedure → Type 0 = λ l. 
 pub new-requires : goal.new-requires
 new-requires c =
     let m = all_made c.args.program.now c.deref-procedure-items.result.now c.loop-procedure.procedure-index c.loop-procedure.graphs.items c.deref-procedure-items.ensures.value c.loop-procedure.invariant c.loop-procedure-test.false in
-    are_graphs (program_of c.args.program.now) c.args.program.now.well_formed c.loop-procedure.graphs.items m.graphs m.literals
+    subst AreGraphs (sym c.from_vec.ensures) (are_graphs (program_of c.args.program.now) c.args.program.now.well_formed c.loop-procedure.graphs.items m.graphs m.literals)
 
 pub returns-clause-runs : goal.returns-clause-runs
 returns-clause-runs c =
     let m = all_made c.args.program.now c.deref-procedure-items.result.now c.loop-procedure.procedure-index c.loop-procedure.graphs.items c.deref-procedure-items.ensures.value c.loop-procedure.invariant c.loop-procedure-test.false in
     let P : List Graph → Type 0 = SameRuns (program_of c.args.program.now) in
-    subst P (sym c.new.ensures) (same_runs (program_of c.args.program.now) c.args.program.now.well_formed c.loop-procedure.graphs.items m.graphs m.literals)
+    subst P (sym (c.new.ensures ∙ c.from_vec.ensures)) (same_runs (program_of c.args.program.now) c.args.program.now.well_formed c.loop-procedure.graphs.items m.graphs m.literals)
 
 pub returns-clause-bounds : goal.returns-clause-bounds
 returns-clause-bounds c =
     let m = all_made c.args.program.now c.deref-procedure-items.result.now c.loop-procedure.procedure-index c.loop-procedure.graphs.items c.deref-procedure-items.ensures.value c.loop-procedure.invariant c.loop-procedure-test.false in
     let P : List Graph → Type 0 = AreBounded (program_of c.args.program.now) in
-    subst P (sym c.new.ensures) (are_bounded (program_of c.args.program.now) c.args.program.now.well_formed c.loop-procedure.graphs.items m.graphs m.literals)
+    subst P (sym (c.new.ensures ∙ c.from_vec.ensures)) (are_bounded (program_of c.args.program.now) c.args.program.now.well_formed c.loop-procedure.graphs.items m.graphs m.literals)

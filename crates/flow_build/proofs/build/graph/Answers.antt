@@ -2,8 +2,8 @@ use Rattle.std.proofs.Common.{List, subst}
 use Rattle.c_tree.specs.declared.tree.Stmt.{Stmt}
 use Rattle.c_tree.specs.Syntax.{block}
 use Rattle.c_tree.specs.View.{procedure_of, statements_of}
-use Rattle.flow_build.specs.Building.{statements_literals_fit}
-use Rattle.flow_build.specs.StatementAdditions.{AddsStatement}
+use Rattle.flow_build.specs.steps.Building.{statements_literals_fit}
+use Rattle.flow_build.specs.steps.StatementAdditions.{AddsStatement}
 use Rattle.std.proofs.Common.{IsTrue}
 use Rattle.flow_build.proofs.Facts.{graph_kept}
 use Rattle.flow_build.proofs.Plain.{kept, body_plain}

@@ -10,19 +10,19 @@ use Rattle.c_tree.specs.Syntax as source
 use Rattle.c_tree.specs.View.{expression_of, expressions_of}
 use Rattle.c_tree.specs.WellFormed.{nodes, nodes_all}
 use Rattle.c_tree.specs.declared.tree.Op.{Op}
-use Rattle.flow_build.specs.Forms.{Value, Test}
-use Rattle.flow_build.specs.Forms as form
+use Rattle.flow_build.specs.steps.Forms.{Value, Test}
+use Rattle.flow_build.specs.steps.Forms as form
 use Rattle.flow_graph.specs.declared.graph.Edge.TheVariants.{Assign, Call}
 use Rattle.flow_build.specs.declared.operand.Operand.TheVariants.{Variable}
-use Rattle.flow_build.specs.Operands.{is_constant_operand, overflows_in_place, constant_of, scaled_lin, constant_lin}
+use Rattle.flow_build.specs.steps.Operands.{is_constant_operand, overflows_in_place, constant_of, scaled_lin, constant_lin}
 use Rattle.c_tree.specs.Meaning.{is_value}
 use Rattle.flow_build.specs.declared.operand.Operand.{Operand}
 use Rattle.flow_build.specs.declared.landing.BothSides.{BothSides}
-use Rattle.flow_build.specs.Translation.{value_of, values_of, test_of, has_call, have_call, scaled, overflows, overflows_by, nonzero}
-use Rattle.flow_build.specs.Translation.{kept_if as kept_value_if}
-use Rattle.flow_build.specs.Lowering.{operand_at, slots_of, argument_slots}
-use Rattle.flow_build.specs.Building.{copied, copied_node, copied_nodes, copied_operand, literals_fit}
-use Rattle.flow_build.specs.Additions.{binary_test, argument_of, TakesFew, Adds, AddsAll, AddsSlot, AddsBoth, AddsTest}
+use Rattle.flow_build.specs.steps.Translation.{value_of, values_of, test_of, has_call, have_call, scaled, overflows, overflows_by, nonzero}
+use Rattle.flow_build.specs.steps.Translation.{kept_if as kept_value_if}
+use Rattle.flow_build.specs.steps.Lowering.{operand_at, slots_of, argument_slots}
+use Rattle.flow_build.specs.steps.Building.{copied, copied_node, copied_nodes, copied_operand, literals_fit}
+use Rattle.flow_build.specs.steps.Additions.{binary_test, argument_of, TakesFew, Adds, AddsAll, AddsSlot, AddsBoth, AddsTest}
 use Rattle.flow_build.proofs.Measures.{weight, weight_of_all}
 use Rattle.flow_build.proofs.Adding.{sum_added, difference_added, kept_added, right_kept, scaled_added, sides_added, truth_added, both_tests_added, either_tests_added, compare_added, nonzero_added, slot_added, arguments_added, call_added, overflow_same}
 use Rattle.flow_build.proofs.Answering.{if_ok, if_at, on_at, value_is_truth, test_is_compared, test_is_nonzero, other_test, or_false, first_and_rest, operation_fits, negated_fits, literal_of}

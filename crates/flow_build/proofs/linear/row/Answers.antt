@@ -3,7 +3,7 @@ use Rattle.std.proofs.lemmas.Int.{to_z-of_z}
 use Rattle.std.specs.Int.{w64}
 use Rattle.linear_formula.specs.LinearSum.{LinearSum, is_within}
 use Rattle.linear_formula.specs.Results.{combination}
-use Rattle.flow_build.specs.Operands.{operand_sum}
+use Rattle.flow_build.specs.steps.Operands.{operand_sum}
 use Rattle.flow_build.proofs.SmallRows.{row_within}
 use Rattle.flow_build.proofs.linear.row.Goals as goal
 

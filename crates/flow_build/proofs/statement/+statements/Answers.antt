@@ -5,10 +5,10 @@ use Rattle.c_tree.specs.View.{expression_of, statement_of, statements_of}
 use Rattle.c_tree.specs.WellFormed.{statement_nodes, statements_nodes}
 use Rattle.flow_graph.specs.declared.graph.Edge.{Edge}
 use Rattle.flow_graph.specs.declared.graph.Edge.TheVariants.{Guard}
-use Rattle.flow_build.specs.Translation.{value_of}
-use Rattle.flow_build.specs.Building.{statement_literals_fit}
-use Rattle.flow_build.specs.Additions.{TakesFew}
-use Rattle.flow_build.specs.StatementAdditions.{AddsStatement}
+use Rattle.flow_build.specs.steps.Translation.{value_of}
+use Rattle.flow_build.specs.steps.Building.{statement_literals_fit}
+use Rattle.flow_build.specs.steps.Additions.{TakesFew}
+use Rattle.flow_build.specs.steps.StatementAdditions.{AddsStatement}
 use Rattle.flow_build.proofs.AddingStatements.{choice_added, repetition_added, tested_repetition_added, value_then, block_turns, block_ends}
 use Rattle.flow_build.proofs.statement.+statements.Goals as goal
 

@@ -1,12 +1,12 @@
 use Rattle.std.proofs.Common.{◌≡◌, Bool, false, sym, ap, ◌∙◌, subst}
 use Rattle.c_tree.specs.View.{expression_of}
 use Rattle.flow_graph.specs.declared.graph.Edge.TheVariants.{Assign, Return}
-use Rattle.flow_build.specs.Forms.{Value}
-use Rattle.flow_build.specs.Translation.{value_of, kept_if}
-use Rattle.flow_build.specs.Operands.{is_constant_operand, slot_or_zero}
-use Rattle.flow_build.specs.Lowering.{operand_at, return_edge}
-use Rattle.flow_build.specs.Blocks.{exit_node, return_node}
-use Rattle.flow_build.specs.Additions.{Adds}
+use Rattle.flow_build.specs.steps.Forms.{Value}
+use Rattle.flow_build.specs.steps.Translation.{value_of, kept_if}
+use Rattle.flow_build.specs.steps.Operands.{is_constant_operand, slot_or_zero}
+use Rattle.flow_build.specs.steps.Lowering.{operand_at, return_edge}
+use Rattle.flow_build.specs.steps.Blocks.{exit_node, return_node}
+use Rattle.flow_build.specs.steps.Additions.{Adds}
 use Rattle.flow_build.proofs.Adding.{kept_added, argument_kept}
 use Rattle.flow_build.proofs.AddingStatements.{result_added}
 use Rattle.flow_build.proofs.statement.give_back.Goals as goal

@@ -2,9 +2,9 @@ use Rattle.std.proofs.Common.{ℕ, ◌++◌, ◌∷◌, [], ap, ◌∙◌}
 use Rattle.c_tree.specs.View.{expression_of}
 use Rattle.flow_graph.specs.declared.graph.Edge.{Edge}
 use Rattle.flow_graph.specs.declared.graph.Edge.TheVariants.{Assign}
-use Rattle.flow_build.specs.Translation.{value_of}
-use Rattle.flow_build.specs.Operands.{operand_lin}
-use Rattle.flow_build.specs.Lowering.{operand_at}
+use Rattle.flow_build.specs.steps.Translation.{value_of}
+use Rattle.flow_build.specs.steps.Operands.{operand_lin}
+use Rattle.flow_build.specs.steps.Lowering.{operand_at}
 use Rattle.flow_build.proofs.AddingStatements.{value_then}
 use Rattle.flow_build.proofs.statement.set.Goals as goal
 

@@ -1,0 +1,9 @@
+pub mod Forms
+pub mod Translation
+pub mod Operands
+pub mod Blocks
+pub mod Lowering
+pub mod Procedures
+pub mod Building
+pub mod Additions
+pub mod StatementAdditions
