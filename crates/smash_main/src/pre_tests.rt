@@ -115,7 +115,7 @@ fn slots_of(alloc: Global, number: usize) -> Result<Vec<i64>, Fail> {
 fn preimages_of_a_loop(rt: HostRuntime) -> Result<(), Fail> {
     let program = program_of(&rt, rt.alloc(), LOCK_LOOP)?;
     let graphs = build(rt.alloc(), &program)?;
-    let graph = graphs.graphs.first().ok_or("no graph")?;
+    let graph = graphs.graphs.as_slice().first().ok_or("no graph")?;
     assert_eq!(rt; graph.slots, SLOTS);
     for edge in graph.edges.as_slice() {
         if matches!(edge, Edge::Entry { .. } | Edge::Return { .. }) {

@@ -614,7 +614,7 @@ fn compare(rt: &impl Abort, alloc: Global, text: &str, lists: &[&[i64]]) -> Resu
     let graphs = build(alloc, &program)?;
     for inputs in lists {
         let mut walk = Walk {
-            graphs: &graphs.graphs,
+            graphs: graphs.graphs.as_slice(),
             inputs,
             used: 0,
             frames: Vec::new(alloc),
@@ -698,8 +698,8 @@ fn builds_the_graph_of_a_sum(rt: HostRuntime) -> Result<(), Fail> {
     let text = "int main(){ int x = 3; x = x + 4; assert(x == 7); return 0; }";
     let program = program_of(&rt, rt.alloc(), text)?;
     let graphs = build(rt.alloc(), &program)?;
-    assert_eq!(rt; graphs.graphs.len(), 1);
-    let graph = graphs.graphs.first().ok_or("no graph")?;
+    assert_eq!(rt; graphs.graphs.as_slice().len(), 1);
+    let graph = graphs.graphs.as_slice().first().ok_or("no graph")?;
     assert_eq!(rt; (graph.nodes, graph.exit, graph.fail), (11, 0, 1));
     assert_eq!(rt; (graph.params, graph.slots), (0, 2));
     let edges = [
