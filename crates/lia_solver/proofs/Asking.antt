@@ -14,7 +14,9 @@ use Rattle.infeasible_cert.specs.declared.certificate.Certificate.{Certificate}
 use Rattle.infeasible_cert.specs.Refutation.{refutation_of}
 use Rattle.infeasible_cert.specs.Right.{Refutes}
 use Rattle.shadow_elim.specs.Plan.{cube_of}
-use Rattle.lia_solver.specs.Entailment.{with_negation, CanNegate, question_of, IsEntailed, AreEntailed, RefuteEach, StopsAt}
+use Rattle.shadow_elim.specs.Questions.{with_negation, CanNegate, IsEntailed, IsShownToEntail}
+use Rattle.shadow_elim.specs.Entailment.{question_of, StopsAt}
+use Rattle.lia_solver.specs.Entailment.{RefuteEach}
 
 -- ---- the atoms that hold
 holds-append : (v : Valuation) (xs ys : List Atom) → HoldsAll v xs → HoldsAll v ys → HoldsAll v (xs ++ ys)
@@ -70,11 +72,11 @@ fails left asked atom other v e law h =
 
 -- ---- one atom after the other
 pub record SoFar (left items : List Atom) (k : ℕ) (cs : List Certificate) : Type 0 where
-  pub entailed : AreEntailed left (take k items)
+  pub entailed : IsShownToEntail left (take k items)
   pub refuted : RefuteEach left (take k items) cs
   pub met : (v : Valuation) → Is64 v → HoldsAll v left → HoldsAll v (take k items)
 
-entailed-more : (left xs : List Atom) (atom : Atom) → AreEntailed left xs → IsEntailed left atom → AreEntailed left (xs ++ atom ∷ [])
+entailed-more : (left xs : List Atom) (atom : Atom) → IsShownToEntail left xs → IsEntailed left atom → IsShownToEntail left (xs ++ atom ∷ [])
 entailed-more left [] atom h k = (k, tt)
 entailed-more left (x ∷ xs) atom h k = (h.0, entailed-more left xs atom h.1 k)
 
@@ -88,7 +90,7 @@ pub so-far-more : (left items : List Atom) (k : ℕ) (cs more : List Certificate
 so-far-more left items k cs more atom c s l e em h r f =
     let front : take (k + 1) items ≡ take k items ++ atom ∷ [] = take_more items k atom l ∙ ap (λ a. take k items ++ a ∷ []) (sym e) in
     record {
-      entailed = subst (AreEntailed left) (sym front) (entailed-more left (take k items) atom s.entailed h);
+      entailed = subst (IsShownToEntail left) (sym front) (entailed-more left (take k items) atom s.entailed h);
       refuted = subst (λ (as_ : List Atom). RefuteEach left as_ more) (sym front) (subst (RefuteEach left (take k items ++ atom ∷ [])) (sym em) (refuted-more left (take k items) cs atom c s.refuted h.0 r));
       met = λ v w m. subst (HoldsAll v) (sym front) (holds-append v (take k items) (atom ∷ []) (s.met v w m) (f v w m, tt));
     }

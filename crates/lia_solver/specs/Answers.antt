@@ -1,14 +1,10 @@
 -- When an answer is that of the plan.
 use Rattle.std.specs.Prelude.{◌≡◌, ℕ, ℤ, List}
-use Rattle.linear_formula.specs.declared.formula.Cube.{Cube}
 use Rattle.infeasible_cert.specs.declared.certificate.Certificate.{Certificate}
-use Rattle.shadow_elim.specs.Plan.{Search, found, nothing, limit_met}
+use Rattle.shadow_elim.specs.Plan.{Search, found, limit_met}
+use Rattle.shadow_elim.specs.Questions.{IsNothing}
 use Rattle.lia_solver.specs.declared.solved.Solved.{Solved}
 use Rattle.lia_solver.specs.declared.solved.Solved.TheVariants.{Point, Never, Limit}
-
--- nothing is in it
-abbrev pub IsNothing : Search → Type 0
-IsNothing search = (splits : List Cube) × (search ≡ nothing splits)
 
 -- the answer is what the search comes to
 abbrev pub IsAnswer : Search → Solved → Type 0

@@ -7,7 +7,8 @@ use Rattle.infeasible_cert.specs.Refutation.{refutation_of}
 use Rattle.infeasible_cert.specs.Right.{Refutes}
 use Rattle.lia_solver.specs.declared.entails.Answer.{Answer}
 use Rattle.lia_solver.specs.declared.entails.Answer.TheVariants.{Never, Point, Limit}
-use Rattle.lia_solver.specs.Entailment.{with_negation, IsEntailed, IsPointOf, IsLimitOf}
+use Rattle.shadow_elim.specs.Questions.{with_negation, IsEntailed}
+use Rattle.shadow_elim.specs.Entailment.{IsPointOf, IsLimitOf}
 
 abbrev pub IsAnswerTo : List Atom → Atom → Answer → Type 0
 IsAnswerTo left atom (Never certificate) =

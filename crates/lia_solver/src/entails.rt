@@ -7,7 +7,9 @@ ghost use Rattle.linear_formula.specs.Results.{negated};
 ghost use Rattle.linear_formula.specs.declared.formula.Atom.{Atom};
 ghost use Rattle.lia_solver.specs.Asked.{IsAnswerTo};
 ghost use Rattle.lia_solver.specs.Further.{IsMeant};
-ghost use Rattle.lia_solver.specs.Entailment.{AreEntailed, RefuteEach, StopsAt, IsPointOf, IsLimitOf, IfYes, IfNo, IfLimit};
+ghost use Rattle.shadow_elim.specs.Entailment.{StopsAt, IsPointOf, IsLimitOf};
+ghost use Rattle.shadow_elim.specs.Questions.{IsShownToEntail};
+ghost use Rattle.lia_solver.specs.Entailment.{RefuteEach, IfYes, IfNo, IfLimit};
 
 use crate::solve::solve;
 use crate::solved::{Certificates, Entailed, Solved};
@@ -63,7 +65,7 @@ fn ask(alloc: Global, left: &Cube, atom: &Atom) -> Result<Answer, OutOfMemory>
 /// order, until one isn't entailed or meets a limit.
 pub fn entails(alloc: Global, left: &Cube, right: &Cube) -> Result<Entailed, OutOfMemory>
     ensures yes { IfOk result (λ e. IfYes e (λ certificates. RefuteEach left.now.atoms right.now.atoms certificates)) }
-    ensures plan { IfOk result (λ e. IfYes e (λ certificates. AreEntailed left.now.atoms right.now.atoms)) }
+    ensures plan { IfOk result (λ e. IfYes e (λ certificates. IsShownToEntail left.now.atoms right.now.atoms)) }
     ensures entailed { IfOk result (λ e. IfYes e (λ certificates. (v : Valuation) → Is64 v → HoldsAll v left.now.atoms →
         HoldsAll v right.now.atoms)) }
     ensures left { IfOk result (λ e. IfNo e (λ at. HoldsAll (valuation at) left.now.atoms)) }

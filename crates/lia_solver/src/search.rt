@@ -16,13 +16,10 @@ use linear_formula::error::OutOfMemory;
 use linear_formula::formula::{Atom, Cube};
 use linear_formula::question::Question;
 use linear_formula::term::Term;
-use shadow_elim::limit::{Cubes, Limit};
+use shadow_elim::limit::{Cubes, Limit, MAX_SPLITS};
 use shadow_elim::row::single_term;
 use std::alloc::Global;
 use std::mem;
-
-/// How many splits a question may have.
-pub const MAX_SPLITS: u32 = 512;
 
 /// A branch is over with an answer to the question, or nothing is in it.
 #[derive(Drop)]

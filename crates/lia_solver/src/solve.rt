@@ -9,15 +9,12 @@ ghost use Rattle.shadow_elim.specs.Plan.{solution};
 ghost use Rattle.lia_solver.specs.Answers.{IsAnswer, IfPoint, IfNever};
 
 use crate::columns::columns_of;
-use crate::search::{MAX_SPLITS, Search, Searched};
+use crate::search::{Search, Searched};
 use crate::solved::Solved;
 use linear_formula::error::OutOfMemory;
 use linear_formula::formula::Cube;
-use shadow_elim::limit::Limit;
+use shadow_elim::limit::{Limit, MAX_COLUMNS, MAX_SPLITS};
 use std::alloc::Global;
-
-/// How many columns a cube may name.
-const MAX_COLUMNS: usize = 256;
 
 /// A point of the cube, a certificate that it has none, or the limit that was met.
 pub fn solve(alloc: Global, cube: &Cube) -> Result<Solved, OutOfMemory>

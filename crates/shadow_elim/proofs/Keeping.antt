@@ -9,7 +9,8 @@ use Rattle.infeasible_cert.specs.Right.{rows_of, range_rows}
 use Rattle.infeasible_cert.proofs.Meeting.{AllMet, met-append, ranges-met}
 use Rattle.shadow_elim.specs.Division.{tightened}
 use Rattle.shadow_elim.specs.Reduction.{reduced}
-use Rattle.shadow_elim.specs.Elimination.{is_upper, is_lower, is_free, pairs, pair_sum, pair_sums, Remainder, remains, wide, too_many, max_rows, counted, after_column, and_then, elimination, listed_rows}
+use Rattle.shadow_elim.specs.Elimination.{is_upper, is_lower, is_free, pairs, pair_sum, pair_sums, Remainder, remains, wide, too_many, counted, after_column, and_then, elimination, listed_rows}
+use Rattle.shadow_elim.specs.declared.limit.TheConstants.{MAX_ROWS}
 use Rattle.shadow_elim.specs.Shadows.{KeepsAll}
 use Rattle.shadow_elim.proofs.Tightening.{tightened-meets}
 use Rattle.shadow_elim.proofs.PairSums.{pair_sum-met}
@@ -105,7 +106,7 @@ after-is x rows next h =
       by_count false w e = absurd (cc)
 
       by_width : (b : Bool) → list_all is_within (pair_sums x rows) ≡ b → (if b then counted (reduced (filter (is_free x) rows ++ map tightened (pair_sums x rows))) else wide) ≡ remains next → IsAfter x rows next
-      by_width true w e = by_count (nat_le (length (reduced (filter (is_free x) rows ++ map tightened (pair_sums x rows)))) max_rows) w e
+      by_width true w e = by_count (nat_le (length (reduced (filter (is_free x) rows ++ map tightened (pair_sums x rows)))) MAX_ROWS) w e
       by_width false w e = absurd (cc)
 
 -- ---- what is met

@@ -6,6 +6,7 @@ use Rattle.linear_formula.specs.LinearSum.{LinearSum, coefficient, is_zero, is_w
 use Rattle.linear_formula.specs.Results.{combination}
 use Rattle.linear_formula.specs.declared.formula.Atom.{Atom}
 use Rattle.infeasible_cert.specs.Right.{rows_of, range_rows}
+use Rattle.shadow_elim.specs.declared.limit.TheConstants.{MAX_ROWS}
 use Rattle.shadow_elim.specs.Division.{common_divisor, tightened}
 use Rattle.shadow_elim.specs.Reduction.{reduced}
 
@@ -53,11 +54,8 @@ pub data Remainder : Type 0 where
   wide : Remainder
   too_many : Remainder
 
-abbrev pub max_rows : ℕ
-max_rows = 4096
-
 abbrev pub counted : List LinearSum → Remainder
-counted rows = if nat_le (length rows) max_rows then remains rows else too_many
+counted rows = if nat_le (length rows) MAX_ROWS then remains rows else too_many
 
 -- the rows without the column: those that don't name it, and then the sums of the pairs, tightened. Each sum is measured
 -- before it is tightened.

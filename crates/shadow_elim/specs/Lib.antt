@@ -9,3 +9,6 @@ pub mod Shadows
 pub mod Points
 pub mod Plan
 pub mod RightLimit
+pub mod LimitKinds
+pub mod Questions
+pub mod Entailment

@@ -5,6 +5,7 @@ use Rattle.linear_formula.specs.declared.formula.Atom.{Atom}
 use Rattle.linear_formula.specs.declared.formula.Cube.{Cube}
 use Rattle.linear_formula.specs.declared.question.Question.TheVariants as question
 use Rattle.infeasible_cert.specs.Right.{columns_of, rows_of, base_rows, at_most, at_least}
+use Rattle.shadow_elim.specs.declared.limit.TheConstants.{MAX_COLUMNS, MAX_SPLITS}
 use Rattle.shadow_elim.specs.declared.limit.Limit.{Limit}
 use Rattle.shadow_elim.specs.declared.limit.Limit.TheVariants.{Columns, Wide, Rows, Branches}
 use Rattle.shadow_elim.specs.Points.{Outcome, chosen, refuted, split, too_wide, too_many_rows, outcome}
@@ -26,9 +27,6 @@ pub data Search : Type 0 where
   nothing : (splits : List Cube) → Search
   limit_met : Limit → Search
 
-abbrev pub max_splits : ℕ
-max_splits = 512
-
 abbrev pub search_on : (List Cube → Search) → Search → Search
 search_on next (found values) = found values
 search_on next (nothing splits) = next splits
@@ -48,7 +46,7 @@ abbrev pub search : (depth : ℕ) → (splits : List Cube) → List Atom → Sea
 search zero splits atoms = settled splits atoms (λ x k. limit_met (Branches splits)) (outcome_of atoms)
 search (suc depth) splits atoms =
     settled splits atoms
-    (λ x k. if nat_le max_splits (length splits)
+    (λ x k. if nat_le MAX_SPLITS (length splits)
     then limit_met (Branches splits)
     else search_on (λ more. search depth more (with_row atoms (at_least x (k +ℤ pos 1))))
     (search depth (splits ++ cube_of atoms ∷ []) (with_row atoms (at_most x k))))
@@ -57,4 +55,4 @@ search (suc depth) splits atoms =
 -- what a cube comes to
 abbrev pub solution : List Atom → Search
 solution atoms =
-    if nat_lt 256 (length (columns_of (rows_of atoms))) then limit_met Columns else search max_splits [] atoms
+    if nat_lt MAX_COLUMNS (length (columns_of (rows_of atoms))) then limit_met Columns else search MAX_SPLITS [] atoms

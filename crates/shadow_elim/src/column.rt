@@ -11,6 +11,7 @@ ghost use Rattle.shadow_elim.specs.Reduction.{SameReduced};
 ghost use Rattle.shadow_elim.specs.Stages.{IsStage, AreNumbered, AreTerms};
 
 use crate::elimination::Stage;
+use crate::limit::MAX_ROWS;
 use crate::pairing::{Candidate, Making, Origin, combine};
 use crate::reduction::Reduction;
 use crate::row::Row;
@@ -20,9 +21,6 @@ use linear_formula::error::{LinError, OutOfMemory};
 use linear_formula::formula::Atom;
 use linear_formula::term::Term;
 use std::alloc::{AllocError, Global};
-
-/// How many rows may be left after a column.
-const MAX_ROWS: usize = 4096;
 
 /// The rows that bound a column, and the others.
 struct Sides {

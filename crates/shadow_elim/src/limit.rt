@@ -2,10 +2,21 @@
 
 ghost use Rattle.std.specs.Prelude.{◌≡◌};
 
+ghost use Rattle.shadow_elim.specs.LimitKinds.{kind_of};
+
 use crate::shadow::Pair;
 use linear_formula::formula::Cube;
 use linear_formula::question::Question;
 use std::marker::Model;
+
+/// How many columns a cube may name.
+pub const MAX_COLUMNS: usize = 256;
+
+/// How many rows may be left after a column.
+pub const MAX_ROWS: usize = 4096;
+
+/// How many splits a question may have.
+pub const MAX_SPLITS: u32 = 512;
 
 /// Cubes in order.
 #[derive(Debug, Drop)]
@@ -59,6 +70,21 @@ pub enum Limit {
     Inexact(Pair),
 }
 
+impl Limit {
+    pub fn kind(&self) -> LimitKind
+        ensures { result ≡ kind_of self.now }
+    {
+        match self {
+            Limit::Columns => LimitKind::Columns,
+            Limit::Wide { .. } => LimitKind::Wide,
+            Limit::Rows { .. } => LimitKind::Rows,
+            Limit::Branches { .. } => LimitKind::Branches,
+            Limit::Inexact(_) => LimitKind::Inexact,
+        }
+    }
+}
+
+/// Which limit was met, without what it keeps.
 #[derive(Clone, Copy, Debug, PartialEq, Eq)]
 pub enum LimitKind {
     Columns,

@@ -17,7 +17,7 @@ use Rattle.linear_formula.proofs.Order.{plus_parts-once}
 use Rattle.linear_formula.proofs.Ring.{mul-zero}
 use Rattle.infeasible_cert.specs.Right.{rows_of}
 use Rattle.shadow_elim.specs.Elimination.{Remainder, wide}
-use Rattle.shadow_elim.specs.RightLimit.{IsRight, IsMet}
+use Rattle.shadow_elim.specs.RightLimit.{IsRight, MeetsLimit}
 use Rattle.shadow_elim.specs.declared.limit.Kept.{Kept}
 use Rattle.flow_graph.specs.declared.graph.Lin.{Lin}
 use Rattle.weakest_pre.specs.declared.error.PreError.{PreError}
@@ -75,7 +75,7 @@ contains-mapped f ts t c = let r = mapped-at f ts c.0 t c.1 c.2 in (c.0, r.0, r.
 -- a sum that is too wide is right as a limit
 sum-is_right : (ss : List (ℤ × LinearSum)) (c : ℤ) (kept : Kept) → IsWideSum ss c kept → IsRight kept
 sum-is_right ss c kept w =
-    subst (λ q. IsMet q kept.limit) (sym w.question) (w.limit, w.wide)
+    subst (λ q. MeetsLimit q kept.limit) (sym w.question) (w.limit, w.wide)
 
 sum-is_cause : (ss : List (ℤ × LinearSum)) (c : ℤ) (kept : Kept) (r : Remainder) → IsWideSum ss c kept → r ≡ wide → ComesTo r kept.limit
 sum-is_cause ss c kept r w e = subst (λ l. ComesTo r l) (sym w.limit) e

@@ -9,7 +9,7 @@ use Rattle.infeasible_cert.specs.Right.{Refutes}
 use Rattle.shadow_elim.specs.Plan.{solution}
 use Rattle.lia_solver.specs.declared.solved.Solved.{Solved}
 use Rattle.lia_solver.specs.Answers.{IsAnswer, IfPoint, IfNever}
-use Rattle.lia_solver.specs.Entailment.{with_negation}
+use Rattle.shadow_elim.specs.Questions.{with_negation}
 use Rattle.lia_solver.proofs.Asking.{on-ok, can-negate, asked-is, question-is, follows, fails}
 use Rattle.lia_solver.proofs.entails.ask.Goals as goal
 

@@ -2,7 +2,7 @@ use Rattle.std.proofs.Common.{sym, subst}
 use Rattle.linear_formula.specs.LinearSum.{valuation}
 use Rattle.linear_formula.specs.Formula.{Holds, HoldsAll}
 use Rattle.lia_solver.specs.Asked.{IsAnswerTo}
-use Rattle.lia_solver.specs.Entailment.{IsPointOf, IsLimitOf}
+use Rattle.shadow_elim.specs.Entailment.{IsPointOf, IsLimitOf}
 use Rattle.lia_solver.specs.Further.{IsMeant}
 use Rattle.lia_solver.proofs.Asking.{holds-at, so-far-more, stops}
 use Rattle.lia_solver.proofs.entails.entails.Goals as goal
