@@ -12,4 +12,5 @@ pub mod Solving
 pub mod Asking
 pub mod Branching
 pub mod Settling
-pub mod Pruning
+pub mod Marking
+pub mod Renumbering

@@ -11,10 +11,11 @@ ghost use Rattle.shadow_elim.specs.Stages.{AreNumbered};
 ghost use Rattle.lia_solver.specs.Branches.{planned, branch_rows, IsRightOutcome, IsBranch};
 ghost use Rattle.lia_solver.specs.Further.{AreOutcomeTerms};
 ghost use Rattle.lia_solver.specs.Numbers.{numbered_from};
+ghost use Rattle.lia_solver.specs.Pruned.{NameEarlier};
 ghost use Rattle.lia_solver.specs.Settling.{IsEliminated, IsDerived, IsSettled};
 
 use crate::choice::{Choice, choose};
-use crate::refutation::{closed, contradiction};
+use crate::refutation::{contradiction, derivation};
 use infeasible_cert::certificate::Derived;
 use linear_formula::assignment::Assignment;
 use linear_formula::error::OutOfMemory;
@@ -107,7 +108,8 @@ fn settled(
     elimination: Elimination,
     first: u32,
 ) -> Result<BranchOutcome, OutOfMemory>
-    requires { (atoms : List Atom) × IsEliminated atoms elimination }
+    requires eliminated { (atoms : List Atom) × IsEliminated atoms elimination }
+    requires earlier { NameEarlier first elimination.steps.items }
     ensures plan { IfOk result (λ o. (atoms : List Atom) → IsEliminated atoms elimination → outcome_of atoms ≡ planned o) }
     ensures right { IfOk result (λ o. (atoms : List Atom) (base : List LinearSum) → IsEliminated atoms elimination →
         length base ≡ first → IsDerived base elimination → IsSettled atoms base o) }
@@ -119,7 +121,7 @@ fn settled(
         steps,
     } = elimination;
     if let Some(row) = contradiction(&rows) {
-        return Ok(BranchOutcome::Refuted(closed(alloc, steps, row, first)?));
+        return Ok(BranchOutcome::Refuted(derivation(alloc, steps, row, first)?));
     }
     match choose(alloc, &stages)? {
         Choice::Values(values) => Ok(BranchOutcome::Point(Assignment::new(values))),

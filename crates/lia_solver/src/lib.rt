@@ -5,6 +5,7 @@ mod branch;
 mod choice;
 mod columns;
 pub mod entails;
+mod pruning;
 mod refutation;
 mod search;
 pub mod solve;

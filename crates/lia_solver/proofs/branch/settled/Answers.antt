@@ -11,9 +11,11 @@ use Rattle.lia_solver.specs.Choices.{CanChoose}
 use Rattle.lia_solver.proofs.Settling.{found-row, nothing-found, is-chosen, settled-refuted, can-choose, settled-plan, settled-ascending, settled-met, settled-sides}
 use Rattle.lia_solver.proofs.branch.settled.Goals as goal
 
-pub closed-requires : goal.closed-requires
-closed-requires c =
-    (found-row c.args.elimination.rows.items c.in-Some.row.now (c.in-Some.ensures ∙ ap (find (λ (q : Row). is_contradiction q.term)) c.deref.ensures.value)).holds
+pub derivation-requires : goal.derivation-requires
+derivation-requires c = record {
+  contradiction = (found-row c.args.elimination.rows.items c.in-Some.row.now (c.in-Some.ensures ∙ ap (find (λ (q : Row). is_contradiction q.term)) c.deref.ensures.value)).holds;
+  earlier = c.requires.earlier;
+}
 
 pub returns-in-Some-clause-plan : goal.returns-in-Some-clause-plan
 returns-in-Some-clause-plan c = λ atoms h.
@@ -23,19 +25,19 @@ pub returns-in-Some-clause-right : goal.returns-in-Some-clause-right
 returns-in-Some-clause-right c = λ atoms base h size d.
     let f = found-row c.args.elimination.rows.items c.in-Some.row.now (c.in-Some.ensures ∙ ap (find (λ (q : Row). is_contradiction q.term)) c.deref.ensures.value) in
     let at = f.numbered (rows_after base c.args.elimination.steps.items) d.numbers in
-    c.in_ok-closed.ensures.right base size d.steps at.0 at.1
+    c.in_ok-derivation.ensures.right base size d.steps at.0 at.1
 
 pub choose-requires : goal.choose-requires
 choose-requires c =
     let e = c.args.elimination in
-    subst CanChoose (sym c.deref-2.ensures.value) (can-choose c.requires.0 e c.requires.1 (nothing-found e c.deref.result.now c.deref.ensures.value c.in_default.ensures))
+    subst CanChoose (sym c.deref-2.ensures.value) (can-choose c.requires.eliminated.0 e c.requires.eliminated.1 (nothing-found e c.deref.result.now c.deref.ensures.value c.in_default.ensures))
 
 pub new-requires : goal.new-requires
 new-requires c =
     let e = c.args.elimination in
     let none = nothing-found e c.deref.result.now c.deref.ensures.value c.in_default.ensures in
     let now = is-chosen e c.deref-2.result.now c.in_ok-values.field-0 (choice.Values c.in-Values.values) none c.deref-2.ensures.value c.in-Values.is c.in_ok-values.ensures.plan c.in_ok-values.ensures.values c.in_ok-values.ensures.sides in
-    settled-ascending c.requires.0 e c.in-Values.values c.requires.1 now
+    settled-ascending c.requires.eliminated.0 e c.in-Values.values c.requires.eliminated.1 now
 
 pub returns-in-Values-clause-plan : goal.returns-in-Values-clause-plan
 returns-in-Values-clause-plan c = λ atoms h.

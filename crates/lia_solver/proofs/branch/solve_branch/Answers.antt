@@ -6,12 +6,19 @@ use Rattle.shadow_elim.specs.Making.{terms_of}
 use Rattle.shadow_elim.specs.Plan.{outcome_of}
 use Rattle.lia_solver.specs.Branches.{planned, branch_rows, IsRightOutcome}
 use Rattle.lia_solver.specs.Settling.{IsEliminated, IsDerived, IsSettled}
+use Rattle.lia_solver.proofs.Renumbering.{names-earlier}
 use Rattle.lia_solver.proofs.Settling.{asked-eliminated, asked-wide, asked-too_many, right-settled}
 use Rattle.lia_solver.proofs.branch.solve_branch.Goals as goal
 
 pub settled-requires : goal.settled-requires
 settled-requires c =
-    (c.args.question.now ++ c.args.splits.now, asked-eliminated c.args.question.now c.args.splits.now c.args.columns.now (terms_of c.in_ok-rows.rows.items) c.in-Ok-eliminate_columns.elimination (record { columns_are = c.requires.columns; branch = c.requires.branch; rows_are = c.in_ok-rows.ensures.terms }) c.know_terms.ensures c.know_terms-2.ensures c.in-Ok-eliminate_columns.ensures.stages)
+    let e = c.in-Ok-eliminate_columns.elimination in
+    let base = branch_rows c.args.question.now c.args.splits.now in
+    let count : length base ≡ c.in-Ok.first = omega (arith, c.in_ok-rows.ensures.count, c.in_ok-rows.rows.ok.0, c.in-Ok.ensures, c.len.ensures) in
+    let d = c.in-Ok-eliminate_columns.ensures.steps base count c.in_ok-rows.ensures.numbers in record {
+      eliminated = (c.args.question.now ++ c.args.splits.now, asked-eliminated c.args.question.now c.args.splits.now c.args.columns.now (terms_of c.in_ok-rows.rows.items) c.in-Ok-eliminate_columns.elimination (record { columns_are = c.requires.columns; branch = c.requires.branch; rows_are = c.in_ok-rows.ensures.terms }) c.know_terms.ensures c.know_terms-2.ensures c.in-Ok-eliminate_columns.ensures.stages);
+      earlier = names-earlier base e.steps.items c.in-Ok.first count d.0;
+    }
 
 pub returns-in-Ok-eliminate_columns-clause-plan : goal.returns-in-Ok-eliminate_columns-clause-plan
 returns-in-Ok-eliminate_columns-clause-plan c =

@@ -1,8 +1,8 @@
 use Rattle.std.proofs.Common.{◌-◌, length, arith, sym, ap, ◌∙◌}
 use Rattle.std.proofs.lemmas.List.{drop_all}
 use Rattle.lia_solver.specs.Pruned.{with_named, with_needed}
-use Rattle.lia_solver.proofs.Pruning.{needed-past, needed-more}
-use Rattle.lia_solver.proofs.refutation.mark_needed.Goals as goal
+use Rattle.lia_solver.proofs.Marking.{needed-past, needed-more}
+use Rattle.lia_solver.proofs.pruning.mark_needed.Goals as goal
 
 pub loop-place-init : goal.loop-place-init
 loop-place-init c =

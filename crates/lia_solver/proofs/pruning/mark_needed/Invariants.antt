@@ -1,6 +1,6 @@
 use Rattle.std.proofs.Common.{◌≡◌, drop}
 use Rattle.lia_solver.specs.Pruned.{with_needed}
-use Rattle.lia_solver.proofs.refutation.mark_needed.Given as goal
+use Rattle.lia_solver.proofs.pruning.mark_needed.Given as goal
 
 abbrev pub invariant-loop-place : goal.invariant-loop-place
 invariant-loop-place l =

@@ -1,6 +1,6 @@
 use Rattle.std.proofs.Common.{◌≡◌, drop}
 use Rattle.lia_solver.specs.Pruned.{with_named}
-use Rattle.lia_solver.proofs.refutation.mark.Given as goal
+use Rattle.lia_solver.proofs.pruning.mark.Given as goal
 
 abbrev pub invariant-loop-number : goal.invariant-loop-number
 invariant-loop-number l =
