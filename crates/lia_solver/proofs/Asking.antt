@@ -1,9 +1,10 @@
 -- What the questions of atoms say, one after the other.
 use Rattle.std.proofs.Common.{◌≡◌, ◌⊎◌, inl, inr, ℕ, suc, zero, ◌<◌, ◌+◌, Bool, false, List, [], ◌∷◌, ◌++◌, length, take, drop, get_or, Result, Ok, Err, ℤ, pos, negsuc, ◌↔◌, arith, sym, ap, subst, ◌∙◌}
-use Rattle.std.specs.Prelude.{IsTrue, ◌≤ℤ◌, OnOk, if◌then◌else◌}
+use Rattle.std.specs.Prelude.{IsTrue, All, ◌≤ℤ◌, OnOk, if◌then◌else◌}
 use Rattle.std.specs.Result.{is_err}
 use Rattle.std.proofs.lemmas.Int.{ints}
 use Rattle.std.proofs.lemmas.List.{take_more, drop_more, take-append-drop}
+use Rattle.std.proofs.lemmas.List.Elements.{All-push}
 use Rattle.linear_formula.specs.LinearSum.{LinearSum, Valuation, Is64, value_of, is_within, is_term}
 use Rattle.linear_formula.specs.Results.{negated}
 use Rattle.linear_formula.specs.Formula.{Holds, HoldsAll}
@@ -13,6 +14,7 @@ use Rattle.linear_formula.proofs.Limits.{IsTerm-from_test, test-from_Within}
 use Rattle.infeasible_cert.specs.declared.certificate.Certificate.{Certificate}
 use Rattle.infeasible_cert.specs.Refutation.{refutation_of}
 use Rattle.infeasible_cert.specs.Right.{Refutes}
+use Rattle.infeasible_cert.specs.Terms.{HasTerms}
 use Rattle.shadow_elim.specs.Plan.{cube_of}
 use Rattle.shadow_elim.specs.Questions.{with_negation, CanNegate, IsEntailed, IsShownToEntail}
 use Rattle.shadow_elim.specs.Entailment.{question_of, StopsAt}
@@ -75,6 +77,7 @@ pub record SoFar (left items : List Atom) (k : ℕ) (cs : List Certificate) : Ty
   pub entailed : IsShownToEntail left (take k items)
   pub refuted : RefuteEach left (take k items) cs
   pub met : (v : Valuation) → Is64 v → HoldsAll v left → HoldsAll v (take k items)
+  pub terms : All (λ c. HasTerms (refutation_of c)) cs
 
 entailed-more : (left xs : List Atom) (atom : Atom) → IsShownToEntail left xs → IsEntailed left atom → IsShownToEntail left (xs ++ atom ∷ [])
 entailed-more left [] atom h k = (k, tt)
@@ -86,13 +89,14 @@ refuted-more left [] (d ∷ cs) atom c h n r = absurd h
 refuted-more left (x ∷ xs) [] atom c h n r = absurd h
 refuted-more left (x ∷ xs) (d ∷ cs) atom c h n r = (h.0, h.1, refuted-more left xs cs atom c h.2 n r)
 
-pub so-far-more : (left items : List Atom) (k : ℕ) (cs more : List Certificate) (atom : Atom) (c : Certificate) → SoFar left items k cs → k < length items → atom ≡ get_or items k atom → more ≡ cs ++ c ∷ [] → IsEntailed left atom → Refutes (with_negation left atom) (refutation_of c) → ((v : Valuation) → Is64 v → HoldsAll v left → Holds v atom) → SoFar left items (k + 1) more
-so-far-more left items k cs more atom c s l e em h r f =
+pub so-far-more : (left items : List Atom) (k : ℕ) (cs more : List Certificate) (atom : Atom) (c : Certificate) → SoFar left items k cs → k < length items → atom ≡ get_or items k atom → more ≡ cs ++ c ∷ [] → IsEntailed left atom → Refutes (with_negation left atom) (refutation_of c) → HasTerms (refutation_of c) → ((v : Valuation) → Is64 v → HoldsAll v left → Holds v atom) → SoFar left items (k + 1) more
+so-far-more left items k cs more atom c s l e em h r terms f =
     let front : take (k + 1) items ≡ take k items ++ atom ∷ [] = take_more items k atom l ∙ ap (λ a. take k items ++ a ∷ []) (sym e) in
     record {
       entailed = subst (IsShownToEntail left) (sym front) (entailed-more left (take k items) atom s.entailed h);
       refuted = subst (λ (as_ : List Atom). RefuteEach left as_ more) (sym front) (subst (RefuteEach left (take k items ++ atom ∷ [])) (sym em) (refuted-more left (take k items) cs atom c s.refuted h.0 r));
       met = λ v w m. subst (HoldsAll v) (sym front) (holds-append v (take k items) (atom ∷ []) (s.met v w m) (f v w m, tt));
+      terms = subst (All (λ d. HasTerms (refutation_of d))) (sym em) (All-push (λ d. HasTerms (refutation_of d)) cs c s.terms terms);
     }
 
 pub stops : (left items right : List Atom) (k : ℕ) (cs : List Certificate) (atom : Atom) (P : Atom → Type 0) → items ≡ right → SoFar left items k cs → k < length items → atom ≡ get_or items k atom → P atom → StopsAt left right P

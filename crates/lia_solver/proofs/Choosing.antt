@@ -24,7 +24,7 @@ use Rattle.shadow_elim.proofs.Members.{Among, filter-among, contains-among, amon
 use Rattle.shadow_elim.proofs.Keeping.{IsAfter, after-is}
 use Rattle.shadow_elim.proofs.Naming.{AllTerms, after-terms}
 use Rattle.shadow_elim.proofs.Exact.{HasRange as IsRanged, range-kept}
-use Rattle.lia_solver.proofs.Bests.{greatest-start, least-start}
+use Rattle.shadow_elim.proofs.Bests.{greatest-start, least-start}
 use Rattle.lia_solver.proofs.Meets.{ascends-from_test, test-from_ascends, values-ascend, ascends-from_lower, ascends-above, listed-below, NamesOnly, after-names_only, outcome-chosen}
 use Rattle.lia_solver.proofs.Splitting.{split-inside}
 

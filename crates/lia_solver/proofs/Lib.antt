@@ -1,7 +1,6 @@
 pub mod NamedColumns
 pub mod Listed
 pub mod Bounding
-pub mod Bests
 pub mod Meets
 pub mod Splitting
 pub mod Choosing

@@ -23,7 +23,7 @@ use Rattle.shadow_elim.proofs.Members.{Among, among-filter, among-map}
 use Rattle.shadow_elim.proofs.Staying.{same_parts-decides, met-from, covered-met}
 use Rattle.shadow_elim.proofs.Keeping.{IsAfter, after-is}
 use Rattle.shadow_elim.proofs.Naming.{AllTerms, term-order, after-terms, IsAbsent, after-absent, after-eliminated}
-use Rattle.lia_solver.proofs.Bests.{greatest-above, least-below, nearest-within}
+use Rattle.shadow_elim.proofs.Bests.{greatest-above, least-below, nearest-within}
 
 -- ---- ascending columns
 pub ascends-from_test : (low : ℕ) (xs : List ℕ) → IsTrue (is_ascending_from low (map (λ x. (x, pos 0)) xs)) → Ascends low xs

@@ -3,12 +3,17 @@ use Rattle.std.proofs.Common.{◌≡◌, ℕ, ◌<◌, ◌≤◌, true, false, L
 use Rattle.std.specs.Prelude.{nat_lt, if◌then◌else◌}
 use Rattle.std.proofs.Math.Seq.{drop-length}
 use Rattle.std.proofs.lemmas.List.{append-nil, take-append-drop}
+use Rattle.linear_formula.specs.LinearSum.{Is64, valuation}
 use Rattle.linear_formula.specs.declared.formula.Atom.{Atom}
 use Rattle.linear_formula.specs.declared.formula.Cube.{Cube}
 use Rattle.infeasible_cert.specs.Refutation.{Refutation}
 use Rattle.infeasible_cert.specs.Right.{rows_of, columns_of, base_rows, IsRight}
 use Rattle.shadow_elim.specs.declared.limit.Limit.TheVariants.{Columns}
 use Rattle.shadow_elim.specs.Plan.{search, solution, limit_met}
+use Rattle.shadow_elim.proofs.PlanValues.{solution_64}
+use Rattle.lia_solver.specs.Answers.{IsAnswer, IfPoint}
+use Rattle.lia_solver.specs.declared.solved.Solved.{Solved}
+use Rattle.lia_solver.specs.declared.solved.Solved.TheVariants.{Point, Never, Limit}
 use Rattle.lia_solver.specs.declared.search.Searched.{Searched}
 use Rattle.lia_solver.specs.Branches.{branch_rows, IsSearched}
 
@@ -39,3 +44,9 @@ searched-whole atoms copied n depth splits more s ec en es h =
 pub refutes-whole : (atoms : List Atom) (c : Refutation) → IsRight (branch_rows atoms []) c → IsRight (base_rows atoms) c
 refutes-whole atoms c h =
     subst (λ ts. IsRight ts c) (append-nil (base_rows atoms)) h
+
+-- the plan's points have values of 64 bits
+pub point-64 : (atoms : List Atom) (s : Solved) → IsAnswer (solution atoms) s → IfPoint s (λ at. Is64 (valuation at))
+point-64 atoms (Point at) h = solution_64 atoms at h
+point-64 atoms (Never certificate) h = tt
+point-64 atoms (Limit limit) h = tt

@@ -18,7 +18,7 @@ use Rattle.shadow_elim.proofs.Staying.{IsAtLeast, HasAtLeast}
 use Rattle.shadow_elim.proofs.Keeping.{IsAfter, IsPairOf}
 use Rattle.shadow_elim.proofs.Naming.{AllTerms, term-order}
 use Rattle.shadow_elim.proofs.Exact.{bounds-apart}
-use Rattle.lia_solver.proofs.Bests.{greatest-limit, greatest-reached, least-limit}
+use Rattle.shadow_elim.proofs.Bests.{greatest-limit, greatest-reached, least-limit}
 use Rattle.lia_solver.proofs.Meets.{mul-grows, rest-is}
 
 -- ---- numbers

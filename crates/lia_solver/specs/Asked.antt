@@ -5,6 +5,7 @@ use Rattle.linear_formula.specs.Formula.{HoldsAll}
 use Rattle.linear_formula.specs.declared.formula.Atom.{Atom}
 use Rattle.infeasible_cert.specs.Refutation.{refutation_of}
 use Rattle.infeasible_cert.specs.Right.{Refutes}
+use Rattle.infeasible_cert.specs.Terms.{HasTerms}
 use Rattle.lia_solver.specs.declared.entails.Answer.{Answer}
 use Rattle.lia_solver.specs.declared.entails.Answer.TheVariants.{Never, Point, Limit}
 use Rattle.shadow_elim.specs.Questions.{with_negation, IsEntailed}
@@ -12,6 +13,7 @@ use Rattle.shadow_elim.specs.Entailment.{IsPointOf, IsLimitOf}
 
 abbrev pub IsAnswerTo : List Atom → Atom → Answer → Type 0
 IsAnswerTo left atom (Never certificate) =
-    IsEntailed left atom × Refutes (with_negation left atom) (refutation_of certificate)
+    IsEntailed left atom × Refutes (with_negation left atom) (refutation_of certificate) ×
+    HasTerms (refutation_of certificate)
 IsAnswerTo left atom (Point at) = IsPointOf left at atom × HoldsAll (valuation at) (with_negation left atom)
 IsAnswerTo left atom (Limit kept) = IsLimitOf left kept atom

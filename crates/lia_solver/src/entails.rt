@@ -1,10 +1,12 @@
 //! Whether one cube entails another.
 
-ghost use Rattle.std.specs.Prelude.{List, IfOk, IsTrue};
+ghost use Rattle.std.specs.Prelude.{List, All, IfOk, IsTrue};
 ghost use Rattle.linear_formula.specs.LinearSum.{Valuation, Is64, valuation, is_within};
 ghost use Rattle.linear_formula.specs.Formula.{HoldsAll};
 ghost use Rattle.linear_formula.specs.Results.{negated};
 ghost use Rattle.linear_formula.specs.declared.formula.Atom.{Atom};
+ghost use Rattle.infeasible_cert.specs.Refutation.{refutation_of};
+ghost use Rattle.infeasible_cert.specs.Terms.{HasTerms};
 ghost use Rattle.lia_solver.specs.Asked.{IsAnswerTo};
 ghost use Rattle.lia_solver.specs.Further.{IsMeant};
 ghost use Rattle.shadow_elim.specs.Entailment.{StopsAt, IsPointOf, IsLimitOf};
@@ -68,6 +70,8 @@ pub fn entails(alloc: Global, left: &Cube, right: &Cube) -> Result<Entailed, Out
     ensures plan { IfOk result (λ e. IfYes e (λ certificates. IsShownToEntail left.now.atoms right.now.atoms)) }
     ensures entailed { IfOk result (λ e. IfYes e (λ certificates. (v : Valuation) → Is64 v → HoldsAll v left.now.atoms →
         HoldsAll v right.now.atoms)) }
+    ensures terms { IfOk result (λ e. IfYes e (All (λ c. HasTerms (refutation_of c)))) }
+    ensures values { IfOk result (λ e. IfNo e (λ at. Is64 (valuation at))) }
     ensures left { IfOk result (λ e. IfNo e (λ at. HoldsAll (valuation at) left.now.atoms)) }
     ensures right { IfOk result (λ e. IfNo e (λ at. ¬ HoldsAll (valuation at) right.now.atoms)) }
     ensures first_no { IfOk result (λ e. IfNo e (λ at. StopsAt left.now.atoms right.now.atoms (IsPointOf left.now.atoms at))) }

@@ -5,6 +5,7 @@ ghost use Rattle.linear_formula.specs.LinearSum.{Valuation, Is64, valuation};
 ghost use Rattle.linear_formula.specs.Formula.{HoldsAll, are_terms};
 ghost use Rattle.infeasible_cert.specs.Refutation.{refutation_of};
 ghost use Rattle.infeasible_cert.specs.Right.{Refutes};
+ghost use Rattle.infeasible_cert.specs.Terms.{HasTerms};
 ghost use Rattle.shadow_elim.specs.Plan.{solution};
 ghost use Rattle.lia_solver.specs.Answers.{IsAnswer, IfPoint, IfNever};
 
@@ -21,6 +22,8 @@ pub fn solve(alloc: Global, cube: &Cube) -> Result<Solved, OutOfMemory>
     ensures plan { IfOk result (λ s. IsAnswer (solution cube.now.atoms) s) }
     ensures point { IfOk result (λ s. IfPoint s (λ at. HoldsAll (valuation at) cube.now.atoms)) }
     ensures never { IfOk result (λ s. IfNever s (λ c. Refutes cube.now.atoms (refutation_of c))) }
+    ensures values { IfOk result (λ s. IfPoint s (λ at. Is64 (valuation at))) }
+    ensures terms { IfOk result (λ s. IfNever s (λ c. HasTerms (refutation_of c))) }
     ensures sound { IfOk result (λ s. IfNever s (λ c. (v : Valuation) → Is64 v → HoldsAll v cube.now.atoms → ⊥)) }
 {
     let atoms = cube.atoms.as_slice();

@@ -21,3 +21,5 @@ pub mod Passing
 pub mod Numbering
 pub mod Splitting
 pub mod Assembling
+pub mod Bests
+pub mod PlanValues

@@ -6,6 +6,7 @@ use Rattle.linear_formula.specs.Formula.{Holds, HoldsAll}
 use Rattle.linear_formula.specs.declared.formula.Atom.{Atom}
 use Rattle.infeasible_cert.specs.Refutation.{refutation_of}
 use Rattle.infeasible_cert.specs.Right.{Refutes}
+use Rattle.infeasible_cert.specs.Terms.{HasTerms}
 use Rattle.shadow_elim.specs.Plan.{solution}
 use Rattle.lia_solver.specs.declared.solved.Solved.{Solved}
 use Rattle.lia_solver.specs.Answers.{IsAnswer, IfPoint, IfNever}
@@ -23,7 +24,8 @@ returns-in-Never-clause-answer c =
     let is : asked ≡ with_negation left atom = asked-is left asked atom other c.in_ok-cube.ensures value in
     let plan = subst (IsAnswer (solution asked)) c.in-Never.is c.in_ok-certificate.ensures.plan in
     let never = subst (λ (s : Solved). IfNever s (λ d. Refutes asked (refutation_of d))) c.in-Never.is c.in_ok-certificate.ensures.never in
-    ((can, (plan.0, ap solution (sym is) ∙ plan.1)), subst (λ (as_ : List Atom). Refutes as_ (refutation_of c.in-Never.certificate)) is never)
+    let terms = subst (λ (s : Solved). IfNever s (λ d. HasTerms (refutation_of d))) c.in-Never.is c.in_ok-certificate.ensures.terms in
+    ((can, (plan.0, ap solution (sym is) ∙ plan.1)), subst (λ (as_ : List Atom). Refutes as_ (refutation_of c.in-Never.certificate)) is never, terms)
 
 pub returns-in-Never-clause-meant : goal.returns-in-Never-clause-meant
 returns-in-Never-clause-meant c =

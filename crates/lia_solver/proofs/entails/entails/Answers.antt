@@ -4,6 +4,8 @@ use Rattle.linear_formula.specs.Formula.{Holds, HoldsAll}
 use Rattle.lia_solver.specs.Asked.{IsAnswerTo}
 use Rattle.shadow_elim.specs.Entailment.{IsPointOf, IsLimitOf}
 use Rattle.lia_solver.specs.Further.{IsMeant}
+use Rattle.shadow_elim.specs.Questions.{with_negation}
+use Rattle.shadow_elim.proofs.PlanValues.{solution_64}
 use Rattle.lia_solver.proofs.Asking.{holds-at, so-far-more, stops}
 use Rattle.lia_solver.proofs.entails.entails.Goals as goal
 
@@ -31,4 +33,10 @@ loop-atom-preserved c =
     let left = c.args.left.now.atoms in let atom = c.atom-item.result in
     let answer = subst (IsAnswerTo left atom) c.in-Never.is c.in_ok-certificate.ensures.answer in
     let meant = subst (IsMeant left atom) c.in-Never.is c.in_ok-certificate.ensures.meant in
-    so-far-more left c.as_slice-atom-items.result.now c.loop-atom.atom-index c.loop-atom.certificates.items c.push.new.self.items atom c.in-Never.certificate c.loop-atom.invariant c.loop-atom-test.true c.atom-item.is c.in_ok-push-in-Never.ensures.items answer.0 answer.1 meant
+    so-far-more left c.as_slice-atom-items.result.now c.loop-atom.atom-index c.loop-atom.certificates.items c.push.new.self.items atom c.in-Never.certificate c.loop-atom.invariant c.loop-atom-test.true c.atom-item.is c.in_ok-push-in-Never.ensures.items answer.0 answer.1 answer.2 meant
+
+pub returns-in-Point-clause-values : goal.returns-in-Point-clause-values
+returns-in-Point-clause-values c =
+    let left = c.args.left.now.atoms in let atom = c.atom-item.result in
+    let answer = subst (IsAnswerTo left atom) c.in-Point.is c.in_ok-certificate.ensures.answer in
+    solution_64 (with_negation left atom) c.in-Point.at answer.0.1

@@ -10,7 +10,7 @@ use Rattle.shadow_elim.specs.Plan.{search}
 use Rattle.lia_solver.specs.declared.search.Searched.{Searched}
 use Rattle.lia_solver.specs.Branches.{IsSearched}
 use Rattle.lia_solver.specs.Further.{AreSearchedTerms}
-use Rattle.lia_solver.proofs.Solving.{too-many-columns, few-columns, searched-whole, refutes-whole}
+use Rattle.lia_solver.proofs.Solving.{too-many-columns, few-columns, searched-whole, refutes-whole, point-64}
 use Rattle.lia_solver.proofs.solve.solve.Goals as goal
 
 pub returns-then-len-gt-MAX_COLUMNS-clause-plan : goal.returns-then-len-gt-MAX_COLUMNS-clause-plan
@@ -54,3 +54,10 @@ returns-clause-sound c = λ v w h.
     let atoms = c.args.cube.now.atoms in
     let r = refutation_of c.in-Nothing.certificate in
     right-sound atoms r v c.as_slice-atoms.ensures.terms (subst AreSearchedTerms c.in-Nothing.is c.in_ok-solved.ensures.terms) (returns-clause-never c) w h
+
+pub returns-in-Answer-clause-values : goal.returns-in-Answer-clause-values
+returns-in-Answer-clause-values c =
+    point-64 c.args.cube.now.atoms c.in-Answer.solved (returns-in-Answer-clause-plan c)
+
+pub returns-clause-terms : goal.returns-clause-terms
+returns-clause-terms c = subst AreSearchedTerms c.in-Nothing.is c.in_ok-solved.ensures.terms
