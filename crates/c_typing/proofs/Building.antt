@@ -9,7 +9,7 @@ use Rattle.c_tree.specs.View.{statement_of, statements_of}
 use Rattle.c_tree.specs.declared.syntax_tree.ForFirst.{ForFirst}
 use Rattle.c_tree.specs.declared.syntax_tree.ForFirst.TheVariants.{Nothing, Declare, Simple}
 use Rattle.c_tree.specs.SourceTree.{ProcedureTree}
-use Rattle.c_typing.specs.LoweringSteps.{wrapped}
+use Rattle.c_typing.specs.steps.LoweringSteps.{wrapped}
 use Rattle.c_tree.specs.SourceView.{declarator_of, init_of}
 use Rattle.c_typing.specs.Scope.{Scope, with_variable, with_names, names_of}
 use Rattle.c_typing.specs.Lowering.{joined, lowered_value, lowered_declarators}

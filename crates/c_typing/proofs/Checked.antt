@@ -10,8 +10,8 @@ use Rattle.c_typing.specs.declared.fault.TypeError.TheVariants.{Refused, Memory}
 use Rattle.c_typing.specs.Scope.{procedures_of, defined_from}
 use Rattle.c_typing.specs.Faults.{Fault, all_faults}
 use Rattle.c_typing.specs.Answer.{IsProgram, LacksMain, IsFirstFault, DefinesMain, start}
-use Rattle.c_typing.specs.Least.{least_from}
-use Rattle.c_typing.specs.Tables.{is_defined}
+use Rattle.c_typing.specs.steps.Least.{least_from}
+use Rattle.c_typing.specs.steps.Tables.{is_defined}
 use Rattle.c_typing.proofs.Least.{least-is_first, first-is_least, least-none}
 use Rattle.c_typing.proofs.Filed.{defined-is}
 

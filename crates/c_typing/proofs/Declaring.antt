@@ -10,7 +10,7 @@ use Rattle.c_tree.specs.SourceTree.{Identifier, StatementTree, ProcedureTree, bl
 use Rattle.c_tree.specs.SourceView.{identifier_of, declarator_of, statement_tree_of, statement_trees_of}
 use Rattle.c_typing.specs.Scope.{Scope, with_variable, with_names, names_of, declared_by, declared_in, is_declared_here, is_built_in, asserts_of_optional, asserts_by_declarators, asserts_by, asserts_in}
 use Rattle.c_typing.specs.Faults.{Fault, fault_if, optional_faults, declared_faults, declarators_faults, scopes_after, statement_faults, statements_faults, parameters_faults}
-use Rattle.c_typing.specs.Tables.{Noted, noted, with_zeros, zeros_after, outer_of}
+use Rattle.c_typing.specs.steps.Tables.{Noted, noted, with_zeros, zeros_after, outer_of}
 use Rattle.c_typing.proofs.Erased.{erased, erased-variable, statements-same}
 use Rattle.c_typing.proofs.Noting.{noted-append, noted-nil, noted_two}
 use Rattle.c_typing.proofs.Tabled.{outer-variable}

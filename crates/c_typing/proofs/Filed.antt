@@ -13,8 +13,8 @@ use Rattle.c_tree.specs.FileView.{item_of}
 use Rattle.c_typing.specs.declared.fault.Which.TheVariants.{Parameters, Variables, Tokens}
 use Rattle.c_typing.specs.Scope.{is_built_in, number_from, number_of, defined, defined_from, variables_of, parameter_scope, asserts_in, asserts_in_file}
 use Rattle.c_typing.specs.Faults.{Fault, fault_if, limit_fault, place_of, parameters_faults, statements_faults, procedure_faults, procedures_faults, prototypes_faults}
-use Rattle.c_typing.specs.Least.{least_from}
-use Rattle.c_typing.specs.Tables.{Noted, noted, places_of, procedures_in, number_in, is_defined, is_again, heading_found, procedure_found, procedures_found}
+use Rattle.c_typing.specs.steps.Least.{least_from}
+use Rattle.c_typing.specs.steps.Tables.{Noted, noted, places_of, procedures_in, number_in, is_defined, is_again, heading_found, procedure_found, procedures_found}
 use Rattle.c_typing.proofs.Least.{least-append, least-swap}
 use Rattle.c_typing.proofs.Noting.{noted-append, noted-nil}
 

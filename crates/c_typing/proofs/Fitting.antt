@@ -10,8 +10,8 @@ use Rattle.c_tree.specs.SourceTree.{Identifier, ExpressionTree, SimpleStatement,
 use Rattle.c_tree.specs.SourceView.{statement_tree_of, statement_trees_of}
 use Rattle.c_typing.specs.Scope.{Scope, with_variable, with_names, names_of, declared_by, declared_in, declared_by_init, asserts_of, asserts_of_optional, asserts_by_declarators, asserts_by_init, asserts_by_step, asserts_by, asserts_in}
 use Rattle.c_typing.specs.Lowering.{joined, nothing, lowered, lowered_test, lowered_step, lowered_declarators, init_scopes, with_init, scopes_after, spliced, lowered_statement, lowered_statements}
-use Rattle.c_typing.specs.LoweringSteps.{IsQuiet, AreQuiet, Fits, AllFit, IsLowered, IsPlaced, AreLowered, init_statements, wrapped}
-use Rattle.c_typing.specs.Tables.{outer_of}
+use Rattle.c_typing.specs.steps.LoweringSteps.{IsQuiet, AreQuiet, HasRoomFor, HasRoomForAll, IsLowered, IsPlaced, AreLowered, init_statements, wrapped}
+use Rattle.c_typing.specs.steps.Tables.{outer_of}
 use Rattle.c_tree.proofs.SourceRows.{source_block_of}
 use Rattle.c_typing.proofs.Building.{joined-nil, joined-joined}
 use Rattle.c_typing.proofs.Tabled.{outer-variable}
@@ -20,15 +20,15 @@ outer-with_names : (ss : List Scope) (n : ℕ) (ns : List Identifier) → outer_
 outer-with_names ss n [] = refl
 outer-with_names ss n (x ∷ ns) = outer-with_names (with_variable ss x.name n) (n + 1) ns ∙ outer-variable ss x.name n
 
-pub fits_at : (n i : ℕ) (s t : StatementTree) → s ≡ t → Fits n i s → Fits n i t
-fits_at n i s t e h = subst (Fits n i) e h
+pub fits_at : (n i : ℕ) (s t : StatementTree) → s ≡ t → HasRoomFor n i s → HasRoomFor n i t
+fits_at n i s t e h = subst (HasRoomFor n i) e h
 
 pub block_shown : (v : Vec StmtTree Global) → statement_tree_of (Block v) ≡ block (statement_trees_of v.items)
 block_shown v = source_block_of v
 
-pub fits_item : (as_ : List StmtTree) (k : ℕ) (x : StmtTree) (n i n0 i0 : ℕ) → k < length as_ → x ≡ get_or as_ k x → Fits n0 i0 (block (statement_trees_of as_)) →
+pub fits_item : (as_ : List StmtTree) (k : ℕ) (x : StmtTree) (n i n0 i0 : ℕ) → k < length as_ → x ≡ get_or as_ k x → HasRoomFor n0 i0 (block (statement_trees_of as_)) →
     n + length (declared_in (statement_trees_of (drop k as_))) ≡ n0 + length (declared_in (statement_trees_of as_)) → i + length (asserts_in (statement_trees_of (drop k as_))) ≡ i0 + length (asserts_in (statement_trees_of as_)) →
-    AreQuiet (statement_trees_of (drop k as_)) → Fits n i (statement_tree_of x)
+    AreQuiet (statement_trees_of (drop k as_)) → HasRoomFor n i (statement_tree_of x)
 fits_item as_ k x n i n0 i0 less is h next id quiet =
     let y = statement_tree_of (get_or as_ k x) in
     let rest = statement_trees_of (drop (k + 1) as_) in
@@ -41,13 +41,13 @@ fits_item as_ k x n i n0 i0 less is h next id quiet =
 none : (n : ℕ) (e : ExpressionTree) (a : StatementTree) → asserts_of e ≡ [] → length (asserts_of e ++ asserts_by a) ≡ length (asserts_by a)
 none n e a h = ap (λ r. length (r ++ asserts_by a)) h
 
-pub fits_block : (n i : ℕ) (as_ bs : List StmtTree) → bs ≡ as_ → Fits n i (block (statement_trees_of as_)) → AllFit n i (statement_trees_of bs)
-fits_block n i as_ bs same h = subst (λ r. AllFit n i (statement_trees_of r)) (sym same) (record { names = h.names; places = h.places; quiet = h.quiet })
+pub fits_block : (n i : ℕ) (as_ bs : List StmtTree) → bs ≡ as_ → HasRoomFor n i (block (statement_trees_of as_)) → HasRoomForAll n i (statement_trees_of bs)
+fits_block n i as_ bs same h = subst (λ r. HasRoomForAll n i (statement_trees_of r)) (sym same) (record { names = h.names; places = h.places; quiet = h.quiet })
 
-pub fits_then : (n i : ℕ) (e : ExpressionTree) (a b : StmtTree) → b ≡ a → Fits n i (if_then e (statement_tree_of a)) → Fits n i (statement_tree_of b)
+pub fits_then : (n i : ℕ) (e : ExpressionTree) (a b : StmtTree) → b ≡ a → HasRoomFor n i (if_then e (statement_tree_of a)) → HasRoomFor n i (statement_tree_of b)
 fits_then n i e a b same h = fits_at n i (statement_tree_of a) (statement_tree_of b) (ap statement_tree_of (sym same)) (record { names = h.names; places = (let p = h.places in omega (arith, none 0 e (statement_tree_of a) h.quiet.0)); quiet = h.quiet.1 })
 
-pub fits_first : (n i : ℕ) (e : ExpressionTree) (a b : StmtTree) (c : StatementTree) → b ≡ a → Fits n i (if_else e (statement_tree_of a) c) → Fits n i (statement_tree_of b)
+pub fits_first : (n i : ℕ) (e : ExpressionTree) (a b : StmtTree) (c : StatementTree) → b ≡ a → HasRoomFor n i (if_else e (statement_tree_of a) c) → HasRoomFor n i (statement_tree_of b)
 fits_first n i e a b c same h =
     let s = statement_tree_of a in
     fits_at n i s (statement_tree_of b) (ap statement_tree_of (sym same))
@@ -57,7 +57,7 @@ fits_first n i e a b c same h =
       quiet = h.quiet.1;
     })
 
-pub fits_second : (n i n1 i1 : ℕ) (e : ExpressionTree) (a : StatementTree) (c d : StmtTree) → d ≡ c → n1 ≡ n + length (declared_by a) → i1 ≡ i + length (asserts_by a) → Fits n i (if_else e a (statement_tree_of c)) → Fits n1 i1 (statement_tree_of d)
+pub fits_second : (n i n1 i1 : ℕ) (e : ExpressionTree) (a : StatementTree) (c d : StmtTree) → d ≡ c → n1 ≡ n + length (declared_by a) → i1 ≡ i + length (asserts_by a) → HasRoomFor n i (if_else e a (statement_tree_of c)) → HasRoomFor n1 i1 (statement_tree_of d)
 fits_second n i n1 i1 e a c d same next id h =
     let t = statement_tree_of c in
     fits_at n1 i1 t (statement_tree_of d) (ap statement_tree_of (sym same))
@@ -67,15 +67,15 @@ fits_second n i n1 i1 e a c d same next id h =
       quiet = h.quiet.2;
     })
 
-pub fits_while : (n i : ℕ) (e : ExpressionTree) (a b : StmtTree) → b ≡ a → Fits n i (while_loop e (statement_tree_of a)) → Fits n i (statement_tree_of b)
+pub fits_while : (n i : ℕ) (e : ExpressionTree) (a b : StmtTree) → b ≡ a → HasRoomFor n i (while_loop e (statement_tree_of a)) → HasRoomFor n i (statement_tree_of b)
 fits_while n i e a b same h = fits_at n i (statement_tree_of a) (statement_tree_of b) (ap statement_tree_of (sym same)) (record { names = h.names; places = (let p = h.places in omega (arith, none 0 e (statement_tree_of a) h.quiet.0)); quiet = h.quiet.1 })
 
-pub fits_do_while : (n i : ℕ) (e : ExpressionTree) (a b : StmtTree) → b ≡ a → Fits n i (do_while (statement_tree_of a) e) → Fits n i (statement_tree_of b)
+pub fits_do_while : (n i : ℕ) (e : ExpressionTree) (a b : StmtTree) → b ≡ a → HasRoomFor n i (do_while (statement_tree_of a) e) → HasRoomFor n i (statement_tree_of b)
 fits_do_while n i e a b same h =
     fits_at n i (statement_tree_of a) (statement_tree_of b) (ap statement_tree_of (sym same)) (record { names = h.names; places = (let p = h.places in omega (arith, length-append (asserts_by (statement_tree_of a)) (asserts_of e))); quiet = h.quiet.1 })
 
 pub fits_body : (n i n1 i1 : ℕ) (f : ForInit) (t : Option ExpressionTree) (s : Option SimpleStatement) (a b : StmtTree) → b ≡ a → n1 ≡ n + length (declared_by_init f) → i1 ≡ i + length (asserts_by_init f) + length (asserts_by_step s) →
-    Fits n i (for_loop f t s (statement_tree_of a)) → Fits n1 i1 (statement_tree_of b)
+    HasRoomFor n i (for_loop f t s (statement_tree_of a)) → HasRoomFor n1 i1 (statement_tree_of b)
 fits_body n i n1 i1 f t s a b same next id h =
     let x = statement_tree_of a in
     fits_at n1 i1 x (statement_tree_of b) (ap statement_tree_of (sym same))
@@ -86,10 +86,10 @@ fits_body n i n1 i1 f t s a b same next id h =
     })
 
 -- the head of a `for`
-pub for_names : (n i : ℕ) (f : ForInit) (t : Option ExpressionTree) (s : Option SimpleStatement) (a : StatementTree) → Fits n i (for_loop f t s a) → n + length (declared_by_init f) ≤ 24
+pub for_names : (n i : ℕ) (f : ForInit) (t : Option ExpressionTree) (s : Option SimpleStatement) (a : StatementTree) → HasRoomFor n i (for_loop f t s a) → n + length (declared_by_init f) ≤ 24
 for_names n i f t s a h = let p = h.names in omega (arith, length-append (declared_by_init f) (declared_by a))
 
-pub for_room : (n i : ℕ) (f : ForInit) (t : Option ExpressionTree) (s : Option SimpleStatement) (a : StatementTree) → Fits n i (for_loop f t s a) → i + length (asserts_by_init f) + length (asserts_by_step s) ≤ 64
+pub for_room : (n i : ℕ) (f : ForInit) (t : Option ExpressionTree) (s : Option SimpleStatement) (a : StatementTree) → HasRoomFor n i (for_loop f t s a) → i + length (asserts_by_init f) + length (asserts_by_step s) ≤ 64
 for_room n i f t s a h =
     let p = h.places in
     omega (arith, length-append (asserts_by_init f) (asserts_of_optional t ++ (asserts_by_step s ++ asserts_by a)), length-append (asserts_of_optional t) (asserts_by_step s ++ asserts_by a), length-append (asserts_by_step s) (asserts_by a))

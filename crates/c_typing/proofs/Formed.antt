@@ -15,7 +15,8 @@ use Rattle.c_typing.specs.declared.fault.TypeFault.TheVariants.{Duplicate, MainS
 use Rattle.c_typing.specs.declared.fault.Which.{Which}
 use Rattle.c_typing.specs.declared.fault.Which.TheVariants.{Procedures, Parameters, Variables, Tokens, Assertions}
 use Rattle.c_typing.specs.Scope.{procedures_of, number_of, number_from, input, assume, assert, defined, callee_of, defined_from, is_input, is_assume, is_assert, is_main, is_built_in, variables_of, parameter_scope, declared_in, asserts_in, asserts_in_file}
-use Rattle.c_typing.specs.Faults.{fault_if, limit_fault, place_of, procedure_place, heading_faults, parameters_faults, statements_faults, procedure_faults, procedures_faults, prototypes_faults, all_faults, max_procedures, max_parameters, max_variables, max_asserts}
+use Rattle.c_typing.specs.declared.fault.TheConstants.{MAX_PROCEDURES, MAX_PARAMETERS, MAX_VARIABLES, MAX_ASSERTIONS}
+use Rattle.c_typing.specs.Faults.{fault_if, limit_fault, place_of, procedure_place, heading_faults, parameters_faults, statements_faults, procedure_faults, procedures_faults, prototypes_faults, all_faults}
 use Rattle.c_typing.specs.Lowering.{lowered_statements, lowered_procedure, lowered_procedures, assert_places, lowered_file}
 use Rattle.c_typing.specs.Answer.{DefinesMain}
 use Rattle.c_typing.proofs.Basics.{no_fault, nil_both, both, or_false, and_false, not_false, eqb-same, Below, below-names}
@@ -55,8 +56,8 @@ procedure-parts : (all earlier : List ProcedureTree) (p : ProcedureTree) → pro
 procedure-parts all earlier p e =
     let body = statements_faults all p.void false (parameter_scope p) p.body in
     let tokens = limit_fault Tokens p.past in
-    let variables = limit_fault Variables (place_of (slice_get (variables_of p) max_variables)) in
-    let parameters = limit_fault Parameters (place_of (slice_get p.params max_parameters)) in
+    let variables = limit_fault Variables (place_of (slice_get (variables_of p) MAX_VARIABLES)) in
+    let parameters = limit_fault Parameters (place_of (slice_get p.params MAX_PARAMETERS)) in
     let names = parameters_faults ([] ∷ []) p.params in
     let a = nil_both (heading_faults earlier p) (names ++ (parameters ++ (variables ++ (tokens ++ body)))) e in
     let b = nil_both names (parameters ++ (variables ++ (tokens ++ body))) a.1 in
@@ -389,8 +390,8 @@ pub well_formed : (is : List FileItem) → all_faults is ≡ [] → DefinesMain 
 well_formed is e main small =
     let ps = procedures_of is in
     let P = lowered_file is in
-    let procs = limit_fault Procedures (procedure_place (slice_get ps max_procedures)) in
-    let asserts = limit_fault Assertions (slice_get (asserts_in_file ps) max_asserts) in
+    let procs = limit_fault Procedures (procedure_place (slice_get ps MAX_PROCEDURES)) in
+    let asserts = limit_fault Assertions (slice_get (asserts_in_file ps) MAX_ASSERTIONS) in
     let a = nil_both (prototypes_faults ps is) (procedures_faults ps [] ps ++ (procs ++ asserts)) e in
     let b = nil_both (procedures_faults ps [] ps) (procs ++ asserts) a.1 in
     let c = nil_both procs asserts b.1 in
@@ -434,8 +435,8 @@ pub record Keeps (is : List FileItem) : Type 0 where
 pub faultless_keeps : (is : List FileItem) → all_faults is ≡ [] → Keeps is
 faultless_keeps is e =
     let ps = procedures_of is in
-    let procs = limit_fault Procedures (procedure_place (slice_get ps max_procedures)) in
-    let asserts = limit_fault Assertions (slice_get (asserts_in_file ps) max_asserts) in
+    let procs = limit_fault Procedures (procedure_place (slice_get ps MAX_PROCEDURES)) in
+    let asserts = limit_fault Assertions (slice_get (asserts_in_file ps) MAX_ASSERTIONS) in
     let a = nil_both (prototypes_faults ps is) (procedures_faults ps [] ps ++ (procs ++ asserts)) e in
     let b = nil_both (procedures_faults ps [] ps) (procs ++ asserts) a.1 in
     let c = nil_both procs asserts b.1 in

@@ -4,7 +4,7 @@ use Rattle.std.proofs.lemmas.List.Elements.{Contains-append_left, Contains-appen
 use Rattle.c_typing.specs.Faults.{Fault, all_faults}
 use Rattle.c_tree.specs.SourceTree.{FileItem}
 use Rattle.c_typing.specs.Answer.{IsBefore, IsFirstOf}
-use Rattle.c_typing.specs.Least.{is_before, first_of_two, least_from}
+use Rattle.c_typing.specs.steps.Least.{is_before, first_of_two, least_from}
 use Rattle.c_typing.proofs.Order.{is_before-true, is_before-false, before-irrefl, before-between, before-trans, before-same}
 
 pub least-append : (best : Option Fault) (xs ys : List Fault) → least_from best (xs ++ ys) ≡ least_from (least_from best xs) ys

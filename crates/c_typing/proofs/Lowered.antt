@@ -9,7 +9,7 @@ use Rattle.c_tree.specs.SourceTree.{Identifier, ProcedureTree, call}
 use Rattle.c_tree.specs.SourceView.{tree_of, trees_of}
 use Rattle.c_typing.specs.Scope.{Scope, Callee, input, assume, assert, defined, callee_of, defined_from, is_input, is_assume, is_assert}
 use Rattle.c_typing.specs.Lowering.{lowered, lowered_all, lowered_call}
-use Rattle.c_typing.specs.Tables.{number_in}
+use Rattle.c_typing.specs.steps.Tables.{number_in}
 
 defined-small : (i : ℕ) (ps : List ProcedureTree) (x : List ℕ) → number_in (defined_from i ps x) ≤ i + length ps
 defined-small i [] x = omega arith

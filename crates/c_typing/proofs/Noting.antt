@@ -10,8 +10,8 @@ use Rattle.c_tree.specs.SourceTree.{Identifier, ProcedureTree, binary}
 use Rattle.c_tree.specs.SourceView.{tree_of, trees_of}
 use Rattle.c_typing.specs.Scope.{Scope, callee_of, if_assert, asserts_of, asserts_of_all}
 use Rattle.c_typing.specs.Faults.{Fault, fault_if, callee_faults, name_faults, is_constant, expression_faults, arguments_faults, argument_count}
-use Rattle.c_typing.specs.Least.{least_from}
-use Rattle.c_typing.specs.Tables.{Noted, noted, places_of}
+use Rattle.c_typing.specs.steps.Least.{least_from}
+use Rattle.c_typing.specs.steps.Tables.{Noted, noted, places_of}
 use Rattle.c_typing.proofs.Least.{least-append, least-swap}
 
 places-append : (xs ys : List Identifier) → places_of (xs ++ ys) ≡ places_of xs ++ places_of ys

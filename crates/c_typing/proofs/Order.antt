@@ -6,7 +6,7 @@ use Rattle.c_typing.specs.declared.fault.TypeFault.TheVariants.{UnknownName, Dup
 use Rattle.c_typing.specs.declared.fault.Which.TheVariants.{Procedures, Parameters, Variables, Tokens, Assertions}
 use Rattle.c_typing.specs.Faults.{Fault}
 use Rattle.c_typing.specs.Answer.{IsBefore, rank}
-use Rattle.c_typing.specs.Least.{is_before, is_before_by}
+use Rattle.c_typing.specs.steps.Least.{is_before, is_before_by}
 
 abbrev Lex : (a b c x y z : ℕ) → Type 0
 Lex a b c x y z = (a < x) ⊎ ((a ≡ x) × ((b < y) ⊎ ((b ≡ y) × (c < z))))

@@ -9,8 +9,8 @@ use Rattle.c_tree.specs.SourceView.{identifier_of, statement_trees_of}
 use Rattle.c_typing.specs.declared.fault.Which.TheVariants.{Procedures, Parameters, Variables, Tokens, Assertions}
 use Rattle.c_typing.specs.Scope.{Scope, procedures_of, with_names, variables_of, declared_in, asserts_in, asserts_in_file}
 use Rattle.c_typing.specs.Faults.{Fault, limit_fault, place_of, procedure_place, parameters_faults, statements_faults, procedures_faults, prototypes_faults, all_faults}
-use Rattle.c_typing.specs.Least.{least_from}
-use Rattle.c_typing.specs.Tables.{Noted, noted, places_of, with_zeros, heading_found, body_found, procedure_found, procedures_found}
+use Rattle.c_typing.specs.steps.Least.{least_from}
+use Rattle.c_typing.specs.steps.Tables.{Noted, noted, places_of, with_zeros, heading_found, body_found, procedure_found, procedures_found}
 use Rattle.c_typing.proofs.Least.{least-append}
 use Rattle.c_typing.proofs.Erased.{erased, statements-same}
 use Rattle.c_typing.proofs.Noting.{noted_two}

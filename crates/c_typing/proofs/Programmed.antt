@@ -17,8 +17,8 @@ use Rattle.c_typing.specs.Scope.{procedures_of, number_of, number_from, defined,
 use Rattle.c_typing.specs.Faults.{all_faults}
 use Rattle.c_typing.specs.Lowering.{lowered_procedure, lowered_procedures, assert_places, lowered_file}
 use Rattle.c_typing.specs.Answer.{DefinesMain}
-use Rattle.c_typing.specs.LoweringSteps.{ProceduresFit, placed}
-use Rattle.c_typing.specs.Tables.{procedures_in, number_in}
+use Rattle.c_typing.specs.steps.LoweringSteps.{ProceduresFit, placed}
+use Rattle.c_typing.specs.steps.Tables.{procedures_in, number_in}
 use Rattle.c_typing.proofs.Formed.{AreSmall, well_formed}
 
 pub placed-is : (proc : ℕ) (xs : List Pos) → placed proc xs ≡ map (λ (at : Pos). let a : AssertPlace = record { at = at; proc = proc } in a) xs

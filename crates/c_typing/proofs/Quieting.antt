@@ -5,7 +5,7 @@ use Rattle.c_tree.specs.SourceTree.{SimpleStatement, set, change, add_one, subtr
 use Rattle.c_typing.specs.declared.fault.TypeFault.TheVariants.{NotLinear}
 use Rattle.c_typing.specs.Scope.{Scope, callee_of, asserts_in, asserts_in_file}
 use Rattle.c_typing.specs.Faults.{fault_if, callee_faults, argument_count, name_faults, is_constant, expression_faults, arguments_faults, optional_faults, simple_faults, step_faults, init_faults, init_scopes, scopes_after, return_faults, statement_faults, statements_faults}
-use Rattle.c_typing.specs.LoweringSteps.{IsQuietSimple, IsQuietStep, IsQuietInit, IsQuiet, AreQuiet, ProceduresFit}
+use Rattle.c_typing.specs.steps.LoweringSteps.{IsQuietSimple, IsQuietStep, IsQuietInit, IsQuiet, AreQuiet, ProceduresFit}
 use Rattle.c_typing.proofs.Basics.{nil_both}
 use Rattle.c_typing.proofs.Sound.{no_asserts, no_asserts_all, no_asserts_optional, no_asserts_declared}
 use Rattle.c_typing.proofs.Formed.{IsFaultless}

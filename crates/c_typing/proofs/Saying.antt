@@ -6,7 +6,7 @@ use Rattle.c_tree.specs.declared.syntax_tree.StmtTree.{StmtTree}
 use Rattle.c_tree.specs.SourceView.{statement_tree_of, statement_trees_of}
 use Rattle.c_typing.specs.Scope.{Scope, declared_by_init, declared_by, declared_in, asserts_of, asserts_of_optional, asserts_by_init, asserts_by_step, asserts_by, asserts_in}
 use Rattle.c_typing.specs.Faults.{expression_faults, optional_faults, init_faults, step_faults, init_scopes, statement_faults, statements_faults}
-use Rattle.c_typing.specs.Tables.{Noted, noted, with_zeros}
+use Rattle.c_typing.specs.steps.Tables.{Noted, noted, with_zeros}
 use Rattle.c_typing.proofs.Erased.{erased, optional-same, step-same, statement-same}
 use Rattle.c_typing.proofs.Noting.{noted_two}
 use Rattle.c_typing.proofs.Declaring.{erased-zeros}

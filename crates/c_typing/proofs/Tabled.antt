@@ -3,7 +3,7 @@ use Rattle.std.proofs.Common.{◌≡◌, ℕ, true, false, ◌||◌, Bor, List, 
 use Rattle.c_typing.specs.declared.scopes.Entry.{Entry}
 use Rattle.c_typing.specs.declared.scopes.Entry.TheVariants.{Opens, Declares}
 use Rattle.c_typing.specs.Scope.{Scope, slot_of, slot_in, or_outer, with_variable, is_declared_here}
-use Rattle.c_typing.specs.Tables.{scopes_onto, outer_of}
+use Rattle.c_typing.specs.steps.Tables.{scopes_onto, outer_of}
 use Rattle.c_typing.specs.declared.scopes.Meaning.{Meaning}
 
 pub scopes_onto-append : (ss : List Scope) (xs ys : List Entry) → scopes_onto ss (xs ++ ys) ≡ scopes_onto (scopes_onto ss xs) ys

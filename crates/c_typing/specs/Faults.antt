@@ -3,6 +3,7 @@ use Rattle.std.specs.Prelude.{ℕ, ◌+◌, ◌==◌, Bool, true, false, ◌&&�
 use Rattle.c_tree.specs.declared.tree.Pos.{Pos}
 use Rattle.c_tree.specs.Operators.{is_arithmetic, is_product}
 use Rattle.c_tree.specs.SourceTree.{Identifier, ExpressionTree, literal, name, call, not, negate, plus, binary, ExpressionTrees, no_arguments, argument, SimpleStatement, set, change, add_one, subtract_one, call_statement, Declarator, ForInit, no_init, declaring, starting, StatementTree, block, empty, declare, simple, if_then, if_else, while_loop, do_while, for_loop, break, continue, return, StatementTrees, no_statements, statement, ProcedureTree, FileItem, prototype, procedure}
+use Rattle.c_typing.specs.declared.fault.TheConstants.{MAX_PROCEDURES, MAX_PARAMETERS, MAX_VARIABLES, MAX_ASSERTIONS}
 use Rattle.c_typing.specs.declared.fault.TypeFault.{TypeFault}
 use Rattle.c_typing.specs.declared.fault.TypeFault.TheVariants.{UnknownName, Duplicate, WrongCount, VoidValue, NotLinear, MainShape, OutsideLoop, OverLimit}
 use Rattle.c_typing.specs.declared.fault.Which.{Which}
@@ -131,18 +132,6 @@ module _ (ps : List ProcedureTree) where
 
 -- Procedures and files
 
-abbrev pub max_procedures : ℕ
-max_procedures = 64
-
-abbrev pub max_parameters : ℕ
-max_parameters = 8
-
-abbrev pub max_variables : ℕ
-max_variables = 24
-
-abbrev pub max_asserts : ℕ
-max_asserts = 64
-
 -- the first place past a limit
 abbrev pub limit_fault : Which → Option Pos → List Fault
 limit_fault w None = []
@@ -166,8 +155,8 @@ abbrev pub procedure_faults : (all earlier : List ProcedureTree) → ProcedureTr
 procedure_faults all earlier p =
     heading_faults earlier p
     ++ (parameters_faults ([] ∷ []) p.params
-    ++ (limit_fault Parameters (place_of (slice_get p.params max_parameters))
-    ++ (limit_fault Variables (place_of (slice_get (variables_of p) max_variables))
+    ++ (limit_fault Parameters (place_of (slice_get p.params MAX_PARAMETERS))
+    ++ (limit_fault Variables (place_of (slice_get (variables_of p) MAX_VARIABLES))
     ++ (limit_fault Tokens p.past
     ++ statements_faults all p.void false (parameter_scope p) p.body))))
 
@@ -189,5 +178,5 @@ abbrev pub all_faults : List FileItem → List Fault
 all_faults is =
     prototypes_faults (procedures_of is) is
     ++ (procedures_faults (procedures_of is) [] (procedures_of is)
-    ++ (limit_fault Procedures (procedure_place (slice_get (procedures_of is) max_procedures))
-    ++ limit_fault Assertions (slice_get (asserts_in_file (procedures_of is)) max_asserts)))
+    ++ (limit_fault Procedures (procedure_place (slice_get (procedures_of is) MAX_PROCEDURES))
+    ++ limit_fault Assertions (slice_get (asserts_in_file (procedures_of is)) MAX_ASSERTIONS)))

@@ -1,4 +1,4 @@
-//! The check of a tree, and its program.
+//! The check of a tree, and its program. The first pass finds the faults.
 
 ghost use Rattle.std.specs.Prelude.{◌≡◌, IfOk, Err};
 ghost use Rattle.c_tree.specs.declared.tree.Pos.{Pos};
@@ -8,9 +8,14 @@ ghost use Rattle.c_tree.specs.FileView.{file_of};
 ghost use Rattle.c_typing.specs.declared.fault.TypeFault.{TypeFault};
 ghost use Rattle.c_typing.specs.Answer.{IsProgram, IsFirstFault, Gives, Refuses};
 
+mod expressions;
+mod notes;
+mod procedures;
+mod statements;
+
+use crate::check::procedures::all;
 use crate::fault::{TypeError, TypeFault};
-use crate::procedures::all;
-use crate::program::parts;
+use crate::lower::program::parts;
 use crate::table::Table;
 use c_tree::syntax_tree::Tree;
 use c_tree::tree::{Pos, Program};

@@ -8,18 +8,30 @@ use c_tree::tree::Pos;
 use std::alloc::{AllocError, AllocFailed};
 use thiserror::Error;
 
+/// How many procedures a file may have.
+pub const MAX_PROCEDURES: usize = 64;
+
+/// How many parameters a procedure may have.
+pub const MAX_PARAMETERS: usize = 8;
+
+/// How many variables a procedure may have, its parameters among them.
+pub const MAX_VARIABLES: usize = 24;
+
+/// How many assertions a file may have.
+pub const MAX_ASSERTIONS: usize = 64;
+
 /// A limit of the language.
 #[derive(Clone, Copy, PartialEq, Eq, Debug)]
 pub enum Which {
-    /// 64 procedures.
+    /// `MAX_PROCEDURES`; the place is the name of the first procedure past it.
     Procedures,
-    /// 8 parameters of a procedure.
+    /// `MAX_PARAMETERS`; the place is the first parameter past it.
     Parameters,
-    /// 24 variables of a procedure, its parameters among them.
+    /// `MAX_VARIABLES`; the place is the first declared name past it.
     Variables,
-    /// 4,000 tokens of a procedure.
+    /// The tokens of a procedure, which the parser counts; the place is the first token past them.
     Tokens,
-    /// 64 assertions.
+    /// `MAX_ASSERTIONS`; the place is the first `assert` past it.
     Assertions,
 }
 

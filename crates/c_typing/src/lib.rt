@@ -1,18 +1,11 @@
-//! From syntax trees to programs: scopes, types and limits.
+//! From syntax trees to programs: scopes, types and limits. The first pass, `check`, finds the faults of a tree; the
+//! second, `lower`, makes the program of a tree without faults.
 #![tactic(auto)]
 
-mod blocks;
-mod build;
 pub mod check;
 pub mod fault;
-mod faults;
-mod lowering;
-mod making;
-mod notes;
-mod procedures;
-mod program;
+mod lower;
 mod scopes;
-mod statements;
 mod table;
-#[cfg(test)]
-mod tests;
+
+pub use check::check_types;

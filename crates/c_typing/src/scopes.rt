@@ -1,10 +1,10 @@
 //! The scopes of variables.
 
 ghost use Rattle.std.specs.Prelude.{◌≡◌, ℕ, List, bytes_eq, if◌then◌else◌, IsSome};
-ghost use Rattle.c_typing.specs.Meanings.{depth_onto, found_in, IsLinked, IsLinked-prop};
+ghost use Rattle.c_typing.specs.steps.Meanings.{depth_onto, found_in, IsLinked, IsLinked-prop};
 
-use indexmap::IndexMap;
 use std::alloc::{AllocError, Global};
+use std::collections::BTreeMap;
 
 /// What a name means: a slot, and how many scopes were open where it was declared.
 #[derive(Clone, Copy)]
@@ -25,13 +25,13 @@ pub enum Entry<'a> {
 pub struct Scopes<'a> {
     pub entries: Vec<Entry<'a>>,
     depth: usize,
-    meanings: IndexMap<&'a str, Meaning>,
+    meanings: BTreeMap<&'a str, Meaning>,
     ghost depth_is: { depth ≡ depth_onto 0 entries.items },
     ghost linked: { IsLinked entries.items meanings } by { IsLinked-prop entries.items meanings },
 }
 
 /// A name means again what it meant before.
-fn restore<'a>(meanings: &mut IndexMap<&'a str, Meaning>, name: &'a str, before: Option<Meaning>)
+fn restore<'a>(meanings: &mut BTreeMap<&'a str, Meaning>, name: &'a str, before: Option<Meaning>)
     requires { IsSome (found_in meanings.old name.now) }
     ensures { (x : List ℕ) → found_in meanings.new x ≡ (if bytes_eq name.now x then before else found_in meanings.old x) }
 {
@@ -40,16 +40,16 @@ fn restore<'a>(meanings: &mut IndexMap<&'a str, Meaning>, name: &'a str, before:
             let _ = meanings.insert(name, meaning);
         }
         None => {
-            meanings.swap_remove(name);
+            meanings.remove(name);
         }
     }
 }
 
 impl<'a> Scopes<'a> {
     ghost use Rattle.std.specs.Prelude.{◌++◌, [], ◌∷◌, OnOk, IfOk, MatchOption, length, take};
-    ghost use Rattle.c_typing.specs.Meanings.{meaning_in};
+    ghost use Rattle.c_typing.specs.steps.Meanings.{meaning_in};
     ghost use Rattle.c_typing.specs.Scope.{slot_of, is_declared_here, with_variable};
-    ghost use Rattle.c_typing.specs.Tables.{scopes_of, outer_of, IsLonger};
+    ghost use Rattle.c_typing.specs.steps.Tables.{scopes_of, outer_of, IsLonger};
 
     /// No scope.
     pub fn new(alloc: Global) -> Scopes<'a>
@@ -58,7 +58,7 @@ impl<'a> Scopes<'a> {
         Scopes {
             entries: Vec::new(alloc),
             depth: 0,
-            meanings: IndexMap::new(alloc),
+            meanings: BTreeMap::new(alloc),
         }
     }
 
@@ -121,9 +121,9 @@ impl<'a> Scopes<'a> {
             slot,
             depth: self.depth,
         };
-        self.meanings.reserve(1)?;
-        self.entries.push(Entry::Declares(name, slot, before))?;
+        self.entries.reserve(1)?;
         self.meanings.insert(name, meaning)?;
+        self.entries.push(Entry::Declares(name, slot, before))?;
         Ok(())
     }
 

@@ -3,12 +3,12 @@
 ghost use Rattle.std.specs.Prelude.{◌≡◌, ℕ, List, OnOk, IfOk};
 ghost use Rattle.c_tree.specs.FileView.{procedure_tree_of};
 ghost use Rattle.c_typing.specs.Scope.{is_main, is_built_in, callee_of, defined_from};
-ghost use Rattle.c_typing.specs.Meanings.{found_in};
-ghost use Rattle.c_typing.specs.Tables.{procedures_in, callee_from, number_in, is_defined, kept_or, AreDefined, AreDefined-prop};
+ghost use Rattle.c_typing.specs.steps.Meanings.{found_in};
+ghost use Rattle.c_typing.specs.steps.Tables.{procedures_in, callee_from, number_in, is_defined, kept_or, AreDefined, AreDefined-prop};
 
 use c_tree::syntax_tree::{Item, ProcTree};
-use indexmap::IndexMap;
 use std::alloc::{AllocError, Global};
+use std::collections::BTreeMap;
 
 /// What is called by a name: a procedure by its number, how many parameters it has and whether it is `void`.
 #[derive(Clone, Copy)]
@@ -32,7 +32,7 @@ pub struct Definition {
 #[derive(Drop)]
 pub struct Table<'a> {
     pub items: &'a [Item],
-    definitions: IndexMap<&'a str, Definition>,
+    definitions: BTreeMap<&'a str, Definition>,
     ghost linked: { AreDefined definitions items.now } by { AreDefined-prop definitions items.now },
 }
 
@@ -52,7 +52,7 @@ pub fn is_built_in(name: &str) -> bool
 
 /// Keeps a procedure of a number, where none has its name yet.
 fn add<'a>(
-    definitions: &mut IndexMap<&'a str, Definition>,
+    definitions: &mut BTreeMap<&'a str, Definition>,
     number: usize,
     procedure: &'a ProcTree,
 ) -> Result<(), AllocError>
@@ -76,7 +76,7 @@ impl<'a> Table<'a> {
     pub fn new(alloc: Global, items: &'a [Item]) -> Result<Table<'a>, AllocError>
         ensures { IfOk result (λ table. table.items.now ≡ items.now) }
     {
-        let mut definitions = IndexMap::new(alloc);
+        let mut definitions = BTreeMap::new(alloc);
         let mut number = 0;
         for item in items {
             if let Item::Proc(procedure) = item {

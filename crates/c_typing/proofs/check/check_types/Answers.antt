@@ -5,8 +5,8 @@ use Rattle.c_typing.specs.declared.fault.TypeFault.TheVariants.{NoMain}
 use Rattle.c_typing.specs.Answer.{start}
 use Rattle.c_typing.specs.Scope.{procedures_of, defined_from}
 use Rattle.c_typing.specs.Faults.{all_faults}
-use Rattle.c_typing.specs.Least.{least_from}
-use Rattle.c_typing.specs.Tables.{best_of, procedures_in, is_defined}
+use Rattle.c_typing.specs.steps.Least.{least_from}
+use Rattle.c_typing.specs.steps.Tables.{best_of, procedures_in, is_defined}
 use Rattle.c_tree.specs.View.{program_from}
 use Rattle.c_typing.proofs.Least.{least-none}
 use Rattle.c_typing.proofs.Formed.{faultless_keeps}

@@ -1,6 +1,6 @@
 use Rattle.std.proofs.Common.{◌∙◌, ap, sym, [], ◌∷◌, length, arith}
 use Rattle.std.proofs.lemmas.List.{length-append}
-use Rattle.c_typing.specs.Tables.{scopes_onto, outer_of}
+use Rattle.c_typing.specs.steps.Tables.{scopes_onto, outer_of}
 use Rattle.c_typing.proofs.Tabled.{close_opens, close_declares}
 use Rattle.c_typing.proofs.scopes.Scopes.close.Goals as goal
 

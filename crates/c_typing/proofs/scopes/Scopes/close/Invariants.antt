@@ -1,5 +1,5 @@
 use Rattle.std.proofs.Common.{◌≡◌, length}
-use Rattle.c_typing.specs.Tables.{scopes_of, outer_of}
+use Rattle.c_typing.specs.steps.Tables.{scopes_of, outer_of}
 use Rattle.c_typing.proofs.scopes.Scopes.close.Given as goal
 
 abbrev pub invariant-loop-entry : goal.invariant-loop-entry

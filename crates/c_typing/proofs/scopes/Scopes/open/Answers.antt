@@ -1,7 +1,7 @@
 use Rattle.std.proofs.Common.{◌+◌, [], ◌∷◌, ap, sym, ◌∙◌, arith}
 use Rattle.c_typing.specs.declared.scopes.Entry.TheVariants.{Opens}
-use Rattle.c_typing.specs.Meanings.{depth_onto}
-use Rattle.c_typing.specs.Tables.{scopes_onto}
+use Rattle.c_typing.specs.steps.Meanings.{depth_onto}
+use Rattle.c_typing.specs.steps.Tables.{scopes_onto}
 use Rattle.c_typing.proofs.Tabled.{scopes_onto-append}
 use Rattle.c_typing.proofs.Known.{depth-append, depth-within, opened_linked}
 use Rattle.c_typing.proofs.scopes.Scopes.open.Goals as goal

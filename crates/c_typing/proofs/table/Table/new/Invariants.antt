@@ -1,7 +1,7 @@
 use Rattle.std.proofs.Common.{◌≡◌, ◌≤◌, ℕ, List, drop}
 use Rattle.c_typing.specs.Scope.{defined_from}
-use Rattle.c_typing.specs.Meanings.{found_in}
-use Rattle.c_typing.specs.Tables.{procedures_in}
+use Rattle.c_typing.specs.steps.Meanings.{found_in}
+use Rattle.c_typing.specs.steps.Tables.{procedures_in}
 use Rattle.c_typing.proofs.Defined.{found_or}
 use Rattle.c_typing.proofs.table.Table.new.Given as goal
 

@@ -1,5 +1,0 @@
-use Rattle.c_tree.proofs.Rows.{block_of}
-use Rattle.c_typing.proofs.making.block.Goals as goal
-
-pub returns : goal.returns
-returns c = block_of c.args.made

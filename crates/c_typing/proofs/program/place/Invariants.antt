@@ -1,6 +1,0 @@
-use Rattle.std.proofs.Common.{◌≡◌, ◌++◌, drop}
-use Rattle.c_typing.specs.LoweringSteps.{placed}
-use Rattle.c_typing.proofs.program.place.Given as goal
-
-abbrev pub invariant-loop-at : goal.invariant-loop-at
-invariant-loop-at l = l.places.items ++ placed l.proc (drop l.at-index l.asserts) ≡ l.fn.places.items ++ placed l.proc l.asserts

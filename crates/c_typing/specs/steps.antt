@@ -1,0 +1,4 @@
+pub mod LoweringSteps
+pub mod Tables
+pub mod Meanings
+pub mod Least

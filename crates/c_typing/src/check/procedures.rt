@@ -1,0 +1,211 @@
+//! All faults of a file.
+
+ghost use Rattle.std.specs.Prelude.{◌≡◌, ◌+◌, ◌^◌, ◌<◌, ◌≤◌, None, [], ◌∷◌, ◌++◌, ◌||◌, map, length, slice_get, OnOk, IfOk};
+ghost use Rattle.c_typing.specs.declared.fault.Which.TheVariants.{Procedures};
+ghost use Rattle.c_tree.specs.SourceView.{identifier_of, statement_trees_of};
+ghost use Rattle.c_tree.specs.FileView.{item_of, procedure_tree_of};
+ghost use Rattle.c_typing.specs.Scope.{procedures_of, defined_from, is_built_in, variables_of, asserts_in, asserts_in_file};
+ghost use Rattle.c_typing.specs.Faults.{limit_fault, place_of, procedure_place, parameters_faults, prototypes_faults, all_faults};
+ghost use Rattle.c_typing.specs.steps.Least.{least_from};
+ghost use Rattle.c_typing.specs.steps.Tables.{scopes_of, procedures_in, best_of, notes_of, noted, with_zeros, is_again, is_defined, heading_found, body_found, procedure_found, procedures_found};
+
+use crate::check::expressions::declared;
+use crate::check::notes::Notes;
+use crate::check::statements::{Place, statements};
+use crate::fault::{
+    MAX_ASSERTIONS, MAX_PARAMETERS, MAX_PROCEDURES, MAX_VARIABLES, TypeFault, Which,
+};
+use crate::scopes::Scopes;
+use crate::table::{Table, is_built_in, is_main};
+use c_tree::syntax_tree::{Item, Named, ProcTree};
+use c_tree::tree::Pos;
+use std::alloc::{AllocError, Global};
+
+/// The place of a name by its index.
+fn place_at(names: &[Named], index: usize) -> Option<Pos>
+    ensures { result ≡ place_of (slice_get (map identifier_of names.now) index) }
+{
+    match names.get(index) {
+        Some(named) => Some(named.at),
+        None => None,
+    }
+}
+
+/// A place by its index.
+fn place(places: &[Pos], index: usize) -> Option<Pos>
+    ensures { result ≡ slice_get places.now index }
+{
+    places.get(index).copied()
+}
+
+/// The parameters of a procedure.
+fn parameters<'a>(
+    scopes: &mut Scopes<'a>,
+    notes: &mut Notes,
+    names: &'a [Named],
+) -> Result<(), AllocError>
+    ensures notes { OnOk result (notes_of notes.new ≡ noted (notes_of notes.old)
+        (parameters_faults (scopes_of scopes.old) (map identifier_of names.now)) (map identifier_of names.now) []) }
+    ensures scopes { OnOk result (scopes_of scopes.new ≡ with_zeros (scopes_of scopes.old) (map identifier_of names.now)) }
+{
+    for named in names {
+        declared(scopes, notes, named)?;
+    }
+    Ok(())
+}
+
+/// The heading of the procedure of a number.
+fn heading(table: &Table<'_>, notes: &mut Notes, number: usize, tree: &ProcTree)
+    ensures { notes_of notes.new ≡ noted (notes_of notes.old) (heading_found
+        (is_again (procedures_in table.now.items.now) number (procedure_tree_of tree.now)) (procedure_tree_of tree.now)) [] [] }
+{
+    let name = tree.named.name.as_str();
+    let built_in = is_built_in(name);
+    let again = table.number_of(name) < number;
+    notes.found_if(built_in || again, TypeFault::Duplicate, tree.named.at);
+    let shaped = !tree.void && tree.params.len() == 0;
+    let main = is_main(name);
+    notes.found_if(main && !shaped, TypeFault::MainShape, tree.named.at);
+}
+
+/// The parameters and the body of a procedure.
+fn body(
+    alloc: Global,
+    table: &Table<'_>,
+    notes: &mut Notes,
+    tree: &ProcTree,
+) -> Result<(), AllocError>
+    ensures { OnOk result (notes_of notes.new ≡ noted (notes_of notes.old)
+        (body_found (procedures_in table.now.items.now) (procedure_tree_of tree.now)) (variables_of (procedure_tree_of tree.now))
+        (asserts_in (procedure_tree_of tree.now).body)) }
+{
+    let mut scopes = Scopes::new(alloc);
+    scopes.open()?;
+    parameters(&mut scopes, notes, &tree.params)?;
+    notes.limit(Which::Parameters, place_at(&tree.params, MAX_PARAMETERS));
+    let outside = Place {
+        void: tree.void,
+        in_loop: false,
+    };
+    statements(table, outside, &mut scopes, notes, &tree.body)?;
+    Ok(())
+}
+
+/// The procedure of a number.
+fn procedure(
+    alloc: Global,
+    table: &Table<'_>,
+    notes: &mut Notes,
+    number: usize,
+    tree: &ProcTree,
+) -> Result<(), AllocError>
+    ensures best { OnOk result (best_of notes.new.best ≡ least_from (best_of notes.old.best)
+        (procedure_found (procedures_in table.now.items.now) (is_again (procedures_in table.now.items.now) number
+        (procedure_tree_of tree.now)) (procedure_tree_of tree.now))) }
+    ensures asserts { OnOk result (notes.new.asserts.items ≡ notes.old.asserts.items ++ asserts_in (procedure_tree_of tree.now).body) }
+{
+    notes.forget_names();
+    heading(table, notes, number, tree);
+    body(alloc, table, notes, tree)?;
+    let past = place(&notes.declared, MAX_VARIABLES);
+    notes.limit(Which::Variables, past);
+    notes.limit(Which::Tokens, tree.past);
+    Ok(())
+}
+
+/// An item of a file, before which so many procedures stand. The result is their number behind it.
+fn item(
+    alloc: Global,
+    table: &Table<'_>,
+    notes: &mut Notes,
+    number: usize,
+    tree: &Item,
+) -> Result<usize, AllocError>
+    requires { number < 2 ^ 63 }
+    ensures number { IfOk result (λ after. after ≡ number + length (procedures_in (tree.now ∷ []))) }
+    ensures best { OnOk result (best_of notes.new.best ≡ least_from (best_of notes.old.best)
+        (procedures_found (procedures_in table.now.items.now) number (procedures_in (tree.now ∷ [])))) }
+    ensures asserts { OnOk result (notes.new.asserts.items ≡ notes.old.asserts.items ++ asserts_in_file (procedures_in (tree.now ∷ []))) }
+{
+    match tree {
+        Item::Proto(_) => Ok(number),
+        Item::Proc(tree) => {
+            procedure(alloc, table, notes, number, tree)?;
+            Ok(number + 1)
+        }
+    }
+}
+
+/// The procedures of a file.
+fn procedures(
+    alloc: Global,
+    table: &Table<'_>,
+    notes: &mut Notes,
+    items: &[Item],
+) -> Result<(), AllocError>
+    ensures best { OnOk result (best_of notes.new.best ≡ least_from (best_of notes.old.best)
+        (procedures_found (procedures_in table.now.items.now) 0 (procedures_in items.now))) }
+    ensures asserts { OnOk result (notes.new.asserts.items ≡ notes.old.asserts.items ++ asserts_in_file (procedures_in items.now)) }
+{
+    let mut number = 0;
+    for tree in items {
+        number = item(alloc, table, notes, number, tree)?;
+    }
+    Ok(())
+}
+
+/// Whether a name is built in or that of a procedure.
+fn is_known(table: &Table<'_>, name: &str) -> bool
+    ensures { result ≡ (is_built_in name.now || is_defined (defined_from 0 (procedures_in table.now.items.now) name.now)) }
+{
+    is_built_in(name) || table.is_defined(name)
+}
+
+/// A prototype has to be that of a built-in name or of a procedure.
+fn prototype(table: &Table<'_>, notes: &mut Notes, tree: &Item)
+    ensures { notes_of notes.new ≡ noted (notes_of notes.old) (prototypes_faults (procedures_in table.now.items.now) (item_of tree.now ∷ [])) [] [] }
+{
+    if let Item::Proto(named) = tree {
+        let known = is_known(table, named.name.as_str());
+        notes.found_if(!known, TypeFault::UnknownName, named.at);
+    }
+}
+
+/// The prototypes of a file.
+fn prototypes(table: &Table<'_>, notes: &mut Notes, items: &[Item])
+    ensures { notes_of notes.new ≡ noted (notes_of notes.old) (prototypes_faults (procedures_in table.now.items.now) (map item_of items.now)) [] [] }
+{
+    for tree in items {
+        prototype(table, notes, tree);
+    }
+}
+
+/// The place of the first procedure past the limit.
+fn place_past(items: &[Item]) -> Option<Pos>
+    ensures { result ≡ procedure_place (slice_get (procedures_in items.now) MAX_PROCEDURES) }
+{
+    let mut left = MAX_PROCEDURES;
+    for tree in items {
+        if let Item::Proc(tree) = tree {
+            if left == 0 {
+                return Some(tree.named.at);
+            }
+            left -= 1;
+        }
+    }
+    None
+}
+
+/// What is to be said of a file.
+pub fn all(alloc: Global, table: &Table<'_>) -> Result<Notes, AllocError>
+    ensures best { IfOk result (λ notes. best_of notes.best ≡ least_from None (all_faults (map item_of table.now.items.now))) }
+    ensures asserts { IfOk result (λ notes. notes.asserts.items ≡ asserts_in_file (procedures_in table.now.items.now)) }
+{
+    let mut notes = Notes::new(alloc);
+    prototypes(table, &mut notes, table.items);
+    procedures(alloc, table, &mut notes, table.items)?;
+    notes.limit(Which::Procedures, place_past(table.items));
+    let past = place(&notes.asserts, MAX_ASSERTIONS);
+    notes.limit(Which::Assertions, past);
+    Ok(notes)
+}

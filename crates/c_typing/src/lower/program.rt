@@ -1,0 +1,162 @@
+//! The program of a file without faults.
+
+ghost use Rattle.std.specs.Prelude.{◌≡◌, ◌+◌, ◌<◌, ◌≤◌, [], ◌∷◌, ◌++◌, length, map, take, drop, OnOk, IfOk};
+ghost use Rattle.c_tree.specs.SourceView.{identifier_of};
+ghost use Rattle.c_tree.specs.FileView.{procedure_tree_of};
+ghost use Rattle.c_tree.specs.View.{procedure_of, statements_of};
+ghost use Rattle.c_typing.specs.Scope.{with_names, variables_of, asserts_in, asserts_in_file};
+ghost use Rattle.c_typing.specs.Lowering.{lowered_procedure, lowered_procedures, assert_places};
+ghost use Rattle.c_typing.specs.steps.LoweringSteps.{ProcedureFits, ProceduresFit, placed};
+ghost use Rattle.c_typing.specs.steps.Tables.{scopes_of, procedures_in};
+
+use crate::fault::{MAX_PROCEDURES, MAX_VARIABLES};
+use crate::lower::state::State;
+use crate::lower::statements::statements;
+use crate::scopes::Scopes;
+use crate::table::Table;
+use c_tree::syntax_tree::{Item, Named, ProcTree};
+use c_tree::tree::{AssertPlace, Pos, Procedure, Stmt};
+use std::alloc::{AllocError, Global};
+
+/// The scope of the parameters, and how many there are.
+fn parameters<'a>(scopes: &mut Scopes<'a>, names: &'a [Named]) -> Result<u32, AllocError>
+    requires { length names.now ≤ MAX_VARIABLES }
+    ensures count { IfOk result (λ count. count ≡ length names.now) }
+    ensures scopes { OnOk result (scopes_of scopes.new ≡ with_names (scopes_of scopes.old) 0 (map identifier_of names.now)) }
+{
+    let mut slot = 0u32;
+    for named in names {
+        scopes.declare(named.name.as_str(), slot)?;
+        slot += 1;
+    }
+    Ok(slot)
+}
+
+/// The body of a procedure, whose parameters are its first variables.
+fn body<'a>(
+    table: &Table<'_>,
+    state: &mut State<'a>,
+    tree: &'a ProcTree,
+) -> Result<Vec<Stmt>, AllocError>
+    requires few { length (procedures_in table.now.items.now) ≤ MAX_PROCEDURES }
+    requires fits { ProcedureFits state.old.id (procedure_tree_of tree.now) }
+    requires outside { scopes_of state.old.scopes ≡ [] }
+    ensures made { IfOk result (λ made. statements_of made.items ≡ (lowered_procedure (procedures_in table.now.items.now) state.old.id
+        (procedure_tree_of tree.now)).body) }
+    ensures next { OnOk result (state.new.next ≡ length (variables_of (procedure_tree_of tree.now))) }
+    ensures id { OnOk result (state.new.id ≡ state.old.id + length (asserts_in (procedure_tree_of tree.now).body)) }
+{
+    state.scopes.open()?;
+    state.next = parameters(&mut state.scopes, &tree.params)?;
+    statements(table, state, &tree.body)
+}
+
+/// A procedure; so many assertions stand before it. `id` is left behind its own.
+fn procedure(
+    alloc: Global,
+    table: &Table<'_>,
+    id: &mut u32,
+    tree: &ProcTree,
+) -> Result<Procedure, AllocError>
+    requires few { length (procedures_in table.now.items.now) ≤ MAX_PROCEDURES }
+    requires fits { ProcedureFits id.old (procedure_tree_of tree.now) }
+    ensures made { IfOk result (λ made. procedure_of made ≡ lowered_procedure (procedures_in table.now.items.now) id.old
+        (procedure_tree_of tree.now)) }
+    ensures id { OnOk result (id.new ≡ id.old + length (asserts_in (procedure_tree_of tree.now).body)) }
+{
+    let name = tree.named.name.clone()?;
+    let mut state = State {
+        alloc,
+        scopes: Scopes::new(alloc),
+        next: 0,
+        id: *id,
+    };
+    let made = body(table, &mut state, tree)?;
+    *id = state.id;
+    Ok(Procedure {
+        name,
+        params: tree.params.len() as u32,
+        slots: state.next,
+        gives: !tree.void,
+        body: made,
+    })
+}
+
+/// The assertions of a procedure, whose places these are.
+fn place(places: &mut Vec<AssertPlace>, asserts: &[Pos], proc: u32) -> Result<(), AllocError>
+    ensures { OnOk result (places.new.items ≡ places.old.items ++ placed proc asserts.now) }
+{
+    for at in asserts {
+        places.push(AssertPlace { at: *at, proc })?;
+    }
+    Ok(())
+}
+
+/// An item of a file. `asserts` are the places of the assertions of the whole file.
+fn item(
+    alloc: Global,
+    table: &Table<'_>,
+    id: &mut u32,
+    procedures: &mut Vec<Procedure>,
+    places: &mut Vec<AssertPlace>,
+    asserts: &[Pos],
+    tree: &Item,
+) -> Result<(), AllocError>
+    requires few { length (procedures_in table.now.items.now) ≤ MAX_PROCEDURES }
+    requires fits { ProceduresFit id.old (procedures_in (tree.now ∷ [])) }
+    requires room { length procedures.old.items ≤ MAX_PROCEDURES }
+    requires within { id.old + length (asserts_in_file (procedures_in (tree.now ∷ []))) ≤ length asserts.now }
+    requires own { take (length (asserts_in_file (procedures_in (tree.now ∷ [])))) (drop id.old asserts.now) ≡ asserts_in_file
+        (procedures_in (tree.now ∷ [])) }
+    ensures procedures { OnOk result (map procedure_of procedures.new.items ≡ map procedure_of procedures.old.items ++ lowered_procedures
+        (procedures_in table.now.items.now) id.old (procedures_in (tree.now ∷ []))) }
+    ensures places { OnOk result (places.new.items ≡ places.old.items ++ assert_places (length procedures.old.items)
+        (procedures_in (tree.now ∷ []))) }
+    ensures id { OnOk result (id.new ≡ id.old + length (asserts_in_file (procedures_in (tree.now ∷ [])))) }
+    ensures count { OnOk result (length procedures.new.items ≡ length procedures.old.items + length (procedures_in (tree.now ∷ []))) }
+{
+    if let Item::Proc(tree) = tree {
+        let from = *id;
+        let made = procedure(alloc, table, id, tree)?;
+        place(
+            places,
+            &asserts[from as usize..*id as usize],
+            procedures.len() as u32,
+        )?;
+        procedures.push(made)?;
+    }
+    Ok(())
+}
+
+/// The procedures of a file and the places of its assertions.
+#[derive(Drop)]
+pub struct Made {
+    pub procedures: Vec<Procedure>,
+    pub places: Vec<AssertPlace>,
+}
+
+/// The program of a file without faults. `asserts` are the places of its assertions.
+pub fn parts(alloc: Global, table: &Table<'_>, asserts: &[Pos]) -> Result<Made, AllocError>
+    requires few { length (procedures_in table.now.items.now) ≤ MAX_PROCEDURES }
+    requires fits { ProceduresFit 0 (procedures_in table.now.items.now) }
+    requires asserts { asserts.now ≡ asserts_in_file (procedures_in table.now.items.now) }
+    ensures procedures { IfOk result (λ made. map procedure_of made.procedures.items ≡ lowered_procedures
+        (procedures_in table.now.items.now) 0 (procedures_in table.now.items.now)) }
+    ensures places { IfOk result (λ made. made.places.items ≡ assert_places 0 (procedures_in table.now.items.now)) }
+{
+    let mut id = 0u32;
+    let mut procedures = Vec::new(alloc);
+    let mut places = Vec::new(alloc);
+    for tree in table.items {
+        item(
+            alloc,
+            table,
+            &mut id,
+            &mut procedures,
+            &mut places,
+            asserts,
+            tree,
+        )?;
+    }
+    Ok(Made { procedures, places })
+}
