@@ -7,3 +7,9 @@
 mod lexer;
 #[cfg(test)]
 mod parser;
+#[cfg(test)]
+mod replays;
+#[cfg(test)]
+mod sources;
+#[cfg(test)]
+mod typing;
