@@ -38,7 +38,8 @@ digit_sharp b h = grind (arith, nat_tests)
 
 -- a literal begins with a digit
 pub literal_first : (b : ℕ) (bs : List ℕ) (n : ℕ) → IsLiteral (b ∷ bs) n → is_digit b ≡ true
-literal_first b bs n l = let d = literal_digit (b ∷ bs) n l in let q : b ≡ d.byte = same_head b d.byte bs d.bytes d.is in ap is_digit q ∙ d.digit
+literal_first b bs n l = let d = literal_digit (b ∷ bs) n l in let q : b ≡ d.byte = same_head b d.byte bs d.bytes d.is in ap is_digit q
+    ∙ d.digit
   where
     same_head : (x y : ℕ) (xs ys : List ℕ) → x ∷ xs ≡ y ∷ ys → x ≡ y
     same_head x y xs ys e = cc
@@ -57,10 +58,25 @@ pub record Head (text : List ℕ) : Type 0 where
 
 word_head : (text : List ℕ) → IsWord text → Head text
 word_head [] w = absurd w
-word_head (b ∷ bs) w = record { byte = b; bytes = bs; is = refl; blanks = letter_blank b w.0; sharp = letter_sharp b w.0; slash = letter_slash b w.0 }
+word_head (b ∷ bs) w = record {
+  byte = b;
+  bytes = bs;
+  is = refl;
+  blanks = letter_blank b w.0;
+  sharp = letter_sharp b w.0;
+  slash = letter_slash b w.0;
+}
 
 literal_head : (text : List ℕ) (n : ℕ) → IsLiteral text n → Head text
-literal_head text n l = let d = literal_digit text n l in record { byte = d.byte; bytes = d.bytes; is = d.is; blanks = digit_blank d.byte d.digit; sharp = digit_sharp d.byte d.digit; slash = digit_slash d.byte d.digit }
+literal_head text n l = let d = literal_digit text n l in record {
+  byte = d.byte;
+  bytes = d.bytes;
+  is = d.is;
+  blanks = digit_blank d.byte
+      d.digit;
+  sharp = digit_sharp d.byte d.digit;
+  slash = digit_slash d.byte d.digit;
+}
 
 pub mark_some : (m : Punct) → [] ≡ mark_text m → ⊥
 mark_some m e = absurd_of (mark_text m) e (mark_size m).least
@@ -71,10 +87,20 @@ mark_some m e = absurd_of (mark_text m) e (mark_size m).least
 
 mark_head : (text : List ℕ) (m : Punct) → text ≡ mark_text m → Head text
 mark_head [] m e = absurd (mark_some m e)
-mark_head (b ∷ bs) m e = let s = mark_sign m b bs e in record { byte = b; bytes = bs; is = refl; blanks = s.blanks; sharp = s.sharp; slash = s.slash }
+mark_head (b ∷ bs) m e = let s = mark_sign m b bs e in record {
+  byte = b;
+  bytes = bs;
+  is = refl;
+  blanks = s.blanks;
+  sharp = s.sharp;
+  slash = s.slash;
+}
 
 pub lexeme_head : (text : List ℕ) → IsLexeme text → Head text
-lexeme_head text l = elim l [ inl w ↦ word_head text w | inr v ↦ elim v [ inl d ↦ literal_head text d.0 d.1 | inr m ↦ mark_head text m.0 m.1 ] ]
+lexeme_head text l = elim l [
+  | inl w ↦ word_head text w
+  | inr v ↦ elim v [ inl d ↦ literal_head text d.0 d.1 | inr m ↦ mark_head text m.0 m.1 ]
+]
 
 -- a word is no literal and no mark, and a literal no mark
 word_literal : (text : List ℕ) (n : ℕ) → IsWord text → IsLiteral text n → ⊥
@@ -148,7 +174,8 @@ word_longest b bs rest h e extra others q t = elim t [
   ]
 ]
 
-pub literal_longest : (b : ℕ) (bs rest : List ℕ) → is_digit b ≡ true → ((extra others : List ℕ) (n : ℕ) → rest ≡ extra ++ others → IsLiteral (b ∷ (bs ++ extra)) n → extra ≡ []) → IsLongest (b ∷ bs) rest
+pub literal_longest : (b : ℕ) (bs rest : List ℕ) → is_digit b ≡ true → ((extra others : List ℕ) (n : ℕ) → rest ≡ extra ++ others →
+    IsLiteral (b ∷ (bs ++ extra)) n → extra ≡ []) → IsLongest (b ∷ bs) rest
 literal_longest b bs rest h l extra others q t = elim t [
   | inl w ↦ absurd (digit-letter b h w.0)
   | inr v ↦ elim v [
@@ -157,7 +184,8 @@ literal_longest b bs rest h l extra others q t = elim t [
   ]
 ]
 
-pub mark_longest : (m : Punct) (text rest : List ℕ) → text ≡ mark_text m → ((extra others : List ℕ) (o : Punct) → rest ≡ extra ++ others → text ++ extra ≡ mark_text o → extra ≡ []) → IsLongest text rest
+pub mark_longest : (m : Punct) (text rest : List ℕ) → text ≡ mark_text m → ((extra others : List ℕ) (o : Punct) → rest ≡ extra ++ others →
+    text ++ extra ≡ mark_text o → extra ≡ []) → IsLongest text rest
 mark_longest m [] rest s l extra others q t = absurd (mark_some m s)
 mark_longest m (b ∷ bs) rest s l extra others q t = elim t [
   | inl w ↦ let n : false ≡ true = sym (mark_sign m b bs s).letter ∙ w.0 in cc
@@ -181,7 +209,8 @@ no_lexeme b bytes l d m (x ∷ text) rest e t =
     ]
 
 -- a letter and bytes of a name, as a text
-pub run_word : (b : ℕ) (more rest text : List ℕ) → b ∷ more ≡ text ++ rest → is_letter b ≡ true → Each is_name_byte text → RunEnds is_name_byte rest → (0 < length text) × IsWord text × IsLongest text rest
+pub run_word : (b : ℕ) (more rest text : List ℕ) → b ∷ more ≡ text ++ rest → is_letter b ≡ true → Each is_name_byte text →
+    RunEnds is_name_byte rest → (0 < length text) × IsWord text × IsLongest text rest
 run_word b more rest [] e h each ends =
     let f : is_name_byte b ≡ false = subst (λ r. RunEnds is_name_byte r) (sym e) ends in
     let n : false ≡ true = sym f ∙ letter-name b h in cc

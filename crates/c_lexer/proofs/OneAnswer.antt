@@ -40,7 +40,8 @@ number (bad x y z w) = 4
 sort_of : (text rest : List ℕ) → IsLexeme text → 4 ≡ sort (text ++ rest)
 sort_of text rest l =
     let d = lexeme_head text l in
-    sym (ap (λ t. sort (t ++ rest)) d.is ∙ ap (λ x. cond x 1 (cond (d.byte == 47) (slash_sort (d.bytes ++ rest)) 4)) d.blanks ∙ ap (λ x. cond x (slash_sort (d.bytes ++ rest)) 4) d.slash)
+    sym (ap (λ t. sort (t ++ rest)) d.is ∙ ap (λ x. cond x 1 (cond (d.byte == 47) (slash_sort (d.bytes ++ rest)) 4)) d.blanks
+    ∙ ap (λ x. cond x (slash_sort (d.bytes ++ rest)) 4) d.slash)
 
 by_tests : (x y z : Bool) → (x && (y || z)) ≡ false → other_sort ≡ cond x (cond y 2 (cond z 3 4)) 4
 by_tests false y z h = refl
@@ -72,20 +73,25 @@ moved_to : {p q : Place} {xs : List ℕ} {r : Answers} → p ≡ q → IsLexed p
 moved_to {xs = xs} {r = r} e l = subst (λ p. IsLexed p xs r) e l
 
 glued_ends : (b : ℕ) (rest more : List ℕ) → more ≡ b ∷ rest → is_name_byte b ≡ true → RunEnds is_name_byte more → ⊥
-glued_ends b rest more e h ends = let f : is_name_byte b ≡ false = subst (λ x. RunEnds is_name_byte x) e ends in let n : false ≡ true = sym f ∙ h in cc
+glued_ends b rest more e h ends = let f : is_name_byte b ≡ false = subst (λ x. RunEnds is_name_byte x) e ends in let n : false
+    ≡ true = sym f
+    ∙ h in cc
 
-token_wide : (k : TokenKind) (n : ℕ) (text rest other more : List ℕ) → text ++ rest ≡ other ++ more → IsToken k text → IsLongest text rest → Parts k rest → IsLiteral other n → IsLongest other more → 2 ^ 63 ≤ n → ⊥
+token_wide : (k : TokenKind) (n : ℕ) (text rest other more : List ℕ) → text ++ rest ≡ other ++ more → IsToken k text → IsLongest text rest →
+    Parts k rest → IsLiteral other n → IsLongest other more → 2 ^ 63 ≤ n → ⊥
 token_wide k n text rest other more e t long parts d long' big =
     let w = same_text text other rest more e (token_lexeme k text t) long (inr (inl (n, d))) long' in
     let p = literal_parts k text rest n (subst (λ x. IsLiteral x n) (sym w.0) d) t parts in
     omega (arith, p.narrow, big)
 
-token_glued : (k : TokenKind) (n b : ℕ) (text rest other more : List ℕ) → text ++ rest ≡ other ++ b ∷ more → IsToken k text → IsLongest text rest → Parts k rest → IsLiteral other n → IsLongest other (b ∷ more) → is_name_byte b ≡ true → ⊥
+token_glued : (k : TokenKind) (n b : ℕ) (text rest other more : List ℕ) → text ++ rest ≡ other ++ b ∷ more → IsToken k text →
+    IsLongest text rest → Parts k rest → IsLiteral other n → IsLongest other (b ∷ more) → is_name_byte b ≡ true → ⊥
 token_glued k n b text rest other more e t long parts d long' h =
     let w = same_text text other rest (b ∷ more) e (token_lexeme k text t) long (inr (inl (n, d))) long' in
     let p = literal_parts k text rest n (subst (λ x. IsLiteral x n) (sym w.0) d) t parts in glued_ends b more rest w.1 h p.ends
 
-wide_glued : (m n b : ℕ) (text rest other more : List ℕ) → text ++ rest ≡ other ++ b ∷ more → IsLiteral text m → IsLongest text rest → RunEnds is_name_byte rest → IsLiteral other n → IsLongest other (b ∷ more) → is_name_byte b ≡ true → ⊥
+wide_glued : (m n b : ℕ) (text rest other more : List ℕ) → text ++ rest ≡ other ++ b ∷ more → IsLiteral text m → IsLongest text rest →
+    RunEnds is_name_byte rest → IsLiteral other n → IsLongest other (b ∷ more) → is_name_byte b ≡ true → ⊥
 wide_glued m n b text rest other more e d long ends d' long' h =
     let w = same_text text other rest (b ∷ more) e (inr (inl (m, d))) long (inr (inl (n, d'))) long' in glued_ends b more rest w.1 h ends
 
@@ -93,7 +99,8 @@ wide_glued m n b text rest other more e d long ends d' long' h =
 include_lexeme : (bytes text rest : List ℕ) → BeginsInclude bytes → bytes ≡ text ++ rest → IsLexeme text → ⊥
 include_lexeme bytes text rest i e l =
     let d = lexeme_head text l in
-    let q : 35 ≡ d.byte = same_head 35 d.byte (i.gap ++ (codes "include" ++ i.rest)) (d.bytes ++ rest) (sym i.whole ∙ e ∙ ap (λ t. t ++ rest) d.is) in
+    let q : 35 ≡ d.byte = same_head 35 d.byte (i.gap ++ (codes "include" ++ i.rest)) (d.bytes ++ rest)
+    (sym i.whole ∙ e ∙ ap (λ t. t ++ rest) d.is) in
     let f : true ≡ false = ap (λ b. b == 35) q ∙ d.sharp in cc
   where
     same_head : (x y : ℕ) (xs ys : List ℕ) → x ∷ xs ≡ y ∷ ys → x ≡ y
@@ -143,36 +150,53 @@ one {p} (comment text rest c l) (comment other more d m) e =
     let q = two_on 47 42 (text ++ (codes "*/" ++ rest)) (other ++ (codes "*/" ++ more)) e in
     let w = one_end text other rest more q c d in
     one l (moved_to (ap (λ t. after p (codes "/*" ++ (t ++ codes "*/"))) (sym w)) m) (behind_end text other rest more w q)
-one (comment text rest c l) (open_comment other d) e = absurd (closed_open text rest other (two_on 47 42 (text ++ (codes "*/" ++ rest)) other e) d)
-one (open_comment other d) (comment text rest c l) e = absurd (closed_open text rest other (two_on 47 42 (text ++ (codes "*/" ++ rest)) other (sym e)) d)
+one (comment text rest c l) (open_comment other d) e = absurd
+    (closed_open text rest other (two_on 47 42 (text ++ (codes "*/" ++ rest)) other e)
+    d)
+one (open_comment other d) (comment text rest c l) e = absurd
+    (closed_open text rest other (two_on 47 42 (text ++ (codes "*/" ++ rest)) other (sym e)) d)
 one (open_comment text c) (open_comment other d) e = refl
 one {p} (include_line text rest h i c f l) (include_line other more k j d g m) e =
     let w = same_run is_of_line text other rest more e c d f g in
     one l (moved_to (ap (after p) (sym w.0)) m) w.1
-one (include_line text rest h i c f l) (token k other more u long parts m) e = absurd (include_lexeme (text ++ rest) other more i e (token_lexeme k other u))
-one (include_line text rest h i c f l) (wide n other more d long ends big) e = absurd (include_lexeme (text ++ rest) other more i e (inr (inl (n, d))))
-one (include_line text rest h i c f l) (glued n b other more d long q) e = absurd (include_lexeme (text ++ rest) other (b ∷ more) i e (inr (inl (n, d))))
+one (include_line text rest h i c f l) (token k other more u long parts m) e = absurd (include_lexeme (text ++ rest) other more i e
+    (token_lexeme k other u))
+one (include_line text rest h i c f l) (wide n other more d long ends big) e = absurd (include_lexeme (text ++ rest) other more i e
+    (inr (inl (n, d))))
+one (include_line text rest h i c f l) (glued n b other more d long q) e = absurd (include_lexeme (text ++ rest) other (b ∷ more) i e
+    (inr (inl (n, d))))
 one (include_line text rest h i c f l) (bad x y z w) e = absurd (z h (subst BeginsInclude e i))
-one (token k other more u long parts m) (include_line text rest h i c f l) e = absurd (include_lexeme (text ++ rest) other more i (sym e) (token_lexeme k other u))
-one (wide n other more d long ends big) (include_line text rest h i c f l) e = absurd (include_lexeme (text ++ rest) other more i (sym e) (inr (inl (n, d))))
-one (glued n b other more d long q) (include_line text rest h i c f l) e = absurd (include_lexeme (text ++ rest) other (b ∷ more) i (sym e) (inr (inl (n, d))))
+one (token k other more u long parts m) (include_line text rest h i c f l) e = absurd (include_lexeme (text ++ rest) other more i (sym e)
+    (token_lexeme k other u))
+one (wide n other more d long ends big) (include_line text rest h i c f l) e = absurd (include_lexeme (text ++ rest) other more i (sym e)
+    (inr (inl (n, d))))
+one (glued n b other more d long q) (include_line text rest h i c f l) e = absurd (include_lexeme (text ++ rest) other (b ∷ more) i (sym e)
+    (inr (inl (n, d))))
 one (bad x y z w) (include_line text rest h i c f l) e = absurd (z h (subst BeginsInclude (sym e) i))
 one {p} (token {r = first} k text rest t long parts l) (token {r = second} j other more u long' parts' m) e =
     let w = same_text text other rest more e (token_lexeme k text t) long (token_lexeme j other u) long' in
     let q : k ≡ j = same_kind k j text t (subst (λ x. IsToken j x) (sym w.0) u) in
     let i = one l (moved_to (ap (after p) (sym w.0)) m) w.1 in
-    ap (λ z. with_token (token_at p k text) z) i ∙ ap (λ z. with_token (token_at p z text) second) q ∙ ap (λ z. with_token (token_at p j z) second) w.0
-one (token k text rest t long parts l) (wide n other more d long' ends big) e = absurd (token_wide k n text rest other more e t long parts d long' big)
-one (token k text rest t long parts l) (glued n b other more d long' h) e = absurd (token_glued k n b text rest other more e t long parts d long' h)
+    ap (λ z. with_token (token_at p k text) z) i ∙ ap (λ z. with_token (token_at p z text) second) q
+    ∙ ap (λ z. with_token (token_at p j z) second) w.0
+one (token k text rest t long parts l) (wide n other more d long' ends big) e = absurd (token_wide k n text rest other more e t long parts d
+    long' big)
+one (token k text rest t long parts l) (glued n b other more d long' h) e = absurd (token_glued k n b text rest other more e t long parts d
+    long' h)
 one (token k text rest t long parts l) (bad x y z w) e = absurd (w text rest (sym e) (token_lexeme k text t))
-one (wide n other more d long' ends big) (token k text rest t long parts l) e = absurd (token_wide k n text rest other more (sym e) t long parts d long' big)
+one (wide n other more d long' ends big) (token k text rest t long parts l) e = absurd (token_wide k n text rest other more (sym e) t long
+    parts d long' big)
 one (wide n text rest d long ends big) (wide n' other more d' long' ends' big') e = refl
-one (wide n text rest d long ends big) (glued n' b other more d' long' h) e = absurd (wide_glued n n' b text rest other more e d long ends d' long' h)
+one (wide n text rest d long ends big) (glued n' b other more d' long' h) e = absurd (wide_glued n n' b text rest other more e d long ends
+    d' long' h)
 one (wide n text rest d long ends big) (bad x y z w) e = absurd (w text rest (sym e) (inr (inl (n, d))))
-one (glued n b other more d long' h) (token k text rest t long parts l) e = absurd (token_glued k n b text rest other more (sym e) t long parts d long' h)
-one (glued n b other more d' long' h) (wide n' text rest d long ends big) e = absurd (wide_glued n' n b text rest other more (sym e) d long ends d' long' h)
+one (glued n b other more d long' h) (token k text rest t long parts l) e = absurd (token_glued k n b text rest other more (sym e) t long
+    parts d long' h)
+one (glued n b other more d' long' h) (wide n' text rest d long ends big) e = absurd (wide_glued n' n b text rest other more (sym e) d long
+    ends d' long' h)
 one {p} (glued n b text rest d long h) (glued n' c other more d' long' h') e =
-    let w = same_text text other (b ∷ rest) (c ∷ more) e (inr (inl (n, d))) long (inr (inl (n', d'))) long' in ap (λ x. Err (BadByte (after p x).at)) w.0
+    let w = same_text text other (b ∷ rest) (c ∷ more) e (inr (inl (n, d))) long (inr (inl (n', d'))) long' in
+    ap (λ x. Err (BadByte (after p x).at)) w.0
 one (glued n c text rest d long h) (bad x y z w) e = absurd (w text (c ∷ rest) (sym e) (inr (inl (n, d))))
 one (bad x y z w) (token k text rest t long parts l) e = absurd (w text rest e (token_lexeme k text t))
 one (bad x y z w) (wide n text rest d long ends big) e = absurd (w text rest e (inr (inl (n, d))))

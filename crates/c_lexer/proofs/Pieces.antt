@@ -1,5 +1,5 @@
 -- What stands at a place.
-use Rattle.std.specs.Prelude.{◌≡◌, ℕ, ℤ, zero, suc, ◌+◌, ◌^◌, ◌<◌, ◌≤◌, pos, List, [], ◌∷◌, ◌++◌, length, take, Bool, Result, Err, true, false, ◌==◌, ◌&&◌, ◌||◌, refl, ◌⊎◌, codes}
+use Rattle.std.specs.Prelude.{◌≡◌, ℕ, ℤ, zero, suc, ◌+◌, ◌^◌, ◌<◌, ◌≤◌, pos, List, [], ◌∷◌, ◌++◌, length, take, Bool, Result, Err, true, false, ◌==◌, ◌||◌, refl, ◌⊎◌, codes}
 use Rattle.std.proofs.Common.{drop, get_or, sym, ◌∙◌, ap, subst, arith, append_assoc, length-append, inl, inr}
 use Rattle.std.proofs.Math.Seq.{take-append_seam, drop-append_seam}
 use Rattle.std.proofs.lemmas.Bool.{false≢true}
@@ -16,7 +16,7 @@ use Rattle.c_lexer.specs.declared.token.LexError.TheVariants.{BadByte, OpenComme
 use Rattle.c_lexer.specs.declared.scan.Piece.TheVariants.{Gap, Token}
 use Rattle.c_lexer.specs.Lexing.{after, is_blank, is_digit, is_letter, is_name_byte, is_of_line, Each, RunEnds, IsWord, keyword_text, mark_text, IsLongest, IsToken, Parts, HasNoEnd, begins_comment, BeginsInclude, token_at, with_token, IsLexed, blank, line_comment, comment, open_comment, include_line, token, wide, glued, bad}
 use Rattle.c_lexer.specs.steps.Scanning.{IsRun, IsMarkAt, HasNoMark, HasNoKeyword, IsFirstEnd, IsPiece}
-use Rattle.c_lexer.proofs.Lists.{drop_first, first_of_some, stands}
+use Rattle.c_lexer.proofs.Lists.{drop_first, first_of_some, stands, eq_of, both}
 use Rattle.c_lexer.proofs.Words.{mark_sign, mark_size}
 use Rattle.c_lexer.proofs.Lexemes.{mark_some, mark_longest, no_lexeme, run_word}
 use Rattle.c_lexer.proofs.Gaps.{front_of}
@@ -39,7 +39,8 @@ module _ (bytes text rest : List ℕ) (len : ℕ) (e : bytes ≡ text ++ rest) (
   cut_lexed : (p : Place) (r : Answers) → IsLexed (after p (take len bytes)) (drop len bytes) r → IsLexed (after p text) rest r
   cut_lexed p r h = subst (λ x. IsLexed (after p text) x r) cut_behind (subst (λ x. IsLexed (after p x) (drop len bytes) r) cut_front h)
 
-  gap_piece : (p : Place) → 0 < len → ((r : Answers) → IsLexed (after p text) rest r → IsLexed p (text ++ rest) r) → IsPiece p bytes (Gap len)
+  gap_piece : (p : Place) → 0 < len → ((r : Answers) → IsLexed (after p text) rest r → IsLexed p (text ++ rest) r) →
+      IsPiece p bytes (Gap len)
   gap_piece p some go = (some, cut_within, λ r h. subst (λ x. IsLexed p x r) (sym e) (go r (cut_lexed p r h)))
 
   token_piece : (p : Place) (k : TokenKind) → 0 < len → IsToken k text → IsLongest text rest → Parts k rest → IsPiece p bytes (Token k len)
@@ -64,7 +65,8 @@ module _ (p : Place) (bytes : List ℕ) (len : ℕ) (h : is_letter (get_or bytes
   word_is : (0 < length r.text) × IsWord r.text × IsLongest r.text (drop len bytes)
   word_is =
       let lt = stands bytes 0 (letter_some (get_or bytes 0 0) h) in
-      run_word (get_or bytes 0 0) (drop 1 bytes) (drop len bytes) r.text (sym (first_of_some bytes (omega (arith, lt))) ∙ r.whole) h r.each r.ends
+      run_word (get_or bytes 0 0) (drop 1 bytes) (drop len bytes) r.text (sym (first_of_some bytes (omega (arith, lt))) ∙ r.whole) h r.each
+      r.ends
 
   word_some : 0 < len
   word_some = let w = word_is in omega (arith, w.0, r.size)
@@ -72,7 +74,8 @@ module _ (p : Place) (bytes : List ℕ) (len : ℕ) (h : is_letter (get_or bytes
   pub name_piece : HasNoKeyword (take len bytes) → IsPiece p bytes (Token Name len)
   name_piece none =
       let w = word_is in
-      token_piece bytes r.text (drop len bytes) len r.whole r.size p Name word_some (w.1, subst HasNoKeyword (front_of is_name_byte bytes len r) none) w.2 tt
+      token_piece bytes r.text (drop len bytes) len r.whole r.size p Name word_some
+      (w.1, subst HasNoKeyword (front_of is_name_byte bytes len r) none) w.2 tt
 
   pub keyword_piece : (w : Keyword) → take len bytes ≡ keyword_text w → IsPiece p bytes (Token (Word w) len)
   keyword_piece w e =
@@ -101,24 +104,26 @@ module _ (p : Place) (bytes : List ℕ) (len n : ℕ) (l : IsLiteralAt bytes len
 
   pub literal_piece : (z : ℤ) → is_name_byte (get_or bytes len 0) ≡ false → z ≡ pos n → n < 2 ^ 63 → IsPiece p bytes (Token (Literal z) len)
   literal_piece z q e small =
-      token_piece bytes l.text (drop len bytes) len l.whole l.size p (Literal z) l.some (n, l.literal, e, small) l.longest (ends_at is_name_byte bytes len q)
+      token_piece bytes l.text (drop len bytes) len l.whole l.size p (Literal z) l.some (n, l.literal, e, small) l.longest
+      (ends_at is_name_byte bytes len q)
 
   pub wide_fault : is_name_byte (get_or bytes len 0) ≡ false → 2 ^ 63 ≤ n → IsLexed p bytes (Err (TooWide p.at))
   wide_fault q big =
-      subst (λ x. IsLexed p x (Err (TooWide p.at))) (sym l.whole) (wide n l.text (drop len bytes) l.literal l.longest (ends_at is_name_byte bytes len q) big)
+      subst (λ x. IsLexed p x (Err (TooWide p.at))) (sym l.whole) (wide n l.text (drop len bytes) l.literal l.longest
+      (ends_at is_name_byte bytes len q) big)
 
 -- include lines
-eq_of : (a b : ℕ) → (a == b) ≡ true → a ≡ b
-eq_of a b h = grind (arith, nat_tests)
 
 run_one : (b : ℕ) (more rest text : List ℕ) → b ∷ more ≡ text ++ rest → is_of_line b ≡ true → RunEnds is_of_line rest → 0 < length text
 run_one b more rest [] e h ends = let f : is_of_line b ≡ false = subst (RunEnds is_of_line) (sym e) ends in absurd (false≢true (sym f ∙ h))
 run_one b more rest (x ∷ text) e h ends = omega arith
 
-pub include_piece : (p : Place) (bytes : List ℕ) (len : ℕ) → p.line_is_blank ≡ true → BeginsInclude bytes → IsRun is_of_line bytes len → IsPiece p bytes (Gap len)
+pub include_piece : (p : Place) (bytes : List ℕ) (len : ℕ) → p.line_is_blank ≡ true → BeginsInclude bytes → IsRun is_of_line bytes len →
+    IsPiece p bytes (Gap len)
 include_piece p bytes len h i r =
     let some = run_one 35 (i.gap ++ (codes "include" ++ i.rest)) (drop len bytes) r.text (sym i.whole ∙ r.whole) refl r.ends in
-    gap_piece bytes r.text (drop len bytes) len r.whole r.size p (omega (arith, some, r.size)) (λ s l. include_line r.text (drop len bytes) h (subst BeginsInclude r.whole i) r.each r.ends l)
+    gap_piece bytes r.text (drop len bytes) len r.whole r.size p (omega (arith, some, r.size))
+    (λ s l. include_line r.text (drop len bytes) h (subst BeginsInclude r.whole i) r.each r.ends l)
 
 sharp_no_mark : (bytes : List ℕ) → HasNoMark (35 ∷ bytes)
 sharp_no_mark bytes m rest e = by_text (mark_text m) refl e
@@ -133,12 +138,15 @@ sharp_no_comment : (bytes : List ℕ) → begins_comment (35 ∷ bytes) ≡ fals
 sharp_no_comment [] = refl
 sharp_no_comment (c ∷ bytes) = refl
 
-pub sharp_fault : (p : Place) (bytes : List ℕ) → 0 < length bytes → get_or bytes 0 0 ≡ 35 → (p.line_is_blank ≡ true → BeginsInclude bytes → ⊥) → IsLexed p bytes (Err (BadByte p.at))
+pub sharp_fault : (p : Place) (bytes : List ℕ) → 0 < length bytes → get_or bytes 0 0 ≡ 35 → (p.line_is_blank ≡ true → BeginsInclude bytes →
+    ⊥) →
+    IsLexed p bytes (Err (BadByte p.at))
 sharp_fault p bytes some h none =
     let rest = drop 1 bytes in
     let e : bytes ≡ 35 ∷ rest = first_of_some bytes (omega (arith, some)) ∙ ap (λ x. x ∷ rest) h in
     subst (λ x. IsLexed p x (Err (BadByte p.at))) (sym e)
-    (bad refl (sharp_no_comment rest) (subst (λ x. p.line_is_blank ≡ true → BeginsInclude x → ⊥) e none) (no_lexeme 35 rest refl refl (sharp_no_mark rest)))
+    (bad refl (sharp_no_comment rest) (subst (λ x. p.line_is_blank ≡ true → BeginsInclude x → ⊥) e none)
+    (no_lexeme 35 rest refl refl (sharp_no_mark rest)))
 
 -- comments
 record HasSlash (bytes : List ℕ) : Type 0 where
@@ -146,10 +154,6 @@ record HasSlash (bytes : List ℕ) : Type 0 where
   rest : List ℕ
   whole : bytes ≡ 47 ∷ next ∷ rest
   is : (next ≡ 47) ⊎ (next ≡ 42)
-
-both : (a b : Bool) → (a && b) ≡ true → (a ≡ true) × (b ≡ true)
-both true b e = (refl, e)
-both false b e = absurd (false≢true e)
 
 either : (c : ℕ) → ((c == 47) || (c == 42)) ≡ true → (c ≡ 47) ⊎ (c ≡ 42)
 either c h = grind (arith, nat_tests)
@@ -170,7 +174,8 @@ line_text bs (x ∷ y ∷ t) rest e ends =
     let q : x ≡ 47 = cc in let r : y ≡ 47 = cc in
     (t, ap (λ z. z ∷ y ∷ t) q ∙ ap (λ z. 47 ∷ z ∷ t) r)
 
-pub line_piece : (p : Place) (bytes : List ℕ) (len : ℕ) → begins_comment bytes ≡ true → get_or bytes 1 0 ≡ 47 → IsRun is_of_line bytes len → IsPiece p bytes (Gap len)
+pub line_piece : (p : Place) (bytes : List ℕ) (len : ℕ) → begins_comment bytes ≡ true → get_or bytes 1 0 ≡ 47 → IsRun is_of_line bytes len →
+    IsPiece p bytes (Gap len)
 line_piece p bytes len h q r =
     let s = slash bytes h in
     let n : s.next ≡ 47 = sym (ap (λ x. get_or x 1 0) s.whole) ∙ q in
@@ -178,7 +183,8 @@ line_piece p bytes len h q r =
     let t = line_text s.rest r.text (drop len bytes) (sym w ∙ r.whole) r.ends in
     let each : Each is_of_line (47 ∷ 47 ∷ t.0) = subst (Each is_of_line) t.1 r.each in
     let size : length (47 ∷ 47 ∷ t.0) ≡ len = sym (ap length t.1) ∙ r.size in
-    gap_piece bytes (47 ∷ 47 ∷ t.0) (drop len bytes) len (r.whole ∙ ap (λ x. x ++ drop len bytes) t.1) size p (omega (arith, size)) (λ a l. line_comment t.0 (drop len bytes) each.1.1 r.ends l)
+    gap_piece bytes (47 ∷ 47 ∷ t.0) (drop len bytes) len (r.whole ∙ ap (λ x. x ++ drop len bytes) t.1) size p (omega (arith, size))
+    (λ a l. line_comment t.0 (drop len bytes) each.1.1 r.ends l)
 
 star : (bytes : List ℕ) → begins_comment bytes ≡ true → (get_or bytes 1 0 ≡ 47 → ⊥) → bytes ≡ 47 ∷ 42 ∷ drop 2 bytes
 star bytes h none =
@@ -189,7 +195,8 @@ star bytes h none =
       | inr e ↦ s.whole ∙ ap (λ x. 47 ∷ x ∷ s.rest) e ∙ ap (λ x. 47 ∷ 42 ∷ x) d
     ]
 
-pub closed_piece : (p : Place) (bytes : List ℕ) (i : ℕ) → begins_comment bytes ≡ true → (get_or bytes 1 0 ≡ 47 → ⊥) → IsFirstEnd (drop 2 bytes) i → IsPiece p bytes (Gap (i + 4))
+pub closed_piece : (p : Place) (bytes : List ℕ) (i : ℕ) → begins_comment bytes ≡ true → (get_or bytes 1 0 ≡ 47 → ⊥) →
+    IsFirstEnd (drop 2 bytes) i → IsPiece p bytes (Gap (i + 4))
 closed_piece p bytes i h none f =
     let inside = take i (drop 2 bytes) in
     let rest = drop (i + 2) (drop 2 bytes) in
@@ -200,19 +207,23 @@ closed_piece p bytes i h none f =
     gap_piece bytes (codes "/*" ++ (inside ++ codes "*/")) rest (i + 4) w (omega (arith, m, n)) p (omega arith)
     (λ r l. subst (λ x. IsLexed p x r) (ap (λ x. 47 ∷ 42 ∷ x) (sym a)) (comment inside rest f.first l))
 
-pub open_fault : (p : Place) (bytes : List ℕ) → begins_comment bytes ≡ true → (get_or bytes 1 0 ≡ 47 → ⊥) → HasNoEnd (drop 2 bytes) → IsLexed p bytes (Err (OpenComment p.at))
+pub open_fault : (p : Place) (bytes : List ℕ) → begins_comment bytes ≡ true → (get_or bytes 1 0 ≡ 47 → ⊥) → HasNoEnd (drop 2 bytes) →
+    IsLexed p bytes (Err (OpenComment p.at))
 open_fault p bytes h none f = subst (λ x. IsLexed p x (Err (OpenComment p.at))) (sym (star bytes h none)) (open_comment (drop 2 bytes) f)
 
 -- marks
 pub mark_piece : (p : Place) (bytes : List ℕ) (m : Punct) → IsMarkAt bytes m → IsPiece p bytes (Token (Mark m) (length (mark_text m)))
 mark_piece p bytes m h =
     let s = mark_size m in
-    token_piece bytes (mark_text m) h.rest (length (mark_text m)) h.whole refl p (Mark m) (omega (arith, s.least)) refl (mark_longest m (mark_text m) h.rest refl h.longest) tt
+    token_piece bytes (mark_text m) h.rest (length (mark_text m)) h.whole refl p (Mark m) (omega (arith, s.least)) refl
+    (mark_longest m (mark_text m) h.rest refl h.longest) tt
 
-pub byte_fault : (p : Place) (bytes : List ℕ) → 0 < length bytes → is_blank (get_or bytes 0 0) ≡ false → is_letter (get_or bytes 0 0) ≡ false → is_digit (get_or bytes 0 0) ≡ false → (get_or bytes 0 0 ≡ 35 → ⊥) →
+pub byte_fault : (p : Place) (bytes : List ℕ) → 0 < length bytes → is_blank (get_or bytes 0 0) ≡ false → is_letter (get_or bytes 0 0)
+    ≡ false → is_digit (get_or bytes 0 0) ≡ false → (get_or bytes 0 0 ≡ 35 → ⊥) →
     begins_comment bytes ≡ false → HasNoMark bytes → IsLexed p bytes (Err (BadByte p.at))
 byte_fault p bytes some h l d s c m =
     let b = get_or bytes 0 0 in
     let e : bytes ≡ b ∷ drop 1 bytes = first_of_some bytes (omega (arith, some)) in
     subst (λ x. IsLexed p x (Err (BadByte p.at))) (sym e)
-    (bad h (sym (ap begins_comment e) ∙ c) (λ _ i. s (ap (λ x. get_or x 0 0) i.whole)) (no_lexeme b (drop 1 bytes) l d (subst HasNoMark e m)))
+    (bad h (sym (ap begins_comment e) ∙ c) (λ _ i. s (ap (λ x. get_or x 0 0) i.whole))
+    (no_lexeme b (drop 1 bytes) l d (subst HasNoMark e m)))

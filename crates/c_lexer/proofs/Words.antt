@@ -1,5 +1,5 @@
 -- Reserved words and marks by their texts.
-use Rattle.std.specs.Prelude.{◌≡◌, ℕ, zero, suc, ◌+◌, ◌-◌, ◌*◌, ◌%◌, ◌<◌, ◌≤◌, List, [], ◌∷◌, ◌++◌, length, false, ◌==◌, refl, cond, bytes_eq, slice_index, ◌⊎◌, Option, Some, None, IfSome, IfNone}
+use Rattle.std.specs.Prelude.{◌≡◌, ℕ, ◌+◌, ◌<◌, ◌≤◌, List, [], ◌∷◌, ◌++◌, length, false, ◌==◌, refl, cond, bytes_eq, slice_index, ◌⊎◌, Option, Some, None, IfSome, IfNone}
 use Rattle.std.proofs.Common.{get_or, sym, ◌∙◌, ap, subst, arith, lit<, length-append, append_assoc, inl, inr}
 use Rattle.std.proofs.Math.ListN.{get_or-append}
 use Rattle.std.proofs.lemmas.Bool.{cases_lt}
@@ -12,7 +12,10 @@ use Rattle.c_lexer.specs.Lexing.{is_blank, is_digit, is_letter, IsWord, keyword_
 use Rattle.c_lexer.specs.steps.Scanning.{slot_of, mark_slot_of, HasNoKeyword, HasBytes, StandsAt, IsMarkAt, HasNoMark}
 
 abbrev pub keywords : List Keyword
-keywords = Int ∷ Long ∷ Void ∷ Extern ∷ If ∷ Else ∷ While ∷ Do ∷ For ∷ Break ∷ Continue ∷ Return ∷ Auto ∷ Case ∷ Char ∷ Const ∷ Default ∷ Double ∷ Enum ∷ Float ∷ Goto ∷ Inline ∷ Register ∷ Restrict ∷ Short ∷ Signed ∷ Sizeof ∷ Static ∷ Struct ∷ Switch ∷ Typedef ∷ Union ∷ Unsigned ∷ Volatile ∷ Alignas ∷ Alignof ∷ Atomic ∷ word.Bool ∷ Complex ∷ Generic ∷ Imaginary ∷ Noreturn ∷ StaticAssert ∷ ThreadLocal ∷ []
+keywords = Int ∷ Long ∷ Void ∷ Extern ∷ If ∷ Else ∷ While ∷ Do ∷ For ∷ Break ∷ Continue ∷ Return ∷ Auto ∷ Case ∷ Char ∷ Const ∷ Default
+    ∷ Double ∷ Enum ∷ Float ∷ Goto ∷ Inline ∷ Register ∷ Restrict ∷ Short ∷ Signed ∷ Sizeof ∷ Static ∷ Struct ∷ Switch ∷ Typedef ∷ Union
+    ∷ Unsigned ∷ Volatile ∷ Alignas ∷ Alignof ∷ Atomic ∷ word.Bool ∷ Complex ∷ Generic ∷ Imaginary ∷ Noreturn ∷ StaticAssert ∷ ThreadLocal
+    ∷ []
 
 abbrev pub keyword_place : Keyword → ℕ
 keyword_place Int = 0
@@ -70,7 +73,11 @@ keyword_at _ = refl
 
 -- the places by slots, as in the code
 abbrev pub keyword_places : List ℕ
-keyword_places = 44 ∷ 44 ∷ 44 ∷ 44 ∷ 44 ∷ 44 ∷ 44 ∷ 43 ∷ 44 ∷ 41 ∷ 44 ∷ 44 ∷ 44 ∷ 44 ∷ 44 ∷ 44 ∷ 44 ∷ 13 ∷ 44 ∷ 44 ∷ 44 ∷ 10 ∷ 44 ∷ 34 ∷ 44 ∷ 44 ∷ 9 ∷ 12 ∷ 44 ∷ 17 ∷ 44 ∷ 44 ∷ 42 ∷ 44 ∷ 44 ∷ 44 ∷ 44 ∷ 5 ∷ 38 ∷ 44 ∷ 44 ∷ 44 ∷ 44 ∷ 40 ∷ 44 ∷ 27 ∷ 44 ∷ 44 ∷ 25 ∷ 44 ∷ 44 ∷ 44 ∷ 44 ∷ 44 ∷ 26 ∷ 7 ∷ 14 ∷ 44 ∷ 44 ∷ 44 ∷ 29 ∷ 18 ∷ 44 ∷ 15 ∷ 44 ∷ 30 ∷ 3 ∷ 44 ∷ 11 ∷ 44 ∷ 32 ∷ 44 ∷ 44 ∷ 44 ∷ 44 ∷ 16 ∷ 2 ∷ 44 ∷ 4 ∷ 21 ∷ 44 ∷ 44 ∷ 22 ∷ 33 ∷ 44 ∷ 8 ∷ 44 ∷ 20 ∷ 23 ∷ 44 ∷ 6 ∷ 44 ∷ 44 ∷ 19 ∷ 44 ∷ 24 ∷ 28 ∷ 31 ∷ 44 ∷ 44 ∷ 44 ∷ 44 ∷ 36 ∷ 39 ∷ 44 ∷ 44 ∷ 44 ∷ 44 ∷ 44 ∷ 44 ∷ 44 ∷ 44 ∷ 35 ∷ 1 ∷ 44 ∷ 44 ∷ 44 ∷ 44 ∷ 44 ∷ 44 ∷ 44 ∷ 0 ∷ 44 ∷ 44 ∷ 44 ∷ 44 ∷ 44 ∷ 37 ∷ []
+keyword_places = 44 ∷ 44 ∷ 44 ∷ 44 ∷ 44 ∷ 44 ∷ 44 ∷ 43 ∷ 44 ∷ 41 ∷ 44 ∷ 44 ∷ 44 ∷ 44 ∷ 44 ∷ 44 ∷ 44 ∷ 13 ∷ 44 ∷ 44 ∷ 44 ∷ 10 ∷ 44 ∷ 34 ∷ 44
+    ∷ 44 ∷ 9 ∷ 12 ∷ 44 ∷ 17 ∷ 44 ∷ 44 ∷ 42 ∷ 44 ∷ 44 ∷ 44 ∷ 44 ∷ 5 ∷ 38 ∷ 44 ∷ 44 ∷ 44 ∷ 44 ∷ 40 ∷ 44 ∷ 27 ∷ 44 ∷ 44 ∷ 25 ∷ 44 ∷ 44 ∷ 44
+    ∷ 44 ∷ 44 ∷ 26 ∷ 7 ∷ 14 ∷ 44 ∷ 44 ∷ 44 ∷ 29 ∷ 18 ∷ 44 ∷ 15 ∷ 44 ∷ 30 ∷ 3 ∷ 44 ∷ 11 ∷ 44 ∷ 32 ∷ 44 ∷ 44 ∷ 44 ∷ 44 ∷ 16 ∷ 2 ∷ 44 ∷ 4 ∷ 21
+    ∷ 44 ∷ 44 ∷ 22 ∷ 33 ∷ 44 ∷ 8 ∷ 44 ∷ 20 ∷ 23 ∷ 44 ∷ 6 ∷ 44 ∷ 44 ∷ 19 ∷ 44 ∷ 24 ∷ 28 ∷ 31 ∷ 44 ∷ 44 ∷ 44 ∷ 44 ∷ 36 ∷ 39 ∷ 44 ∷ 44 ∷ 44
+    ∷ 44 ∷ 44 ∷ 44 ∷ 44 ∷ 44 ∷ 35 ∷ 1 ∷ 44 ∷ 44 ∷ 44 ∷ 44 ∷ 44 ∷ 44 ∷ 44 ∷ 0 ∷ 44 ∷ 44 ∷ 44 ∷ 44 ∷ 44 ∷ 37 ∷ []
 
 keyword_placed : (w : Keyword) → get_or keyword_places (slot_of (keyword_text w)) 0 ≡ keyword_place w
 keyword_placed Int = refl
@@ -130,7 +137,8 @@ keyword_word Complex = (refl, (refl, (refl, (refl, (refl, (refl, (refl, (refl, t
 keyword_word Generic = (refl, (refl, (refl, (refl, (refl, (refl, (refl, (refl, tt))))))))
 keyword_word Imaginary = (refl, (refl, (refl, (refl, (refl, (refl, (refl, (refl, (refl, (refl, tt))))))))))
 keyword_word Noreturn = (refl, (refl, (refl, (refl, (refl, (refl, (refl, (refl, (refl, tt)))))))))
-keyword_word StaticAssert = (refl, (refl, (refl, (refl, (refl, (refl, (refl, (refl, (refl, (refl, (refl, (refl, (refl, (refl, tt))))))))))))))
+keyword_word StaticAssert =
+    (refl, (refl, (refl, (refl, (refl, (refl, (refl, (refl, (refl, (refl, (refl, (refl, (refl, (refl, tt))))))))))))))
 keyword_word ThreadLocal = (refl, (refl, (refl, (refl, (refl, (refl, (refl, (refl, (refl, (refl, (refl, (refl, (refl, tt)))))))))))))
 
 -- the word of a text
@@ -146,7 +154,9 @@ pub keyword_same : (v w : Keyword) → keyword_text v ≡ keyword_text w → v �
 keyword_same v w e = sym (seek_own v) ∙ ap (λ t. seek t keywords) e ∙ seek_own w
 
 abbrev pub marks : List Punct
-marks = LessEqual ∷ GreaterEqual ∷ Equal ∷ Unequal ∷ And ∷ Or ∷ PlusAssign ∷ MinusAssign ∷ StarAssign ∷ Increment ∷ Decrement ∷ OpenParenthesis ∷ CloseParenthesis ∷ OpenBrace ∷ CloseBrace ∷ Semicolon ∷ Comma ∷ Assign ∷ Plus ∷ Minus ∷ Star ∷ Not ∷ Less ∷ Greater ∷ []
+marks = LessEqual ∷ GreaterEqual ∷ Equal ∷ Unequal ∷ And ∷ Or ∷ PlusAssign ∷ MinusAssign ∷ StarAssign ∷ Increment ∷ Decrement
+    ∷ OpenParenthesis ∷ CloseParenthesis ∷ OpenBrace ∷ CloseBrace ∷ Semicolon ∷ Comma ∷ Assign ∷ Plus ∷ Minus ∷ Star ∷ Not ∷ Less ∷ Greater
+    ∷ []
 
 abbrev pub mark_place : Punct → ℕ
 mark_place LessEqual = 0
@@ -214,7 +224,8 @@ mark_sign m b bs e = subst IsSign (ap first (sym e)) (mark_first m)
 
 -- the places by slots, as in the code
 abbrev pub mark_places : List ℕ
-mark_places = 24 ∷ 24 ∷ 24 ∷ 24 ∷ 4 ∷ 24 ∷ 10 ∷ 24 ∷ 5 ∷ 24 ∷ 3 ∷ 15 ∷ 22 ∷ 17 ∷ 23 ∷ 24 ∷ 24 ∷ 24 ∷ 24 ∷ 8 ∷ 6 ∷ 24 ∷ 7 ∷ 24 ∷ 24 ∷ 24 ∷ 9 ∷ 13 ∷ 24 ∷ 14 ∷ 24 ∷ 24 ∷ 24 ∷ 21 ∷ 24 ∷ 24 ∷ 24 ∷ 0 ∷ 2 ∷ 1 ∷ 11 ∷ 12 ∷ 20 ∷ 18 ∷ 16 ∷ 19 ∷ 24 ∷ 24 ∷ []
+mark_places = 24 ∷ 24 ∷ 24 ∷ 24 ∷ 4 ∷ 24 ∷ 10 ∷ 24 ∷ 5 ∷ 24 ∷ 3 ∷ 15 ∷ 22 ∷ 17 ∷ 23 ∷ 24 ∷ 24 ∷ 24 ∷ 24 ∷ 8 ∷ 6 ∷ 24 ∷ 7 ∷ 24 ∷ 24 ∷ 24 ∷ 9
+    ∷ 13 ∷ 24 ∷ 14 ∷ 24 ∷ 24 ∷ 24 ∷ 21 ∷ 24 ∷ 24 ∷ 24 ∷ 0 ∷ 2 ∷ 1 ∷ 11 ∷ 12 ∷ 20 ∷ 18 ∷ 16 ∷ 19 ∷ 24 ∷ 24 ∷ []
 
 mark_placed : (m : Punct) → get_or mark_places (mark_slot_of (slice_index (mark_text m) 0) (slice_index (mark_text m) 1)) 0 ≡ mark_place m
 mark_placed OpenParenthesis = refl
@@ -223,7 +234,8 @@ mark_placed _ = refl
 -- two bytes are those of no mark but the one of their slot
 module _ (first second k : ℕ) (is : k ≡ get_or mark_places (mark_slot_of first second) 0) where
   own_mark_place : (o : Punct) → HasBytes o first second → k ≡ mark_place o
-  own_mark_place o h = is ∙ ap (λ x. get_or mark_places (mark_slot_of x second) 0) (sym h.first_is) ∙ ap (λ x. get_or mark_places (mark_slot_of (slice_index (mark_text o) 0) x) 0) (sym h.second_is) ∙ mark_placed o
+  own_mark_place o h = is ∙ ap (λ x. get_or mark_places (mark_slot_of x second) 0) (sym h.first_is)
+      ∙ ap (λ x. get_or mark_places (mark_slot_of (slice_index (mark_text o) 0) x) 0) (sym h.second_is) ∙ mark_placed o
 
   pub no_mark_place : 24 ≤ k → (o : Punct) → HasBytes o first second → ⊥
   no_mark_place le o b = let h = mark_place-lt o in let p = own_mark_place o b in absurd (omega (arith, h, p, le))
@@ -261,21 +273,28 @@ module _ (bytes : List ℕ) (o : Punct) (rest : List ℕ) (e : bytes ≡ mark_te
   first_byte = let s = mark_size o in begins_same (mark_text o) rest 0 (omega (arith, s.least)) ∙ ap (λ t. slice_index t 0) (sym e)
 
   pub long_bytes : 2 ≤ length (mark_text o) → HasBytes o (slice_index bytes 0) (slice_index bytes 1)
-  long_bytes h = record { first_is = first_byte; second_is = begins_same (mark_text o) rest 1 (omega (arith, h)) ∙ ap (λ t. slice_index t 1) (sym e) }
+  long_bytes h = record {
+    first_is = first_byte;
+    second_is = begins_same (mark_text o) rest 1 (omega (arith, h)) ∙ ap (λ t. slice_index t 1)
+        (sym e);
+  }
 
   pub short_bytes : length (mark_text o) ≤ 1 → HasBytes o (slice_index bytes 0) 0
   short_bytes h = let s = mark_size o in record { first_is = first_byte; second_is = s.second h }
 
 -- a mark that stands here, where each of two bytes that stands here is the same
-pub longest_mark : (bytes : List ℕ) (m : Punct) → StandsAt bytes m → ((o : Punct) → 2 ≤ length (mark_text o) → StandsAt bytes o → o ≡ m) → IsMarkAt bytes m
+pub longest_mark : (bytes : List ℕ) (m : Punct) → StandsAt bytes m → ((o : Punct) → 2 ≤ length (mark_text o) → StandsAt bytes o → o ≡ m) →
+    IsMarkAt bytes m
 longest_mark bytes m at only = record { rest = at.0; whole = at.1; longest = λ extra others o q h. shortest extra others o q h }
   where
     shortest : (extra others : List ℕ) (o : Punct) → at.0 ≡ extra ++ others → mark_text m ++ extra ≡ mark_text o → extra ≡ []
     shortest [] others o q h = refl
     shortest (x ∷ extra) others o q h =
-        let n : length (mark_text m) + length (x ∷ extra) ≡ length (mark_text o) = sym (length-append (mark_text m) (x ∷ extra)) ∙ ap length h in
+        let n : length (mark_text m) + length (x ∷ extra) ≡ length (mark_text o) = sym (length-append (mark_text m) (x ∷ extra))
+        ∙ ap length h in
         let s = mark_size m in
-        let here : bytes ≡ mark_text o ++ others = at.1 ∙ ap (λ r. mark_text m ++ r) q ∙ sym (append_assoc (mark_text m) (x ∷ extra) others) ∙ ap (λ t. t ++ others) h in
+        let here : bytes ≡ mark_text o ++ others = at.1 ∙ ap (λ r. mark_text m ++ r) q ∙ sym (append_assoc (mark_text m) (x ∷ extra) others)
+        ∙ ap (λ t. t ++ others) h in
         let same : o ≡ m = only o (omega (arith, n, s.least)) (others, here) in
         let k : length (mark_text o) ≡ length (mark_text m) = ap (λ p. length (mark_text p)) same in
         absurd (omega (arith, n, k))
@@ -289,14 +308,17 @@ by_size m = elim (cases_lt (length (mark_text m)) 2) [
 
 module _ (bytes : List ℕ) where
   -- the mark of the text's first two bytes
-  pub long_mark : (m : Punct) → StandsAt bytes m → ((o : Punct) → HasBytes o (slice_index bytes 0) (slice_index bytes 1) → o ≡ m) → IsMarkAt bytes m
+  pub long_mark : (m : Punct) → StandsAt bytes m → ((o : Punct) → HasBytes o (slice_index bytes 0) (slice_index bytes 1) → o ≡ m) →
+      IsMarkAt bytes m
   long_mark m at only = longest_mark bytes m at (λ o h s. only o (long_bytes bytes o s.0 s.1 h))
 
   -- a mark, where that of the first two bytes doesn't stand there
-  pub short_mark : ((o : Punct) → HasBytes o (slice_index bytes 0) (slice_index bytes 1) → StandsAt bytes o → ⊥) → (m : Punct) → StandsAt bytes m → IsMarkAt bytes m
+  pub short_mark : ((o : Punct) → HasBytes o (slice_index bytes 0) (slice_index bytes 1) → StandsAt bytes o → ⊥) → (m : Punct) →
+      StandsAt bytes m → IsMarkAt bytes m
   short_mark none m at = longest_mark bytes m at (λ o h s. absurd (none o (long_bytes bytes o s.0 s.1 h) s))
 
-  pub no_mark : ((o : Punct) → HasBytes o (slice_index bytes 0) (slice_index bytes 1) → StandsAt bytes o → ⊥) → ((o : Punct) → HasBytes o (slice_index bytes 0) 0 → StandsAt bytes o → ⊥) → HasNoMark bytes
+  pub no_mark : ((o : Punct) → HasBytes o (slice_index bytes 0) (slice_index bytes 1) → StandsAt bytes o → ⊥) →
+      ((o : Punct) → HasBytes o (slice_index bytes 0) 0 → StandsAt bytes o → ⊥) → HasNoMark bytes
   no_mark long short m rest e = elim (by_size m) [
     | inl h ↦ long m (long_bytes bytes m rest e h) (rest, e)
     | inr h ↦ short m (short_bytes bytes m rest e h) (rest, e)

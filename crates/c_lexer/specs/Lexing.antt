@@ -19,8 +19,16 @@ use Rattle.c_lexer.specs.declared.token.LexError.TheVariants.{BadByte, OpenComme
 abbrev pub after_byte : Place → ℕ → Place
 after_byte p b =
     if b == 10
-    then record { at = record { line = p.at.line + 1; column = 1 }; offset = p.offset + 1; line_is_blank = true }
-    else record { at = record { line = p.at.line; column = p.at.column + 1 }; offset = p.offset + 1; line_is_blank = p.line_is_blank && ((b == 32) || (b == 9)) }
+    then record {
+      at = record { line = p.at.line + 1; column = 1 };
+      offset = p.offset + 1;
+      line_is_blank = true;
+    }
+    else record {
+      at = record { line = p.at.line; column = p.at.column + 1 };
+      offset = p.offset + 1;
+      line_is_blank = p.line_is_blank && ((b == 32) || (b == 9));
+    }
 
 abbrev pub after : Place → List ℕ → Place
 after p [] = p
@@ -146,7 +154,8 @@ radix Hexadecimal = 16
 abbrev pub is_digit_in : Base → ℕ → Bool
 is_digit_in Decimal b = is_digit b
 is_digit_in Octal b = nat_le 48 b && nat_le b 55
-is_digit_in Hexadecimal b = is_digit b || (nat_le 65 b && nat_le b 70) || (nat_le 97 b && nat_le b 102)
+is_digit_in Hexadecimal b = is_digit b || (nat_le 65 b && nat_le b 70) ||
+    (nat_le 97 b && nat_le b 102)
 
 abbrev pub digit_value : ℕ → ℕ
 digit_value b = if nat_le b 57 then b - 48 else (if nat_le b 70 then b - 55 else b - 87)
@@ -162,13 +171,16 @@ value_in radix digits = value_from radix 0 digits
 -- what stands before the digits, and what the digits are: a decimal literal doesn't begin with `0`
 abbrev pub IsNumeral : Base → List ℕ → List ℕ → Type 0
 IsNumeral Decimal front [] = ⊥
-IsNumeral Decimal front (b ∷ bs) = (front ≡ []) × ((nat_le 49 b && nat_le b 57) ≡ true) × Each (is_digit_in Decimal) bs
+IsNumeral Decimal front (b ∷ bs) = (front ≡ []) × ((nat_le 49 b && nat_le b 57) ≡ true)
+    × Each (is_digit_in Decimal) bs
 IsNumeral Octal front digits = (front ≡ codes "0") × Each (is_digit_in Octal) digits
 IsNumeral Hexadecimal front [] = ⊥
-IsNumeral Hexadecimal front (b ∷ bs) = ((front ≡ codes "0x") ⊎ (front ≡ codes "0X")) × Each (is_digit_in Hexadecimal) (b ∷ bs)
+IsNumeral Hexadecimal front (b ∷ bs) = ((front ≡ codes "0x") ⊎ (front ≡ codes "0X"))
+    × Each (is_digit_in Hexadecimal) (b ∷ bs)
 
 abbrev pub is_suffix : List ℕ → Bool
-is_suffix text = list_any (λ suffix. bytes_eq suffix text) ([] ∷ codes "l" ∷ codes "L" ∷ codes "ll" ∷ codes "LL" ∷ [])
+is_suffix text = list_any (λ suffix. bytes_eq suffix text) ([] ∷ codes "l" ∷ codes "L" ∷ codes "ll"
+    ∷ codes "LL" ∷ [])
 
 -- the text is a literal of this value
 pub record IsLiteral (text : List ℕ) (n : ℕ) : Type 0 where
@@ -187,7 +199,8 @@ IsLexeme text = IsWord text ⊎ (((n : ℕ) × IsLiteral text n) ⊎ ((m : Punct
 
 -- no longer text at this place is one of a lexeme
 abbrev pub IsLongest : List ℕ → List ℕ → Type 0
-IsLongest text rest = (extra others : List ℕ) → rest ≡ extra ++ others → IsLexeme (text ++ extra) → extra ≡ []
+IsLongest text rest = (extra others : List ℕ) → rest ≡ extra ++ others → IsLexeme (text ++ extra) →
+    extra ≡ []
 
 -- no lexeme begins here
 abbrev pub HasNoLexeme : List ℕ → Type 0
@@ -232,26 +245,39 @@ abbrev pub with_token : Token → Result (List Token) LexError → Result (List 
 with_token t (Ok ts) = Ok (t ∷ ts)
 with_token t (Err e) = Err e
 
--- IsLexed p bytes r: the bytes, of which the first stands at p, are these tokens, or their first fault is this.
--- A comment ends at the first `*/` behind its `/*`; an include line is skipped as it stands; a lexeme is the longest
+-- IsLexed p bytes r: the bytes, of which the first stands at p, are these tokens, or their first
+-- fault is this.
+-- A comment ends at the first `*/` behind its `/*`; an include line is skipped as it stands; a
+-- lexeme is the longest
 -- that begins at its place.
 pub data IsLexed : Place → List ℕ → Result (List Token) LexError → Type 0 where
   end : {p : Place} → IsLexed p [] (Ok [])
-  blank : {p : Place} {b : ℕ} {bytes : List ℕ} {r : Result (List Token) LexError} → is_blank b ≡ true → IsLexed (after_byte p b) bytes r → IsLexed p (b ∷ bytes) r
-  line_comment : {p : Place} {r : Result (List Token) LexError} → (text rest : List ℕ) → Each is_of_line text → RunEnds is_of_line rest →
+  blank : {p : Place} {b : ℕ} {bytes : List ℕ} {r : Result (List Token) LexError} → is_blank b
+      ≡ true → IsLexed (after_byte p b) bytes r → IsLexed p (b ∷ bytes) r
+  line_comment : {p : Place} {r : Result (List Token) LexError} → (text rest : List ℕ) →
+      Each is_of_line text → RunEnds is_of_line rest →
       IsLexed (after p (codes "//" ++ text)) rest r → IsLexed p (codes "//" ++ (text ++ rest)) r
   comment : {p : Place} {r : Result (List Token) LexError} → (text rest : List ℕ) → HasNoEnd text →
-      IsLexed (after p (codes "/*" ++ (text ++ codes "*/"))) rest r → IsLexed p (codes "/*" ++ (text ++ (codes "*/" ++ rest))) r
-  open_comment : {p : Place} → (text : List ℕ) → HasNoEnd text → IsLexed p (codes "/*" ++ text) (Err (OpenComment p.at))
-  include_line : {p : Place} {r : Result (List Token) LexError} → (text rest : List ℕ) → p.line_is_blank ≡ true → BeginsInclude (text ++ rest) → Each is_of_line text → RunEnds is_of_line rest →
+      IsLexed (after p (codes "/*" ++ (text ++ codes "*/"))) rest r →
+      IsLexed p (codes "/*" ++ (text ++ (codes "*/" ++ rest))) r
+  open_comment : {p : Place} → (text : List ℕ) → HasNoEnd text → IsLexed p (codes "/*" ++ text)
+      (Err (OpenComment p.at))
+  include_line : {p : Place} {r : Result (List Token) LexError} → (text rest : List ℕ) →
+      p.line_is_blank ≡ true → BeginsInclude (text ++ rest) → Each is_of_line text →
+      RunEnds is_of_line rest →
       IsLexed (after p text) rest r → IsLexed p (text ++ rest) r
-  token : {p : Place} {r : Result (List Token) LexError} → (k : TokenKind) (text rest : List ℕ) → IsToken k text → IsLongest text rest → Parts k rest →
+  token : {p : Place} {r : Result (List Token) LexError} → (k : TokenKind) (text rest : List ℕ) →
+      IsToken k text → IsLongest text rest → Parts k rest →
       IsLexed (after p text) rest r → IsLexed p (text ++ rest) (with_token (token_at p k text) r)
-  wide : {p : Place} → (n : ℕ) (text rest : List ℕ) → IsLiteral text n → IsLongest text rest → RunEnds is_name_byte rest → 2 ^ 63 ≤ n →
+  wide : {p : Place} → (n : ℕ) (text rest : List ℕ) → IsLiteral text n → IsLongest text rest →
+      RunEnds is_name_byte rest → 2 ^ 63 ≤ n →
       IsLexed p (text ++ rest) (Err (TooWide p.at))
-  glued : {p : Place} → (n b : ℕ) (text rest : List ℕ) → IsLiteral text n → IsLongest text (b ∷ rest) → is_name_byte b ≡ true →
+  glued : {p : Place} → (n b : ℕ) (text rest : List ℕ) → IsLiteral text n →
+      IsLongest text (b ∷ rest) →
+      is_name_byte b ≡ true →
       IsLexed p (text ++ b ∷ rest) (Err (BadByte (after p text).at))
-  bad : {p : Place} {b : ℕ} {bytes : List ℕ} → is_blank b ≡ false → begins_comment (b ∷ bytes) ≡ false → (p.line_is_blank ≡ true → BeginsInclude (b ∷ bytes) → ⊥) → HasNoLexeme (b ∷ bytes) →
+  bad : {p : Place} {b : ℕ} {bytes : List ℕ} → is_blank b ≡ false → begins_comment (b ∷ bytes)
+      ≡ false → (p.line_is_blank ≡ true → BeginsInclude (b ∷ bytes) → ⊥) → HasNoLexeme (b ∷ bytes) →
       IsLexed p (b ∷ bytes) (Err (BadByte p.at))
 
 -- the text is these tokens

@@ -131,7 +131,8 @@ pub enum LexError {
     /// A comment without an end (C11 6.4.9). The place is that of its `/*`.
     #[error("{}:{}: {text}", .0.line, .0.column, text = OPEN_COMMENT)]
     OpenComment(Pos),
-    /// A literal past 2^63 - 1, which no type of the language holds (C11 6.4.4). The place is that of its first digit.
+    /// A literal past 2^63 - 1, which no type of the language holds (C11 6.4.4). The place is that
+    /// of its first digit.
     #[error("{}:{}: {text}", .0.line, .0.column, text = TOO_WIDE)]
     TooWide(Pos),
     #[error("{text}", text = NO_MEMORY)]

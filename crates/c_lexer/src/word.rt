@@ -208,14 +208,16 @@ pub(crate) fn keyword(text: &[u8]) -> Option<Keyword>
     }
 }
 
-/// The slot of two bytes. Each mark has a slot of its own, where the second byte of a mark of one byte is 0.
+/// The slot of two bytes. Each mark has a slot of its own, where the second byte of a mark of one
+/// byte is 0.
 fn mark_slot(first: u8, second: u8) -> usize
     ensures { result ≡ mark_slot_of first second }
 {
     (first as usize + 13 * second as usize) % 48
 }
 
-/// The mark of these two bytes, or of the first where the second is 0, if it stands at the beginning of a text.
+/// The mark of these two bytes, or of the first where the second is 0, if it stands at the
+/// beginning of a text.
 fn mark_of(rest: &[u8], first: u8, second: u8) -> Option<Punct>
     ensures some { IfSome result (StandsAt rest.now) }
     ensures only { IfSome result (λ m. (o : Punct) → HasBytes o first second → o ≡ m) }

@@ -34,12 +34,14 @@ pub record IsRun (test : ℕ → Bool) (bytes : List ℕ) (len : ℕ) : Type 0 w
 
 -- where a reserved word stands in the table: no two of them have one slot
 abbrev pub slot_of : List ℕ → ℕ
-slot_of text = (10 * slice_index text 0 + 3 * slice_index text (length text - 1) + length text) % 128
+slot_of text = (10 * slice_index text 0 + 3 * slice_index text (length text - 1) + length text) %
+    128
 
 abbrev pub HasNoKeyword : List ℕ → Type 0
 HasNoKeyword text = (w : Keyword) → text ≡ keyword_text w → ⊥
 
--- where a mark stands in the table, by its first byte and its second, or 0: no two of them have one slot
+-- where a mark stands in the table, by its first byte and its second, or 0: no two of them have one
+-- slot
 abbrev pub mark_slot_of : ℕ → ℕ → ℕ
 mark_slot_of first second = (first + 13 * second) % 48
 
@@ -56,18 +58,21 @@ StandsAt bytes m = (rest : List ℕ) × (bytes ≡ mark_text m ++ rest)
 pub record IsMarkAt (bytes : List ℕ) (m : Punct) : Type 0 where
   pub rest : List ℕ
   pub whole : bytes ≡ mark_text m ++ rest
-  pub longest : (extra others : List ℕ) (o : Punct) → rest ≡ extra ++ others → mark_text m ++ extra ≡ mark_text o → extra ≡ []
+  pub longest : (extra others : List ℕ) (o : Punct) → rest ≡ extra ++ others → mark_text m ++ extra
+      ≡ mark_text o → extra ≡ []
 
 abbrev pub HasNoMark : List ℕ → Type 0
 HasNoMark bytes = (m : Punct) (rest : List ℕ) → bytes ≡ mark_text m ++ rest → ⊥
 
 -- `x` or `X`, and a hexadecimal digit, behind the first byte
 abbrev pub begins_hexadecimal : List ℕ → Bool
-begins_hexadecimal bytes = ((slice_index bytes 1 == 120) || (slice_index bytes 1 == 88)) && is_digit_in Hexadecimal (slice_index bytes 2)
+begins_hexadecimal bytes = ((slice_index bytes 1 == 120) || (slice_index bytes 1 == 88)) &&
+    is_digit_in Hexadecimal (slice_index bytes 2)
 
 -- the base of the literal that a text begins with, and how many bytes stand before its digits
 abbrev pub base_of : List ℕ → Base
-base_of bytes = if slice_index bytes 0 == 48 then (if begins_hexadecimal bytes then Hexadecimal else Octal) else Decimal
+base_of bytes = if slice_index bytes 0 == 48 then (if begins_hexadecimal bytes then Hexadecimal else
+    Octal) else Decimal
 
 abbrev pub front_len_of : Base → ℕ
 front_len_of Decimal = 0
@@ -107,6 +112,8 @@ pub record HasRoom (p : Place) (n : ℕ) : Type 0 where
 -- the bytes that a piece takes are some, and the rules go on behind them
 abbrev pub IsPiece : Place → List ℕ → Piece → Type 0
 IsPiece p bytes (Gap len) = (0 < len) × (len ≤ length bytes) ×
-    ((r : Result (List the_token.Token) LexError) → IsLexed (after p (take len bytes)) (drop len bytes) r → IsLexed p bytes r)
+    ((r : Result (List the_token.Token) LexError) → IsLexed (after p (take len bytes))
+    (drop len bytes) r → IsLexed p bytes r)
 IsPiece p bytes (Token k len) = (0 < len) × (len ≤ length bytes) ×
-    ((r : Result (List the_token.Token) LexError) → IsLexed (after p (take len bytes)) (drop len bytes) r → IsLexed p bytes (with_token (token_at p k (take len bytes)) r))
+    ((r : Result (List the_token.Token) LexError) → IsLexed (after p (take len bytes))
+    (drop len bytes) r → IsLexed p bytes (with_token (token_at p k (take len bytes)) r))
