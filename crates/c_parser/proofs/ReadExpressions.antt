@@ -1,22 +1,18 @@
 -- What the grammar has is read so, with its marks: expressions.
-use Rattle.std.specs.Prelude.{◌≡◌, ℕ, ◌+◌, ◌-◌, ◌*◌, ◌<◌, ◌≤◌, nat_le, List, [], ◌∷◌, ◌++◌, length, take, Bool, true, false, ◌&&◌, if◌then◌else◌, cond, Option, Some, None, ℤ, pos, refl}
-use Rattle.std.proofs.Common.{sym, ◌∙◌, ap, subst, arith, lit≤, append_assoc, append-nil}
-use Rattle.c_tree.specs.declared.tree.Pos.{Pos}
+use Rattle.std.specs.Prelude.{◌≡◌, ℕ, ◌+◌, ◌≤◌, List, [], ◌∷◌, ◌++◌, Bool, true, false, Option, Some, None, refl}
+use Rattle.std.proofs.Common.{sym, ◌∙◌, ap, subst, arith, lit≤, append_assoc}
 use Rattle.c_tree.specs.declared.tree.Op.{Op}
 use Rattle.c_tree.specs.declared.tree.Op.TheVariants as op
-use Rattle.c_lexer.specs.declared.token.Keyword.{Keyword}
-use Rattle.c_lexer.specs.declared.token.Keyword.TheVariants as keyword
-use Rattle.c_lexer.specs.declared.token.Punct.{Punct}
 use Rattle.c_lexer.specs.declared.token.Punct.TheVariants as punct
 use Rattle.c_lexer.specs.declared.token.TokenKind.{TokenKind}
 use Rattle.c_lexer.specs.declared.token.TokenKind.TheVariants as kind
 use Rattle.c_lexer.specs.Pure.{PureToken}
 use Rattle.c_tree.specs.SourceTree as tree
-use Rattle.c_tree.specs.SourceTree.{Identifier, ExpressionTree, ExpressionTrees, no_arguments, argument, SimpleStatement, Declarator, ForInit, no_init, declaring, starting, StatementTree, StatementTrees, no_statements, statement, ProcedureTree, FileItem}
-use Rattle.c_parser.specs.Grammar.{a_name, a_literal, IsWord, IsMark, Prefix, prefix_mark, prefixed, level, mark_of, is_counted, counted, is_nested, nesting_in, IsExpression, IsCall, IsArguments, IsFull, IsOptional, IsType, IsResultType, all_shallow, IsDeclarator, IsDeclarators, IsDeclaration, changing_mark, IsSimple, IsOptionalSimple, IsForInit, takes_else, IsTest, IsStatement, IsItems, IsTypes, IsTypeList, IsParameters, IsParameterList, IsExtern, past_place, procedure_text, IsItem, IsFile}
+use Rattle.c_tree.specs.SourceTree.{Identifier, ExpressionTree, ExpressionTrees, no_arguments, argument}
+use Rattle.c_parser.specs.Grammar.{IsMark, Prefix, prefix_mark, prefixed, level, mark_of, IsExpression, IsCall, IsArguments}
 use Rattle.c_parser.specs.Grammar as grammar
-use Rattle.c_parser.specs.Machine.{Head, Frames, Outermost, Within, Then, Otherwise, Body, Doing, ForBody, Part, After, Under, Inside, Passing, Spot, Alone, First, Step, Site, InBlock, InFor, Tested, IfTest, WhileTest, DoTest, Purpose, Testing, Setting, Changing, Arguing, Initialising, ForTesting, Returning, Words, AllRead, LongRead, LongLongRead, Typed, Result, Parameter, Declaring, State, Begin, Externed, Voided, Typing, Titled, Opened, NoParameters, NextParameter, ParameterNamed, Closed, Start, Done, Test, Ending, Returned, ForOpen, ForFirst, ForTest, ForStep, Target, Stepping, CallOpened, Simple, NextName, Declared, Want, Named, Called, Have, is_open, is_close, is_semicolon, is_else, first_word, next_word, binary_of, of_token, also_argument, also_statement, declared_bare, declared_as, Move, no, on, done, typing, new_head, with_parameter, without_name, closed, tested, with_statement, declared, ends, finished, pushed, had_mark, had, tick, wanted, wanted_mark, procedure_of, settled, elsed, resumed, move, step, is_over, nest, block_nest, start_deep, resumed_deep, is_deep, Outcome, Parsed, Short, Stops, Deep, with_item, Trace, behind, noted, last, trace, bounded, limited, with_past, past_between, filed, Guards, AtMost, FollowsKind, Follows, NoNext, CallSite, AsOperand, AsStatement, call_begun, argument_parts, argument_purpose, call_read}
-use Rattle.c_parser.proofs.Runs.{Runs, runs_end, runs_seq, runs_same, runs_from, runs_token, tally, Goes, goes_end, goes_seq, goes_same, goes_from, goes_token}
+use Rattle.c_parser.specs.steps.Machine.{Part, After, Under, Inside, Passing, Purpose, State, Want, Named, Called, Have, is_open, is_close, is_semicolon, binary_of, of_token, also_argument, on, pushed, had_mark, tick, move, is_over, is_deep, trace, Guards, AtMost, FollowsKind, Follows, NoNext, CallSite, AsOperand, AsStatement, call_begun, argument_parts, argument_purpose, call_read}
+use Rattle.c_parser.proofs.Runs.{tally, Goes, goes_end, goes_seq, goes_same, goes_from, goes_token}
 use Rattle.c_parser.proofs.Alike.{level-le, binary-mark, closed-guards, trace-after, trace-under, trace-named, trace-call}
 
 at_most-up : (q : Option Op) (m n : ℕ) → m ≤ n → AtMost m q → AtMost n q
@@ -82,7 +78,8 @@ abbrev pub joined : ExpressionTrees → ExpressionTrees → ExpressionTrees
 joined no_arguments es = es
 joined (argument d ds) es = argument d (joined ds es)
 
-pub joined-also : (ds : ExpressionTrees) (e : ExpressionTree) (es : ExpressionTrees) → joined (also_argument ds e) es ≡ joined ds (argument e es)
+pub joined-also : (ds : ExpressionTrees) (e : ExpressionTree) (es : ExpressionTrees) → joined (also_argument ds e) es
+    ≡ joined ds (argument e es)
 joined-also no_arguments e es = refl
 joined-also (argument d ds) e es = ap (argument d) (joined-also ds e es)
 
@@ -126,7 +123,8 @@ arguments_start (grammar.one e) = expression_starts e
 arguments_start (grammar.more {ts} {us} e t h es) = starts-append begins_operand ts (t ∷ us) (expression_starts e)
 
 -- so none of them is one that ends
-pub starts-no : (test : TokenKind → Bool) → ((k : TokenKind) → begins_operand k ≡ true → test k ≡ false) → (ts rest : List PureToken) → Starts begins_operand ts → NoNext test (ts ++ rest)
+pub starts-no : (test : TokenKind → Bool) → ((k : TokenKind) → begins_operand k ≡ true → test k ≡ false) → (ts rest : List PureToken) →
+    Starts begins_operand ts → NoNext test (ts ++ rest)
 starts-no test f [] rest h = absurd h
 starts-no test f (t ∷ ts) rest h = f t.kind h
 
@@ -140,7 +138,8 @@ operand-no_semicolon (kind.Mark punct.Semicolon) h = cc
 operand-no_semicolon (kind.Mark m) h = refl
 operand-no_semicolon k h = refl
 
-goes_prefix : {c : ℕ} {t : PureToken} {xs rest : List PureToken} {ps : List Part} {p : Purpose} (u : Prefix) (s2 : ℕ → State) → IsMark (prefix_mark u) t →
+goes_prefix : {c : ℕ} {t : PureToken} {xs rest : List PureToken} {ps : List Part} {p : Purpose} (u : Prefix) (s2 : ℕ → State) →
+    IsMark (prefix_mark u) t →
     Goes (Want (tick c t.kind) (Under u ∷ ps) p) (tick c t.kind) xs s2 rest → Goes (Want c ps p) c (t ∷ xs) s2 rest
 goes_prefix {ps = ps} {p} grammar.not s2 h r = goes_token (λ n. Want n (Under grammar.not ∷ ps) p) s2 h refl refl r
 goes_prefix {ps = ps} {p} grammar.negate s2 h r = goes_token (λ n. Want n (Under grammar.negate ∷ ps) p) s2 h refl refl r
@@ -150,24 +149,30 @@ pub move_operator : (o : Op) (x : Identifier) (c : ℕ) (e : ExpressionTree) (ps
     move (Have c e ps p) (kind.Mark (mark_of o)) x ≡ on (Want (tick c (kind.Mark (mark_of o))) (After o x.at e ∷ ps) p)
 move_operator o x c e ps p g =
     let d = tick c (kind.Mark (mark_of o)) in
-    ap (λ q. had_mark q (mark_of o) x.at d e ps p) (binary-mark o) ∙ ap (λ y. on (pushed o x.at d y p)) (closed-guards (level o) e ps (level-le o) g)
+    ap (λ q. had_mark q (mark_of o) x.at d e ps p) (binary-mark o) ∙ ap (λ y. on (pushed o x.at d y p))
+    (closed-guards (level o) e ps (level-le o) g)
 
 -- over a call from behind its parenthesis on
 pub move_comma : (c : ℕ) (e : ExpressionTree) (n : Identifier) (es : ExpressionTrees) (site : CallSite) (x : Identifier) →
-    move (Have c e (argument_parts n es site) (argument_purpose n es site)) (kind.Mark punct.Comma) x ≡ on (Want c (argument_parts n (also_argument es e) site) (argument_purpose n (also_argument es e) site))
+    move (Have c e (argument_parts n es site) (argument_purpose n es site)) (kind.Mark punct.Comma) x
+    ≡ on (Want c (argument_parts n (also_argument es e) site) (argument_purpose n (also_argument es e) site))
 move_comma c e n es (AsOperand ps p) x = refl
 move_comma c e n es (AsStatement p) x = refl
 
 pub move_close : (c : ℕ) (e : ExpressionTree) (n : Identifier) (es : ExpressionTrees) (site : CallSite) (x : Identifier) →
-    move (Have c e (argument_parts n es site) (argument_purpose n es site)) (kind.Mark punct.CloseParenthesis) x ≡ on (call_read c n (also_argument es e) site)
+    move (Have c e (argument_parts n es site) (argument_purpose n es site)) (kind.Mark punct.CloseParenthesis) x
+    ≡ on (call_read c n (also_argument es e) site)
 move_close c e n es (AsOperand ps p) x = refl
 move_close c e n es (AsStatement p) x = refl
 
-pub move_bare : (c : ℕ) (n : Identifier) (site : CallSite) (x : Identifier) → move (call_begun c n site) (kind.Mark punct.CloseParenthesis) x ≡ on (call_read c n no_arguments site)
+pub move_bare : (c : ℕ) (n : Identifier) (site : CallSite) (x : Identifier) → move (call_begun c n site) (kind.Mark punct.CloseParenthesis)
+    x
+    ≡ on (call_read c n no_arguments site)
 move_bare c n (AsOperand ps p) x = refl
 move_bare c n (AsStatement p) x = refl
 
-deep_bare : (c : ℕ) (n : Identifier) (site : CallSite) → is_deep (call_begun c n site) (kind.Mark punct.CloseParenthesis) ≡ is_over c (kind.Mark punct.CloseParenthesis)
+deep_bare : (c : ℕ) (n : Identifier) (site : CallSite) → is_deep (call_begun c n site) (kind.Mark punct.CloseParenthesis)
+    ≡ is_over c (kind.Mark punct.CloseParenthesis)
 deep_bare c n (AsOperand ps p) = refl
 deep_bare c n (AsStatement p) = refl
 
@@ -177,16 +182,23 @@ argument-guards n es (AsStatement p) = tt
 
 pub goes_bare : (u : PureToken) → IsMark punct.CloseParenthesis u → (n : Identifier) (site : CallSite) (rest : List PureToken) (c : ℕ) →
     Goes (call_begun c n site) c (u ∷ []) (λ m. call_read m n no_arguments site) rest
-goes_bare u k n site rest c = goes_token (λ m. call_read m n no_arguments site) (λ m. call_read m n no_arguments site) k (deep_bare c n site) (move_bare c n site (of_token u)) (goes_end (λ m. call_read m n no_arguments site))
+goes_bare u k n site rest c = goes_token (λ m. call_read m n no_arguments site) (λ m. call_read m n no_arguments site) k
+    (deep_bare c n site)
+    (move_bare c n site (of_token u)) (goes_end (λ m. call_read m n no_arguments site))
 
-call_passed : (n : Identifier) (site : CallSite) {ts : List PureToken} {es : ExpressionTrees} → IsArguments ts es → (u : PureToken) (rest : List PureToken) (c : ℕ) →
-    trace ((ts ++ u ∷ []) ++ rest) (call_begun c n site) ≡ trace ((ts ++ u ∷ []) ++ rest) (Want c (argument_parts n no_arguments site) (argument_purpose n no_arguments site))
-call_passed n site {ts} args u rest c = trace-call ((ts ++ u ∷ []) ++ rest) c n site (starts-no is_close operand-no_close (ts ++ u ∷ []) rest (starts-append begins_operand ts (u ∷ []) (arguments_start args)))
+call_passed : (n : Identifier) (site : CallSite) {ts : List PureToken} {es : ExpressionTrees} → IsArguments ts es →
+    (u : PureToken) (rest : List PureToken) (c : ℕ) →
+    trace ((ts ++ u ∷ []) ++ rest) (call_begun c n site) ≡ trace ((ts ++ u ∷ []) ++ rest)
+    (Want c (argument_parts n no_arguments site) (argument_purpose n no_arguments site))
+call_passed n site {ts} args u rest c = trace-call ((ts ++ u ∷ []) ++ rest) c n site (starts-no is_close operand-no_close (ts ++ u ∷ [])
+    rest (starts-append begins_operand ts (u ∷ []) (arguments_start args)))
 
 mutual
-  pub goes : {q : ℕ} {ts : List PureToken} {e : ExpressionTree} → IsExpression q ts e → (ps : List Part) (p : Purpose) → Guards q ps → (rest : List PureToken) → Follows q rest → NoNext is_open rest → (c : ℕ) →
+  pub goes : {q : ℕ} {ts : List PureToken} {e : ExpressionTree} → IsExpression q ts e → (ps : List Part) (p : Purpose) → Guards q ps →
+      (rest : List PureToken) → Follows q rest → NoNext is_open rest → (c : ℕ) →
       Goes (Want c ps p) c ts (λ n. Have n e ps p) rest
-  goes (grammar.literal {n = n}) ps p g rest h w c = goes_token (λ m. Have m (tree.literal n) ps p) (λ m. Have m (tree.literal n) ps p) refl refl refl (goes_end (λ m. Have m (tree.literal n) ps p))
+  goes (grammar.literal {n = n}) ps p g rest h w c = goes_token (λ m. Have m (tree.literal n) ps p) (λ m. Have m (tree.literal n) ps p) refl
+      refl refl (goes_end (λ m. Have m (tree.literal n) ps p))
   goes (grammar.name {n = n}) ps p g rest h w c =
       goes_same (λ m. Named m n ps p) (λ m. Have m (tree.name n) ps p) (λ m. trace-named rest m n ps p w)
       (goes_token (λ m. Named m n ps p) (λ m. Named m n ps p) refl refl refl (goes_end (λ m. Named m n ps p)))
@@ -203,36 +215,55 @@ mutual
       (goes inner (Under u ∷ ps) p (lit≤ tt) rest (follows-seven rest) w (tick c t.kind)))
   goes {q} (grammar.binary {left = left} {right} {a} {b} o t h le first second) ps p g rest f w c =
       goes_seq (λ m. Have m a ps p) (λ m. Have m (tree.binary o t.at a b) ps p)
-      (goes first ps p (guards-up ps q (level o) le g) (t ∷ (right ++ rest)) (follows-kind _ t h (follows_operator o)) (no_next-kind is_open t h (no_open_operator o)) c)
-      (goes_token (λ m. Want m (After o t.at a ∷ ps) p) (λ m. Have m (tree.binary o t.at a b) ps p) h refl (move_operator o (of_token t) (tally c left) a ps p (guards-up ps q (level o) le g))
-      (goes_same (λ m. Have m b (After o t.at a ∷ ps) p) (λ m. Have m (tree.binary o t.at a b) ps p) (λ m. trace-after rest m o t.at a b ps p (follows-up rest q (level o) le f))
-      (goes second (After o t.at a ∷ ps) p (omega arith) rest (follows-up rest q (level o + 1) (omega arith) f) w (tick (tally c left) t.kind))))
+      (goes first ps p (guards-up ps q (level o) le g) (t ∷ (right ++ rest)) (follows-kind _ t h (follows_operator o))
+      (no_next-kind is_open t h (no_open_operator o)) c)
+      (goes_token (λ m. Want m (After o t.at a ∷ ps) p) (λ m. Have m (tree.binary o t.at a b) ps p) h refl
+      (move_operator o (of_token t) (tally c left) a ps p (guards-up ps q (level o) le g))
+      (goes_same (λ m. Have m b (After o t.at a ∷ ps) p) (λ m. Have m (tree.binary o t.at a b) ps p)
+      (λ m. trace-after rest m o t.at a b ps p (follows-up rest q (level o) le f))
+      (goes second (After o t.at a ∷ ps) p (omega arith) rest (follows-up rest q (level o + 1) (omega arith) f) w
+      (tick (tally c left) t.kind))))
 
   -- over a call behind its name
-  pub goes_named : {ts : List PureToken} {es : ExpressionTrees} → IsCall ts es → (n : Identifier) (ps : List Part) (p : Purpose) (rest : List PureToken) (c : ℕ) →
+  pub goes_named : {ts : List PureToken} {es : ExpressionTrees} → IsCall ts es → (n : Identifier) (ps : List Part) (p : Purpose)
+      (rest : List PureToken) (c : ℕ) →
       Goes (Named c n ps p) c ts (λ m. Have m (tree.call n es) ps p) rest
   goes_named (grammar.bare h k) n ps p rest c =
       goes_token (λ m. Called m n ps p) (λ m. Have m (tree.call n no_arguments) ps p) h refl refl (goes_bare _ k n (AsOperand ps p) rest _)
   goes_named (grammar.passing {t} {ts} {es} h args u k) n ps p rest c =
-      goes_token (λ m. Called m n ps p) (λ m. Have m (tree.call n es) ps p) h refl refl (goes_from (call_passed n (AsOperand ps p) args u rest (tick c t.kind)) (goes_arguments args u k n no_arguments (AsOperand ps p) rest (tick c t.kind)))
+      goes_token (λ m. Called m n ps p) (λ m. Have m (tree.call n es) ps p) h refl refl
+      (goes_from (call_passed n (AsOperand ps p) args u rest (tick c t.kind)) (goes_arguments args u k n no_arguments (AsOperand ps p) rest
+      (tick c t.kind)))
 
-  pub goes_arguments : {ts : List PureToken} {es : ExpressionTrees} → IsArguments ts es → (u : PureToken) → IsMark punct.CloseParenthesis u → (n : Identifier) (past : ExpressionTrees) (site : CallSite) (rest : List PureToken) (c : ℕ) →
-      Goes (Want c (argument_parts n past site) (argument_purpose n past site)) c (ts ++ u ∷ []) (λ m. call_read m n (joined past es) site) rest
+  pub goes_arguments : {ts : List PureToken} {es : ExpressionTrees} → IsArguments ts es → (u : PureToken) → IsMark punct.CloseParenthesis
+      u →
+      (n : Identifier) (past : ExpressionTrees) (site : CallSite) (rest : List PureToken) (c : ℕ) →
+      Goes (Want c (argument_parts n past site) (argument_purpose n past site)) c (ts ++ u ∷ []) (λ m. call_read m n (joined past es) site)
+      rest
   goes_arguments (grammar.one {ts} {e} inner) u k n past site rest c =
-      subst (λ xs. Goes (Want c (argument_parts n past site) (argument_purpose n past site)) c (ts ++ u ∷ []) (λ m. call_read m n xs site) rest) (also-joined past e)
+      subst (λ xs. Goes (Want c (argument_parts n past site) (argument_purpose n past site)) c (ts ++ u ∷ []) (λ m. call_read m n xs site)
+      rest)
+      (also-joined past e)
       (goes_seq (λ m. Have m e (argument_parts n past site) (argument_purpose n past site)) (λ m. call_read m n (also_argument past e) site)
-      (goes inner (argument_parts n past site) (argument_purpose n past site) (argument-guards n past site) (u ∷ rest) (follows-kind _ u k tt) (no_next-kind is_open u k refl) c)
-      (goes_token (λ m. call_read m n (also_argument past e) site) (λ m. call_read m n (also_argument past e) site) k refl (move_close _ e n past site (of_token u)) (goes_end (λ m. call_read m n (also_argument past e) site))))
+      (goes inner (argument_parts n past site) (argument_purpose n past site) (argument-guards n past site) (u ∷ rest)
+      (follows-kind _ u k tt)
+      (no_next-kind is_open u k refl) c)
+      (goes_token (λ m. call_read m n (also_argument past e) site) (λ m. call_read m n (also_argument past e) site) k refl
+      (move_close _ e n past site (of_token u)) (goes_end (λ m. call_read m n (also_argument past e) site))))
   goes_arguments (grammar.more {ts} {us} {e} {es} inner t h others) u k n past site rest c =
       let w = Want c (argument_parts n past site) (argument_purpose n past site) in
       subst (λ l. Goes w c l (λ m. call_read m n (joined past (argument e es)) site) rest) (sym (append_assoc ts (t ∷ us) (u ∷ [])))
       (subst (λ xs. Goes w c (ts ++ t ∷ (us ++ u ∷ [])) (λ m. call_read m n xs site) rest) (joined-also past e es)
-      (goes_seq (λ m. Have m e (argument_parts n past site) (argument_purpose n past site)) (λ m. call_read m n (joined (also_argument past e) es) site)
-      (goes inner (argument_parts n past site) (argument_purpose n past site) (argument-guards n past site) (t ∷ ((us ++ u ∷ []) ++ rest)) (follows-kind _ t h tt) (no_next-kind is_open t h refl) c)
-      (goes_token (λ m. Want m (argument_parts n (also_argument past e) site) (argument_purpose n (also_argument past e) site)) (λ m. call_read m n (joined (also_argument past e) es) site) h refl (move_comma _ e n past site (of_token t))
+      (goes_seq (λ m. Have m e (argument_parts n past site) (argument_purpose n past site))
+      (λ m. call_read m n (joined (also_argument past e) es) site)
+      (goes inner (argument_parts n past site) (argument_purpose n past site) (argument-guards n past site) (t ∷ ((us ++ u ∷ []) ++ rest))
+      (follows-kind _ t h tt) (no_next-kind is_open t h refl) c)
+      (goes_token (λ m. Want m (argument_parts n (also_argument past e) site) (argument_purpose n (also_argument past e) site))
+      (λ m. call_read m n (joined (also_argument past e) es) site) h refl (move_comma _ e n past site (of_token t))
       (goes_arguments others u k n (also_argument past e) site rest _))))
 
 -- over a call's arguments and the closing parenthesis
-pub goes_passed : {ts : List PureToken} {es : ExpressionTrees} → IsArguments ts es → (u : PureToken) → IsMark punct.CloseParenthesis u → (n : Identifier) (site : CallSite) (rest : List PureToken) (c : ℕ) →
+pub goes_passed : {ts : List PureToken} {es : ExpressionTrees} → IsArguments ts es → (u : PureToken) → IsMark punct.CloseParenthesis u →
+    (n : Identifier) (site : CallSite) (rest : List PureToken) (c : ℕ) →
     Goes (call_begun c n site) c (ts ++ u ∷ []) (λ m. call_read m n es site) rest
 goes_passed args u k n site rest c = goes_from (call_passed n site args u rest c) (goes_arguments args u k n no_arguments site rest c)

@@ -1,17 +1,16 @@
 -- The tokens of a text can be read.
-use Rattle.std.specs.Prelude.{◌≡◌, ℕ, zero, suc, ◌+◌, ◌-◌, ◌<◌, ◌≤◌, nat_le, List, [], ◌∷◌, ◌++◌, length, take, Bool, true, false, ◌&&◌, ◌||◌, ◌==◌, Option, Some, None, Result, Ok, Err, All, slice_get, slice_range, codes, refl}
+use Rattle.std.specs.Prelude.{◌≡◌, ℕ, zero, suc, ◌+◌, ◌-◌, ◌<◌, ◌≤◌, List, [], ◌∷◌, ◌++◌, length, take, true, Some, Result, Ok, Err, All, slice_get, slice_range, codes, refl}
 use Rattle.std.proofs.Common.{sym, ◌∙◌, ap, subst, arith, drop, append_assoc, length-append}
 use Rattle.std.proofs.Math.Seq.{take-append_seam}
 use Rattle.std.proofs.lemmas.Bool.Decides.{nat_tests}
-use Rattle.std.specs.List.{slice_index_or}
 use Rattle.c_lexer.specs.declared.token.Token as the_token
 use Rattle.c_lexer.specs.declared.token.TokenKind.TheVariants as kind
 use Rattle.c_lexer.specs.declared.token.LexError.{LexError}
 use Rattle.c_lexer.specs.declared.token.Place.{Place}
 use Rattle.c_lexer.specs.Answer.{StandBetween}
-use Rattle.c_lexer.specs.Lexing.{is_letter, is_digit, is_name_byte, Each, IsToken, after, first_place, token_at, with_token, IsLexed, end, blank, line_comment, comment, open_comment, include_line, token, wide, glued, bad, IsTokens}
+use Rattle.c_lexer.specs.Lexing.{is_letter, is_name_byte, Each, IsToken, after, token_at, with_token, IsLexed, end, blank, line_comment, comment, open_comment, include_line, token, wide, glued, bad, IsTokens}
 use Rattle.c_lexer.proofs.Loop.{after-offset, in_order}
-use Rattle.c_parser.specs.Readable.{IsReadable, AreReadable}
+use Rattle.c_parser.specs.steps.Readable.{AreReadable}
 
 abbrev Answers : Type 0
 Answers = Result (List the_token.Token) LexError
@@ -39,15 +38,18 @@ drop-front (x ∷ xs) ys = drop-front xs ys
 range-middle : (front text rest : List ℕ) → slice_range (front ++ (text ++ rest)) (length front) (length front + length text) ≡ text
 range-middle front text rest =
     let n : length front + length text - length front ≡ length text = omega arith in
-    ap (λ k. take k (drop (length front) (front ++ (text ++ rest)))) n ∙ ap (take (length text)) (drop-front front (text ++ rest)) ∙ take-append_seam text rest
+    ap (λ k. take k (drop (length front) (front ++ (text ++ rest)))) n ∙ ap (take (length text)) (drop-front front (text ++ rest))
+    ∙ take-append_seam text rest
 
 abbrev Ascii : List ℕ → List the_token.Token → Type 0
-Ascii bytes ts = (k : ℕ) (t : the_token.Token) → slice_get ts k ≡ Some t → t.kind ≡ kind.Name → All (λ b. b < 128) (slice_range bytes t.from t.to)
+Ascii bytes ts = (k : ℕ) (t : the_token.Token) → slice_get ts k ≡ Some t → t.kind ≡ kind.Name →
+    All (λ b. b < 128) (slice_range bytes t.from t.to)
 
 no_tokens : (f : LexError) (ts : List the_token.Token) → (let x : Answers = Err f in x) ≡ Ok ts → ⊥
 no_tokens f ts e = cc
 
-ok_tail : (t : the_token.Token) (r : Answers) (ts : List the_token.Token) → with_token t r ≡ Ok ts → (us : List the_token.Token) × (r ≡ Ok us) × (ts ≡ t ∷ us)
+ok_tail : (t : the_token.Token) (r : Answers) (ts : List the_token.Token) → with_token t r ≡ Ok ts → (us : List the_token.Token)
+    × (r ≡ Ok us) × (ts ≡ t ∷ us)
 ok_tail t (Ok us) ts e = (us, refl, sym (the_list (t ∷ us) ts e))
   where
     the_list : (a b : List the_token.Token) → (let x : Answers = Ok a in x) ≡ Ok b → a ≡ b
@@ -62,16 +64,21 @@ none_ascii bytes (x ∷ xs) e k t g i = cc
 skipped : (front text rest : List ℕ) (p : Place) (ts : List the_token.Token) → p.offset ≡ length front →
     ((more : List ℕ) → (after p text).offset ≡ length more → Ascii (more ++ rest) ts) → Ascii (front ++ (text ++ rest)) ts
 skipped front text rest p ts o rec =
-    let n : (after p text).offset ≡ length (front ++ text) = after-offset p text ∙ ap (λ m. m + length text) o ∙ sym (length-append front text) in
+    let n : (after p text).offset ≡ length (front ++ text) = after-offset p text ∙ ap (λ m. m + length text) o
+    ∙ sym (length-append front text)
+    in
     subst (λ l. Ascii l ts) (append_assoc front text rest) (rec (front ++ text) n)
 
-names_ascii : {p : Place} {xs : List ℕ} {r : Answers} → IsLexed p xs r → (front : List ℕ) → p.offset ≡ length front → (ts : List the_token.Token) → r ≡ Ok ts → Ascii (front ++ xs) ts
+names_ascii : {p : Place} {xs : List ℕ} {r : Answers} → IsLexed p xs r → (front : List ℕ) → p.offset ≡ length front →
+    (ts : List the_token.Token) → r ≡ Ok ts → Ascii (front ++ xs) ts
 names_ascii end front o ts e = none_ascii (front ++ []) ts e
 names_ascii {p} (blank {b = b} {bytes} h l) front o ts e = skipped front (b ∷ []) bytes p ts o (λ more n. names_ascii l more n ts e)
 names_ascii {p} (line_comment text rest c f l) front o ts e =
-    subst (λ x. Ascii (front ++ x) ts) (append_assoc (codes "//") text rest) (skipped front (codes "//" ++ text) rest p ts o (λ more n. names_ascii l more n ts e))
+    subst (λ x. Ascii (front ++ x) ts) (append_assoc (codes "//") text rest) (skipped front (codes "//" ++ text) rest p ts o
+    (λ more n. names_ascii l more n ts e))
 names_ascii {p} (comment text rest c l) front o ts e =
-    subst (λ x. Ascii (front ++ x) ts) (append_assoc (codes "/*") (text ++ codes "*/") rest ∙ ap (λ x. codes "/*" ++ x) (append_assoc text (codes "*/") rest))
+    subst (λ x. Ascii (front ++ x) ts) (append_assoc (codes "/*") (text ++ codes "*/") rest ∙ ap (λ x. codes "/*" ++ x)
+    (append_assoc text (codes "*/") rest))
     (skipped front (codes "/*" ++ (text ++ codes "*/")) rest p ts o (λ more n. names_ascii l more n ts e))
 names_ascii (open_comment text c) front o ts e = absurd (no_tokens _ ts e)
 names_ascii {p} (include_line text rest h i c f l) front o ts e = skipped front text rest p ts o (λ more n. names_ascii l more n ts e)
@@ -83,13 +90,15 @@ names_ascii {p} (token {r = r} k text rest t long parts l) front o ts e =
     here : k ≡ kind.Name → All (λ b. b < 128) (slice_range (front ++ (text ++ rest)) p.offset (p.offset + length text))
     here q =
         let a : All (λ b. b < 128) text = name_ascii text (subst (λ x. IsToken x text) q t) in
-        let s : slice_range (front ++ (text ++ rest)) p.offset (p.offset + length text) ≡ text = ap (λ n. slice_range (front ++ (text ++ rest)) n (n + length text)) o ∙ range-middle front text rest in
+        let s : slice_range (front ++ (text ++ rest)) p.offset (p.offset + length text)
+        ≡ text = ap (λ n. slice_range (front ++ (text ++ rest)) n (n + length text)) o ∙ range-middle front text rest in
         subst (λ l. All (λ b. b < 128) l) (sym s) a
 
     first_of : (us : List the_token.Token) → Ascii (front ++ (text ++ rest)) us → Ascii (front ++ (text ++ rest)) (token_at p k text ∷ us)
     first_of us others zero u g i =
         let q : token_at p k text ≡ u = cc in
-        subst (λ (x : the_token.Token). All (λ b. b < 128) (slice_range (front ++ (text ++ rest)) x.from x.to)) q (here (ap (λ (x : the_token.Token). x.kind) q ∙ i))
+        subst (λ (x : the_token.Token). All (λ b. b < 128) (slice_range (front ++ (text ++ rest)) x.from x.to)) q
+        (here (ap (λ (x : the_token.Token). x.kind) q ∙ i))
     first_of us others (suc j) u g i = others j u g i
 names_ascii (wide n text rest d long ends big) front o ts e = absurd (no_tokens _ ts e)
 names_ascii (glued n b text rest d long h) front o ts e = absurd (no_tokens _ ts e)
@@ -99,7 +108,8 @@ record IsOrdered (n : ℕ) (t : the_token.Token) : Type 0 where
   ordered : t.from ≤ t.to
   within : t.to ≤ n
 
-stands_ordered : (a n : ℕ) (ts : List the_token.Token) → StandBetween a n ts → (k : ℕ) (t : the_token.Token) → slice_get ts k ≡ Some t → IsOrdered n t
+stands_ordered : (a n : ℕ) (ts : List the_token.Token) → StandBetween a n ts → (k : ℕ) (t : the_token.Token) → slice_get ts k ≡ Some t →
+    IsOrdered n t
 stands_ordered a n [] h k t e = cc
 stands_ordered a n (x ∷ ts) h zero t e =
     let q : x ≡ t = cc in subst (λ y. IsOrdered n y) q (record { ordered = omega (arith, h.1); within = h.2 })

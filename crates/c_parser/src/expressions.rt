@@ -1,14 +1,15 @@
 //! Expressions.
 
-ghost use Rattle.std.specs.Prelude.{◌≡◌, ◌+◌, ◌<◌, ◌≤◌, length, nat_le, IfOk, IfErr, IfSome, IfNone};
+ghost use Rattle.std.specs.Prelude.{◌≡◌, ◌+◌, ◌≤◌, length, nat_le, IfOk, IfErr, IfSome, IfNone};
 ghost use Rattle.std.proofs.Common.{drop};
 ghost use Rattle.c_tree.specs.SourceView.{tree_of, trees_of, identifier_of};
 ghost use Rattle.c_parser.specs.Grammar as grammar;
-ghost use Rattle.c_parser.specs.Machine as machine;
-ghost use Rattle.c_parser.specs.Prefixes.{prefix_of};
-ghost use Rattle.c_parser.specs.Parsing.{text_of, StandsMark, StandsOperator, ReadsExpression, FailsExpression, ReadsOperand, FailsOperand, ReadsPrefixed, FailsPrefixed, ReadsNamed, FailsNamed, ReadsCall, FailsCall, ReadsArguments, FailsArguments};
+ghost use Rattle.c_parser.specs.steps.Machine as machine;
+ghost use Rattle.c_parser.specs.steps.Prefixes.{prefix_of};
+ghost use Rattle.c_parser.specs.steps.Parsing.{text_of, StandsMark, StandsOperator, ReadsExpression, FailsExpression, ReadsOperand, FailsOperand, ReadsNamed, FailsNamed, ReadsCall, FailsCall, ReadsArguments, FailsArguments};
 
 use crate::fault::Fault;
+use crate::limits::MAX_OPERATORS;
 use crate::look::{expect, is_mark, name, peek};
 use crate::made;
 use crate::prefix::Prefix;
@@ -70,12 +71,13 @@ fn operator_at(source: &Source, at: usize) -> Option<(Op, Pos)>
 
 /// Whether no further operator may be counted.
 fn is_full(count: u32) -> bool
-    ensures { result ≡ nat_le 256 count }
+    ensures { result ≡ nat_le MAX_OPERATORS count }
 {
-    count >= 256
+    count >= MAX_OPERATORS
 }
 
-/// An expression, whose operators outside parentheses bind more tightly than `above`. The last numbers are the place
+/// An expression, whose operators outside parentheses bind more tightly than `above`. The last
+/// numbers are the place
 /// behind it and how many operators were counted.
 #[cycle(expressions)]
 pub fn expression(
@@ -84,8 +86,9 @@ pub fn expression(
     above: u8,
     count: u32,
 ) -> Result<(ExprTree, usize, u32), Fault>
-    requires { count ≤ 256 }
-    ensures ok { IfOk result (λ r. ReadsExpression (text_of source.now) at above count (tree_of r.0) r.1 r.2) }
+    requires { count ≤ MAX_OPERATORS }
+    ensures ok { IfOk result (λ r. ReadsExpression (text_of source.now) at above count (tree_of r.0)
+        r.1 r.2) }
     ensures err { IfErr result (FailsExpression (text_of source.now) at above count) }
 {
     let (mut left, mut next, mut counted) = operand(source, at, count)?;
@@ -108,8 +111,9 @@ pub fn expression(
 /// An operand.
 #[cycle(expressions)]
 fn operand(source: &Source, at: usize, count: u32) -> Result<(ExprTree, usize, u32), Fault>
-    requires { count ≤ 256 }
-    ensures ok { IfOk result (λ r. ReadsOperand (text_of source.now) at count (tree_of r.0) r.1 r.2) }
+    requires { count ≤ MAX_OPERATORS }
+    ensures ok { IfOk result (λ r. ReadsOperand (text_of source.now) at count (tree_of r.0) r.1
+        r.2) }
     ensures err { IfErr result (FailsOperand (text_of source.now) at count) }
 {
     let Some(token) = peek(source, at) else {
@@ -129,9 +133,10 @@ fn operand(source: &Source, at: usize, count: u32) -> Result<(ExprTree, usize, u
 /// An expression in parentheses.
 #[cycle(expressions)]
 fn inside(source: &Source, at: usize, count: u32) -> Result<(ExprTree, usize, u32), Fault>
-    requires few { count ≤ 256 }
+    requires few { count ≤ MAX_OPERATORS }
     requires opened { StandsMark (text_of source.now) Punct.OpenParenthesis at }
-    ensures ok { IfOk result (λ r. ReadsOperand (text_of source.now) at count (tree_of r.0) r.1 r.2) }
+    ensures ok { IfOk result (λ r. ReadsOperand (text_of source.now) at count (tree_of r.0) r.1
+        r.2) }
     ensures err { IfErr result (FailsOperand (text_of source.now) at count) }
 {
     if is_full(count) {
@@ -150,9 +155,10 @@ fn prefixed(
     count: u32,
     prefix: Prefix,
 ) -> Result<(ExprTree, usize, u32), Fault>
-    requires few { count ≤ 256 }
+    requires few { count ≤ MAX_OPERATORS }
     requires stands { StandsMark (text_of source.now) (grammar.prefix_mark (prefix_of prefix)) at }
-    ensures ok { IfOk result (λ r. ReadsOperand (text_of source.now) at count (tree_of r.0) r.1 r.2) }
+    ensures ok { IfOk result (λ r. ReadsOperand (text_of source.now) at count (tree_of r.0) r.1
+        r.2) }
     ensures err { IfErr result (FailsOperand (text_of source.now) at count) }
 {
     if is_full(count) {
@@ -170,9 +176,10 @@ fn named(
     count: u32,
     name: Named,
 ) -> Result<(ExprTree, usize, u32), Fault>
-    requires few { count ≤ 256 }
+    requires few { count ≤ MAX_OPERATORS }
     requires within { at ≤ length (text_of source.now) }
-    ensures ok { IfOk result (λ r. ReadsNamed (text_of source.now) at count (identifier_of name) (tree_of r.0) r.1 r.2) }
+    ensures ok { IfOk result (λ r. ReadsNamed (text_of source.now) at count (identifier_of name)
+        (tree_of r.0) r.1 r.2) }
     ensures err { IfErr result (FailsNamed (text_of source.now) at count (identifier_of name)) }
 {
     if !is_mark(source, at, Punct::OpenParenthesis) {
@@ -192,8 +199,9 @@ pub fn call_arguments(
     at: usize,
     count: u32,
 ) -> Result<(Vec<ExprTree>, usize, u32), Fault>
-    requires { count ≤ 256 }
-    ensures ok { IfOk result (λ r. ReadsCall (text_of source.now) at count (trees_of r.0.items) r.1 r.2) }
+    requires { count ≤ MAX_OPERATORS }
+    ensures ok { IfOk result (λ r. ReadsCall (text_of source.now) at count (trees_of r.0.items) r.1
+        r.2) }
     ensures err { IfErr result (FailsCall (text_of source.now) at count) }
 {
     if is_mark(source, at, Punct::CloseParenthesis) {
@@ -205,8 +213,9 @@ pub fn call_arguments(
 /// One or more arguments, and the parenthesis behind them.
 #[cycle(expressions)]
 fn arguments(source: &Source, at: usize, count: u32) -> Result<(Vec<ExprTree>, usize, u32), Fault>
-    requires { count ≤ 256 }
-    ensures ok { IfOk result (λ r. ReadsArguments (text_of source.now) at count (trees_of r.0.items) r.1 r.2) }
+    requires { count ≤ MAX_OPERATORS }
+    ensures ok { IfOk result (λ r. ReadsArguments (text_of source.now) at count (trees_of r.0.items)
+        r.1 r.2) }
     ensures err { IfErr result (FailsArguments (text_of source.now) at count) }
 {
     let mut arguments = Vec::new(source.alloc);

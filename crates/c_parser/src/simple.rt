@@ -1,10 +1,10 @@
 //! Full expressions, declarations and simple statements.
 
-ghost use Rattle.std.specs.Prelude.{◌≡◌, ◌+◌, ◌<◌, ◌≤◌, length, map, IfOk, IfErr, IfSome, IfNone};
+ghost use Rattle.std.specs.Prelude.{◌+◌, ◌≤◌, length, map, IfOk, IfErr, IfSome, IfNone};
 ghost use Rattle.std.proofs.Common.{drop};
 ghost use Rattle.c_tree.specs.SourceView.{tree_of, identifier_of, simple_of, declarator_of};
-ghost use Rattle.c_parser.specs.Parsing.{text_of};
-ghost use Rattle.c_parser.specs.ParsingStatements.{IsClosing, ReadsFull, FailsFull, ReadsUntil, FailsUntil, ReadsType, LacksType, PassesInt, ReadsDeclarator, FailsDeclarator, ReadsDeclarators, FailsDeclarators, ReadsSimple, FailsSimple, ReadsTarget, FailsTarget, ReadsSet, FailsSet, ReadsChange, FailsChange, ReadsCallStatement, FailsCallStatement, ReadsStepped, FailsStepped, ReadsTest, FailsTest};
+ghost use Rattle.c_parser.specs.steps.Parsing.{text_of};
+ghost use Rattle.c_parser.specs.steps.ParsingStatements as parsing;
 
 use crate::expressions::{call_arguments, expression};
 use crate::fault::Fault;
@@ -17,8 +17,8 @@ use c_tree::tree::{Op, Pos};
 
 /// A full expression.
 fn full(source: &Source, at: usize) -> Result<(ExprTree, usize), Fault>
-    ensures ok { IfOk result (λ r. ReadsFull (text_of source.now) at (tree_of r.0) r.1) }
-    ensures err { IfErr result (FailsFull (text_of source.now) at) }
+    ensures ok { IfOk result (λ r. parsing.ReadsFull (text_of source.now) at (tree_of r.0) r.1) }
+    ensures err { IfErr result (parsing.FailsFull (text_of source.now) at) }
 {
     let (whole, next, _) = expression(source, at, 0, 0)?;
     Ok((whole, next))
@@ -26,9 +26,10 @@ fn full(source: &Source, at: usize) -> Result<(ExprTree, usize), Fault>
 
 /// A full expression and the mark behind it.
 pub fn full_until(source: &Source, at: usize, mark: Punct) -> Result<(ExprTree, usize), Fault>
-    requires { IsClosing mark }
-    ensures ok { IfOk result (λ r. ReadsUntil (text_of source.now) mark at (tree_of r.0) r.1) }
-    ensures err { IfErr result (FailsUntil (text_of source.now) mark at) }
+    requires { parsing.IsClosing mark }
+    ensures ok { IfOk result (λ r. parsing.ReadsUntil (text_of source.now) mark at (tree_of r.0)
+        r.1) }
+    ensures err { IfErr result (parsing.FailsUntil (text_of source.now) mark at) }
 {
     let (whole, end) = full(source, at)?;
     let next = expect(source, end, mark)?;
@@ -37,8 +38,8 @@ pub fn full_until(source: &Source, at: usize, mark: Punct) -> Result<(ExprTree, 
 
 /// A test in parentheses.
 pub fn test(source: &Source, at: usize) -> Result<(ExprTree, usize), Fault>
-    ensures ok { IfOk result (λ r. ReadsTest (text_of source.now) at (tree_of r.0) r.1) }
-    ensures err { IfErr result (FailsTest (text_of source.now) at) }
+    ensures ok { IfOk result (λ r. parsing.ReadsTest (text_of source.now) at (tree_of r.0) r.1) }
+    ensures err { IfErr result (parsing.FailsTest (text_of source.now) at) }
 {
     let open = expect(source, at, Punct::OpenParenthesis)?;
     full_until(source, open, Punct::CloseParenthesis)
@@ -47,7 +48,7 @@ pub fn test(source: &Source, at: usize) -> Result<(ExprTree, usize), Fault>
 /// The place behind the word `int`, where that stands at a place.
 fn past_int(source: &Source, at: usize) -> usize
     requires { at ≤ length (text_of source.now) }
-    ensures { PassesInt (text_of source.now) at result }
+    ensures { parsing.PassesInt (text_of source.now) at result }
 {
     if is_word(source, at, Keyword::Int) {
         at + 1
@@ -58,8 +59,8 @@ fn past_int(source: &Source, at: usize) -> usize
 
 /// The place behind the words of a type.
 pub fn type_at(source: &Source, at: usize) -> Option<usize>
-    ensures some { IfSome result (ReadsType (text_of source.now) at) }
-    ensures none { IfNone result (LacksType (drop at (text_of source.now))) }
+    ensures some { IfSome result (parsing.ReadsType (text_of source.now) at) }
+    ensures none { IfNone result (parsing.LacksType (drop at (text_of source.now))) }
 {
     if is_word(source, at, Keyword::Int) {
         return Some(at + 1);
@@ -75,8 +76,10 @@ pub fn type_at(source: &Source, at: usize) -> Option<usize>
 
 /// A declared name with its initialiser.
 fn declarator(source: &Source, at: usize) -> Result<(Declared, usize), Fault>
-    ensures ok { IfOk result (λ r. ReadsDeclarator (text_of source.now) at (declarator_of r.0) r.1) }
-    ensures err { IfErr result (FailsDeclarator (text_of source.now) at) }
+    ensures ok { IfOk result (λ r. parsing.ReadsDeclarator (text_of source.now) at
+        (declarator_of r.0)
+        r.1) }
+    ensures err { IfErr result (parsing.FailsDeclarator (text_of source.now) at) }
 {
     let Some(token) = peek(source, at) else {
         return Err(Fault::End);
@@ -95,8 +98,9 @@ fn declarator(source: &Source, at: usize) -> Result<(Declared, usize), Fault>
 
 /// Declared names, and the semicolon behind them.
 pub fn declarators(source: &Source, at: usize) -> Result<(Vec<Declared>, usize), Fault>
-    ensures ok { IfOk result (λ r. ReadsDeclarators (text_of source.now) at (map declarator_of r.0.items) r.1) }
-    ensures err { IfErr result (FailsDeclarators (text_of source.now) at) }
+    ensures ok { IfOk result (λ r. parsing.ReadsDeclarators (text_of source.now) at
+        (map declarator_of r.0.items) r.1) }
+    ensures err { IfErr result (parsing.FailsDeclarators (text_of source.now) at) }
 {
     let mut declared = Vec::new(source.alloc);
     let mut next = at;
@@ -113,8 +117,9 @@ pub fn declarators(source: &Source, at: usize) -> Result<(Vec<Declared>, usize),
 
 /// A set, behind its mark.
 fn set(source: &Source, at: usize, name: Named) -> Result<(SimpleTree, usize), Fault>
-    ensures ok { IfOk result (λ r. ReadsSet (text_of source.now) at (identifier_of name) (simple_of r.0) r.1) }
-    ensures err { IfErr result (FailsSet (text_of source.now) at (identifier_of name)) }
+    ensures ok { IfOk result (λ r. parsing.ReadsSet (text_of source.now) at (identifier_of name)
+        (simple_of r.0) r.1) }
+    ensures err { IfErr result (parsing.FailsSet (text_of source.now) at (identifier_of name)) }
 {
     let (value, next) = full(source, at)?;
     Ok((SimpleTree::Set(name, value), next))
@@ -128,8 +133,10 @@ fn change(
     place: Pos,
     name: Named,
 ) -> Result<(SimpleTree, usize), Fault>
-    ensures ok { IfOk result (λ r. ReadsChange (text_of source.now) at op place (identifier_of name) (simple_of r.0) r.1) }
-    ensures err { IfErr result (FailsChange (text_of source.now) at op place (identifier_of name)) }
+    ensures ok { IfOk result (λ r. parsing.ReadsChange (text_of source.now) at op place
+        (identifier_of name) (simple_of r.0) r.1) }
+    ensures err { IfErr result (parsing.FailsChange (text_of source.now) at op place
+        (identifier_of name)) }
 {
     let (value, next) = full(source, at)?;
     Ok((SimpleTree::Change(op, place, name, value), next))
@@ -137,8 +144,10 @@ fn change(
 
 /// A call that is a statement, behind its parenthesis.
 fn call(source: &Source, at: usize, name: Named) -> Result<(SimpleTree, usize), Fault>
-    ensures ok { IfOk result (λ r. ReadsCallStatement (text_of source.now) at (identifier_of name) (simple_of r.0) r.1) }
-    ensures err { IfErr result (FailsCallStatement (text_of source.now) at (identifier_of name)) }
+    ensures ok { IfOk result (λ r. parsing.ReadsCallStatement (text_of source.now) at
+        (identifier_of name) (simple_of r.0) r.1) }
+    ensures err { IfErr result (parsing.FailsCallStatement (text_of source.now) at
+        (identifier_of name)) }
 {
     let (arguments, next, _) = call_arguments(source, at, 1)?;
     Ok((made::call_statement(name, arguments), next))
@@ -146,8 +155,9 @@ fn call(source: &Source, at: usize, name: Named) -> Result<(SimpleTree, usize), 
 
 /// A simple statement, behind the name that it begins with.
 fn target(source: &Source, at: usize, name: Named) -> Result<(SimpleTree, usize), Fault>
-    ensures ok { IfOk result (λ r. ReadsTarget (text_of source.now) at (identifier_of name) (simple_of r.0) r.1) }
-    ensures err { IfErr result (FailsTarget (text_of source.now) at (identifier_of name)) }
+    ensures ok { IfOk result (λ r. parsing.ReadsTarget (text_of source.now) at (identifier_of name)
+        (simple_of r.0) r.1) }
+    ensures err { IfErr result (parsing.FailsTarget (text_of source.now) at (identifier_of name)) }
 {
     let Some(token) = peek(source, at) else {
         return Err(Fault::End);
@@ -168,8 +178,9 @@ fn target(source: &Source, at: usize, name: Named) -> Result<(SimpleTree, usize)
 
 /// The name behind `++` or `--`.
 fn stepped_name(source: &Source, at: usize) -> Result<(Named, usize), Fault>
-    ensures ok { IfOk result (λ r. ReadsStepped (text_of source.now) at (identifier_of r.0) r.1) }
-    ensures err { IfErr result (FailsStepped (text_of source.now) at) }
+    ensures ok { IfOk result (λ r. parsing.ReadsStepped (text_of source.now) at (identifier_of r.0)
+        r.1) }
+    ensures err { IfErr result (parsing.FailsStepped (text_of source.now) at) }
 {
     let Some(token) = peek(source, at) else {
         return Err(Fault::End);
@@ -182,8 +193,9 @@ fn stepped_name(source: &Source, at: usize) -> Result<(Named, usize), Fault>
 
 /// A simple statement, without the mark that ends it.
 pub fn simple(source: &Source, at: usize) -> Result<(SimpleTree, usize), Fault>
-    ensures ok { IfOk result (λ r. ReadsSimple (text_of source.now) at (simple_of r.0) r.1) }
-    ensures err { IfErr result (FailsSimple (text_of source.now) at) }
+    ensures ok { IfOk result (λ r. parsing.ReadsSimple (text_of source.now) at (simple_of r.0)
+        r.1) }
+    ensures err { IfErr result (parsing.FailsSimple (text_of source.now) at) }
 {
     let Some(token) = peek(source, at) else {
         return Err(Fault::End);

@@ -1,29 +1,29 @@
 -- What the functions of the parser answer: items.
-use Rattle.std.specs.Prelude.{◌≡◌, ℕ, ◌+◌, ◌-◌, ◌<◌, ◌≤◌, List, [], ◌∷◌, ◌++◌, length, take, map, Option, Some, None, Bool, true, false}
+use Rattle.std.specs.Prelude.{◌≡◌, ℕ, ◌-◌, ◌<◌, ◌≤◌, List, [], ◌∷◌, ◌++◌, length, take, map, Option, Some, None, Bool, true, false}
 use Rattle.std.proofs.Common.{drop}
 use Rattle.c_lexer.specs.declared.token.Keyword.TheVariants as keyword
 use Rattle.c_lexer.specs.declared.token.TokenKind.TheVariants as kind
 use Rattle.c_lexer.specs.Pure.{PureToken}
-use Rattle.c_tree.specs.SourceTree.{Identifier, StatementTrees, FileItem}
+use Rattle.c_tree.specs.SourceTree.{Identifier, FileItem}
 use Rattle.c_tree.specs.SourceView.{identifier_of}
 use Rattle.c_parser.specs.declared.head.Head as the_head
 use Rattle.c_parser.specs.declared.fault.Fault.{Fault}
 use Rattle.c_parser.specs.Grammar.{past_place}
 use Rattle.c_tree.specs.SourceTree.{no_statements, prototype, procedure}
 use Rattle.c_tree.specs.SourceNodes.{statement_trees_nodes}
-use Rattle.c_parser.specs.Machine.{Outermost, Start, Head, State, Begin, Externed, Voided, Typing, AllRead, Result, Titled, Opened, NextParameter, ParameterNamed, Closed, new_head, with_parameter, without_name, with_past, with_item, filed, Outcome, limited}
-use Rattle.c_parser.specs.Parsing.{Tells}
+use Rattle.c_parser.specs.steps.Machine.{Outermost, Start, Head, State, Begin, Externed, Voided, Typing, AllRead, Result, Titled, Opened, NextParameter, ParameterNamed, Closed, new_head, with_parameter, without_name, with_past, with_item, filed, Outcome, limited}
+use Rattle.c_parser.specs.steps.Parsing.{Tells}
 
 -- after `extern` or not
 abbrev pub entered : Bool → State
 entered true = Externed
 entered false = Begin
 
--- an item begins there without `extern`
-abbrev pub Enters : Bool → List PureToken → Type 0
-Enters true ts = Unit {0}
-Enters false [] = ⊥
-Enters false (t ∷ ts) = t.kind ≡ kind.Word keyword.Extern → ⊥
+-- an item goes on there behind its `extern`, or begins there without one
+abbrev pub BeginsItem : Bool → List PureToken → Type 0
+BeginsItem true ts = Unit {0}
+BeginsItem false [] = ⊥
+BeginsItem false (t ∷ ts) = t.kind ≡ kind.Word keyword.Extern → ⊥
 
 -- behind the type of a result
 abbrev pub resulted_state : Bool → Bool → State
@@ -33,48 +33,65 @@ resulted_state false outer = Typing AllRead (Result outer)
 pub record ReadsResult (ts : List PureToken) (at : ℕ) (void : Bool) (next : ℕ) : Type 0 where
   pub later : at < next
   pub within : next ≤ length ts
-  pub leads : (outer : Bool) → limited (drop at ts) (entered outer) ≡ limited (drop next ts) (resulted_state void outer)
+  pub leads : (outer : Bool) → limited (drop at ts) (entered outer) ≡ limited (drop next ts)
+      (resulted_state void outer)
 
 abbrev pub FailsResult : List PureToken → ℕ → Fault → Type 0
-FailsResult ts at f = (outer : Bool) → Enters outer (drop at ts) → Tells ts f (limited (drop at ts) (entered outer))
+FailsResult ts at f = (outer : Bool) → BeginsItem outer (drop at ts) →
+    Tells ts f (limited (drop at ts) (entered outer))
 
 pub record ReadsTitle (ts : List PureToken) (at : ℕ) (n : Identifier) (next : ℕ) : Type 0 where
   pub later : at < next
   pub within : next ≤ length ts
-  pub leads : (void outer : Bool) → limited (drop at ts) (resulted_state void outer) ≡ limited (drop next ts) (Titled (new_head outer void n))
+  pub leads : (void outer : Bool) → limited (drop at ts) (resulted_state void outer)
+      ≡ limited (drop next ts) (Titled (new_head outer void n))
 
 abbrev pub FailsTitle : List PureToken → ℕ → Fault → Type 0
-FailsTitle ts at f = (void outer : Bool) → Tells ts f (limited (drop at ts) (resulted_state void outer))
+FailsTitle ts at f = (void outer : Bool) →
+    Tells ts f (limited (drop at ts) (resulted_state void outer))
 
 -- a parameter with or without a name
 abbrev pub after_parameter : Head → Option Identifier → Head
 after_parameter h None = without_name h
 after_parameter h (Some n) = with_parameter h n
 
-pub record ReadsParameter (ts : List PureToken) (at : ℕ) (n : Option Identifier) (next : ℕ) : Type 0 where
+pub record ReadsParameter (ts : List PureToken) (at : ℕ) (n : Option Identifier) (next : ℕ) : Type
+    0 where
   pub later : at < next
   pub within : next ≤ length ts
-  pub leads : (h : Head) → limited (drop at ts) (NextParameter h) ≡ limited (drop next ts) (ParameterNamed (after_parameter h n))
+  pub leads : (h : Head) → limited (drop at ts) (NextParameter h) ≡ limited (drop next ts)
+      (ParameterNamed (after_parameter h n))
 
 abbrev pub FailsParameter : List PureToken → ℕ → Fault → Type 0
 FailsParameter ts at f = (h : Head) → Tells ts f (limited (drop at ts) (NextParameter h))
 
 -- a head with these parameters
 abbrev pub headed : Head → List Identifier → Bool → Head
-headed h ns whole = record { outer = h.outer; void = h.void; named = h.named; params = ns; whole = whole }
+headed h ns whole = record {
+  outer = h.outer;
+  void = h.void;
+  named = h.named;
+  params = ns;
+  whole = whole;
+}
 
-pub record ReadsRow (ts : List PureToken) (at : ℕ) (ns : List Identifier) (whole : Bool) (next : ℕ) : Type 0 where
+pub record ReadsRow (ts : List PureToken) (at : ℕ) (ns : List Identifier) (whole : Bool)
+    (next : ℕ) :
+    Type 0 where
   pub later : at < next
   pub within : next ≤ length ts
-  pub leads : (h : Head) → limited (drop at ts) (NextParameter (headed h [] true)) ≡ limited (drop next ts) (Closed (headed h ns whole))
+  pub leads : (h : Head) → limited (drop at ts) (NextParameter (headed h [] true))
+      ≡ limited (drop next ts) (Closed (headed h ns whole))
 
 abbrev pub FailsRow : List PureToken → ℕ → Fault → Type 0
 FailsRow ts at f = (h : Head) → Tells ts f (limited (drop at ts) (NextParameter (headed h [] true)))
 
-pub record ReadsParameters (ts : List PureToken) (at : ℕ) (ns : List Identifier) (whole : Bool) (next : ℕ) : Type 0 where
+pub record ReadsParameters (ts : List PureToken) (at : ℕ) (ns : List Identifier) (whole : Bool)
+    (next : ℕ) : Type 0 where
   pub later : at < next
   pub within : next ≤ length ts
-  pub leads : (h : Head) → limited (drop at ts) (Opened (headed h [] true)) ≡ limited (drop next ts) (Closed (headed h ns whole))
+  pub leads : (h : Head) → limited (drop at ts) (Opened (headed h [] true)) ≡ limited (drop next ts)
+      (Closed (headed h ns whole))
 
 abbrev pub FailsParameters : List PureToken → ℕ → Fault → Type 0
 FailsParameters ts at f = (h : Head) → Tells ts f (limited (drop at ts) (Opened (headed h [] true)))
@@ -86,14 +103,16 @@ pub record ReadsHead (ts : List PureToken) (at : ℕ) (h : Head) (next : ℕ) : 
   pub leads : limited (drop at ts) (entered h.outer) ≡ limited (drop next ts) (Closed h)
 
 abbrev pub FailsHead : List PureToken → ℕ → Bool → Fault → Type 0
-FailsHead ts at outer f = Enters outer (drop at ts) → Tells ts f (limited (drop at ts) (entered outer))
+FailsHead ts at outer f = BeginsItem outer (drop at ts) →
+    Tells ts f (limited (drop at ts) (entered outer))
 
 -- an item without its place past the limit, and with it
 pub record ReadsFileItem (ts : List PureToken) (at : ℕ) (i : FileItem) (next : ℕ) : Type 0 where
   pub later : at < next
   pub within : next ≤ length ts
   pub bare : FileItem
-  pub leads : limited (drop at ts) Begin ≡ with_item bare (drop next ts) (limited (drop next ts) Begin)
+  pub leads : limited (drop at ts) Begin ≡ with_item bare (drop next ts)
+      (limited (drop next ts) Begin)
   pub whole : i ≡ with_past (past_place (take (next - at) (drop at ts))) bare
 
 abbrev pub FailsFileItem : List PureToken → ℕ → Fault → Type 0
@@ -101,24 +120,36 @@ FailsFileItem ts at f = Tells ts f (limited (drop at ts) Begin)
 
 -- what contracts see of a beginning in the code
 abbrev pub head_of : the_head.Head → Head
-head_of h = record { outer = h.outer; void = h.void; named = identifier_of h.named; params = map identifier_of h.parameters.names.items; whole = h.parameters.whole }
+head_of h = record {
+  outer = h.outer;
+  void = h.void;
+  named = identifier_of h.named;
+  params = map identifier_of h.parameters.names.items;
+  whole = h.parameters.whole;
+}
 
--- behind a procedure's opening brace, and behind an item's closing parenthesis, where the item began at a place
-pub record ReadsProcedure (ts : List PureToken) (start at : ℕ) (h : Head) (i : FileItem) (next : ℕ) : Type 0 where
+-- behind a procedure's opening brace, and behind an item's closing parenthesis, where the item
+-- began at a place
+pub record ReadsProcedure (ts : List PureToken) (start at : ℕ) (h : Head) (i : FileItem)
+    (next : ℕ) :
+    Type 0 where
   pub later : at < next
   pub within : next ≤ length ts
   pub bare : FileItem
-  pub leads : limited (drop at ts) (Start (Outermost h no_statements)) ≡ with_item bare (drop next ts) (limited (drop next ts) Begin)
+  pub leads : limited (drop at ts) (Start (Outermost h no_statements)) ≡ with_item bare
+      (drop next ts) (limited (drop next ts) Begin)
   pub whole : i ≡ with_past (past_place (take (next - start) (drop start ts))) bare
 
 abbrev pub FailsProcedure : List PureToken → ℕ → Head → Fault → Type 0
 FailsProcedure ts at h f = Tells ts f (limited (drop at ts) (Start (Outermost h no_statements)))
 
-pub record ReadsClosed (ts : List PureToken) (start at : ℕ) (h : Head) (i : FileItem) (next : ℕ) : Type 0 where
+pub record ReadsClosed (ts : List PureToken) (start at : ℕ) (h : Head) (i : FileItem) (next : ℕ) :
+    Type 0 where
   pub later : at < next
   pub within : next ≤ length ts
   pub bare : FileItem
-  pub leads : limited (drop at ts) (Closed h) ≡ with_item bare (drop next ts) (limited (drop next ts) Begin)
+  pub leads : limited (drop at ts) (Closed h) ≡ with_item bare (drop next ts)
+      (limited (drop next ts) Begin)
   pub whole : i ≡ with_past (past_place (take (next - start) (drop start ts))) bare
 
 abbrev pub FailsClosed : List PureToken → ℕ → Head → Fault → Type 0
@@ -132,7 +163,8 @@ with_items (q ∷ qs) o = with_item q.0 q.1 (with_items qs o)
 pub record IsFront (ts : List PureToken) (next : ℕ) (is : List FileItem) : Type 0 where
   pub pieces : List (FileItem × List PureToken)
   pub leads : limited ts Begin ≡ with_items pieces (limited (drop next ts) Begin)
-  pub filed_as : (others : List (FileItem × List PureToken)) → filed ts (pieces ++ others) ≡ is ++ filed (drop next ts) others
+  pub filed_as : (others : List (FileItem × List PureToken)) → filed ts (pieces ++ others) ≡ is
+      ++ filed (drop next ts) others
 
 -- each procedure without a place past the limit becomes few nodes
 abbrev pub IsSmallItem : FileItem → Type 0

@@ -1,9 +1,9 @@
--- A reader of tokens, one after another: what it waits for, what it makes, and which tokens are too deep.
-use Rattle.std.specs.Prelude.{◌≡◌, ℕ, ◌+◌, ◌-◌, ◌<◌, ◌≤◌, nat_le, List, [], ◌∷◌, ◌++◌, length, take, Bool, true, false, ◌&&◌, if◌then◌else◌, not, Option, Some, None, ℤ}
+-- A reader of tokens, one after another: what it waits for, what it makes, and which tokens are too
+-- deep.
+use Rattle.std.specs.Prelude.{◌≡◌, ℕ, ◌+◌, ◌-◌, ◌<◌, ◌≤◌, nat_le, List, [], ◌∷◌, ◌++◌, length, take, Bool, true, false, ◌&&◌, if◌then◌else◌, not, Option, Some, None}
 use Rattle.c_tree.specs.declared.tree.Pos.{Pos}
 use Rattle.c_tree.specs.declared.tree.Op.{Op}
 use Rattle.c_tree.specs.declared.tree.Op.TheVariants as op
-use Rattle.c_lexer.specs.declared.token.Keyword.{Keyword}
 use Rattle.c_lexer.specs.declared.token.Keyword.TheVariants as keyword
 use Rattle.c_lexer.specs.declared.token.Punct.{Punct}
 use Rattle.c_lexer.specs.declared.token.Punct.TheVariants as punct
@@ -11,8 +11,8 @@ use Rattle.c_lexer.specs.declared.token.TokenKind.{TokenKind}
 use Rattle.c_lexer.specs.declared.token.TokenKind.TheVariants as kind
 use Rattle.c_lexer.specs.Pure.{PureToken}
 use Rattle.c_tree.specs.SourceTree as tree
-use Rattle.c_tree.specs.SourceTree.{Identifier, ExpressionTree, ExpressionTrees, no_arguments, argument, SimpleStatement, Declarator, ForInit, no_init, declaring, starting, StatementTree, StatementTrees, no_statements, statement, ProcedureTree, FileItem}
-use Rattle.c_parser.specs.Grammar.{Prefix, prefixed, level, is_counted, max_operators, is_nested, past_place, max_nesting}
+use Rattle.c_tree.specs.SourceTree.{Identifier, ExpressionTree, ExpressionTrees, no_arguments, argument, SimpleStatement, Declarator, ForInit, no_init, declaring, starting, StatementTree, StatementTrees, no_statements, statement, FileItem}
+use Rattle.c_parser.specs.Grammar.{Prefix, prefixed, level, is_counted, max_operators, is_nested, past_place}
 use Rattle.c_parser.specs.Grammar as grammar
 
 -- What was begun and is not whole
@@ -221,10 +221,23 @@ abbrev pub new_head : Bool → Bool → Identifier → Head
 new_head outer void n = record { outer = outer; void = void; named = n; params = []; whole = true }
 
 abbrev pub with_parameter : Head → Identifier → Head
-with_parameter h n = record { outer = h.outer; void = h.void; named = h.named; params = h.params ++ n ∷ []; whole = h.whole }
+with_parameter h n = record {
+  outer = h.outer;
+  void = h.void;
+  named = h.named;
+  params = h.params
+      ++ n ∷ [];
+  whole = h.whole;
+}
 
 abbrev pub without_name : Head → Head
-without_name h = record { outer = h.outer; void = h.void; named = h.named; params = h.params; whole = false }
+without_name h = record {
+  outer = h.outer;
+  void = h.void;
+  named = h.named;
+  params = h.params;
+  whole = false;
+}
 
 abbrev pub resulted : Bool → TokenKind → Move
 resulted outer (kind.Word keyword.Void) = on (Voided outer)
@@ -345,7 +358,8 @@ wanted (kind.Word w) x c ps p = no
 -- after the operators of level q and above are given their right sides
 abbrev pub closed : ℕ → ExpressionTree → List Part → ExpressionTree × List Part
 closed q e [] = (e, [])
-closed q e (After o at l ∷ ps) = if nat_le q (level o) then closed q (tree.binary o at l e) ps else (e, After o at l ∷ ps)
+closed q e (After o at l ∷ ps) = if nat_le q (level o) then closed q (tree.binary o at l e) ps else
+    (e, After o at l ∷ ps)
 closed q e (Under u ∷ ps) = closed q (prefixed u e) ps
 closed q e (Inside ∷ ps) = (e, Inside ∷ ps)
 closed q e (Passing n es ∷ ps) = (e, Passing n es ∷ ps)
@@ -367,7 +381,8 @@ declared (InFor fs) ds = ForTest (declaring ds) fs
 
 -- a mark that ends a full expression
 abbrev pub end_argument : Punct → ℕ → ExpressionTree → Identifier → ExpressionTrees → Spot → Move
-end_argument punct.CloseParenthesis c e n es p = on (Simple (tree.call_statement n (also_argument es e)) p)
+end_argument punct.CloseParenthesis c e n es p = on
+    (Simple (tree.call_statement n (also_argument es e)) p)
 end_argument punct.Comma c e n es p = on (Want c [] (Arguing n (also_argument es e) p))
 end_argument _ c e n es p = no
 
@@ -393,8 +408,10 @@ finished m c e (Initialising n d ds) = end_initial m d (ds ++ declared_as n e �
 finished m c e (ForTesting f fs) = on_semicolon m (ForStep f (Some e) fs)
 finished m c e (Returning at fs) = on_semicolon m (Done (tree.return at (Some e)) fs)
 
-abbrev pub end_passing : Punct → ℕ → ExpressionTree → Identifier → ExpressionTrees → List Part → Purpose → Move
-end_passing punct.CloseParenthesis c e n es ps p = on (Have c (tree.call n (also_argument es e)) ps p)
+abbrev pub end_passing : Punct → ℕ → ExpressionTree → Identifier → ExpressionTrees → List Part →
+    Purpose → Move
+end_passing punct.CloseParenthesis c e n es ps p = on (Have c (tree.call n (also_argument es e)) ps
+    p)
 end_passing punct.Comma c e n es ps p = on (Want c (Passing n (also_argument es e) ∷ ps) p)
 end_passing _ c e n es ps p = no
 
@@ -417,16 +434,20 @@ had (kind.Mark m) at c e ps p = had_mark (binary_of m) m at (tick c (kind.Mark m
 had _ at c e ps p = no
 
 abbrev pub named : TokenKind → Pos → ℕ → Identifier → List Part → Purpose → Move
-named k at c n ps p = if is_open k then on (Called (tick c k) n ps p) else had k at c (tree.name n) ps p
+named k at c n ps p = if is_open k then on (Called (tick c k) n ps p) else had k at c (tree.name n)
+    ps p
 
 abbrev pub called : TokenKind → Identifier → ℕ → Identifier → List Part → Purpose → Move
-called k x c n ps p = if is_close k then on (Have c (tree.call n no_arguments) ps p) else wanted k x c (Passing n no_arguments ∷ ps) p
+called k x c n ps p = if is_close k then on (Have c (tree.call n no_arguments) ps p) else wanted k x
+    c (Passing n no_arguments ∷ ps) p
 
 abbrev pub call_opened : TokenKind → Identifier → ℕ → Identifier → Spot → Move
-call_opened k x c n p = if is_close k then on (Simple (tree.call_statement n no_arguments) p) else wanted k x c [] (Arguing n no_arguments p)
+call_opened k x c n p = if is_close k then on (Simple (tree.call_statement n no_arguments) p) else
+    wanted k x c [] (Arguing n no_arguments p)
 
 abbrev pub returned : TokenKind → Identifier → Pos → Frames → Move
-returned k x at fs = if is_semicolon k then on (Done (tree.return at None) fs) else wanted k x 0 [] (Returning at fs)
+returned k x at fs = if is_semicolon k then on (Done (tree.return at None) fs) else wanted k x 0 []
+    (Returning at fs)
 
 abbrev pub for_open : TokenKind → Frames → Move
 for_open (kind.Mark punct.OpenParenthesis) fs = on (ForFirst fs)
@@ -439,7 +460,8 @@ for_first (kind.Word keyword.Long) x fs = on (Typing LongRead (Declaring (InFor 
 for_first k x fs = begin_simple k x (First fs)
 
 abbrev pub for_test : TokenKind → Identifier → ForInit → Frames → Move
-for_test k x f fs = if is_semicolon k then on (ForStep f None fs) else wanted k x 0 [] (ForTesting f fs)
+for_test k x f fs = if is_semicolon k then on (ForStep f None fs) else wanted k x 0 []
+    (ForTesting f fs)
 
 abbrev pub for_step : TokenKind → Identifier → ForInit → Option ExpressionTree → Frames → Move
 for_step (kind.Mark punct.CloseParenthesis) x f t fs = on (Start (ForBody f t None fs))
@@ -465,7 +487,8 @@ ended _ s fs = no
 
 -- a procedure without its place past the limit, which its whole text tells
 abbrev pub procedure_of : Head → StatementTrees → FileItem
-procedure_of h ss = tree.procedure (record { void = h.void; named = h.named; params = h.params; body = ss; past = None })
+procedure_of h ss = tree.procedure
+    (record { void = h.void; named = h.named; params = h.params; body = ss; past = None })
 
 abbrev pub block_closed : Frames → Move
 block_closed (Outermost h ss) = done (procedure_of h ss)
@@ -613,7 +636,8 @@ is_deep _ k = false
 
 -- Whole texts
 
--- how a text ends: in items, each with the text behind it; too early; at a token that may not come; at a token that is too deep
+-- how a text ends: in items, each with the text behind it; too early; at a token that may not come;
+-- at a token that is too deep
 pub data Outcome : Type 0 where
   Parsed : List (FileItem × List PureToken) → Outcome
   Short : Outcome
@@ -660,7 +684,8 @@ limited ts s = bounded ts (trace ts s).0 (trace ts s).1
 
 abbrev pub with_past : Option Pos → FileItem → FileItem
 with_past p (tree.prototype n) = tree.prototype n
-with_past p (tree.procedure q) = tree.procedure (record { void = q.void; named = q.named; params = q.params; body = q.body; past = p })
+with_past p (tree.procedure q) = tree.procedure
+    (record { void = q.void; named = q.named; params = q.params; body = q.body; past = p })
 
 abbrev pub past_between : List PureToken → List PureToken → Option Pos
 past_between ts rest = past_place (take (length ts - length rest) ts)
