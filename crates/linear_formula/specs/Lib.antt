@@ -5,3 +5,5 @@ pub mod Order
 pub mod Exact
 pub mod Gathered
 pub mod Replaced
+pub mod Equality
+pub mod SameValues

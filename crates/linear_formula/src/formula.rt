@@ -5,6 +5,7 @@ ghost use Rattle.std.specs.BTreeMap.{get};
 ghost use Rattle.std.specs.Ordering.{nat_cmp};
 ghost use Rattle.linear_formula.specs.LinearSum.{value_of, valuation, is_term, is_within};
 ghost use Rattle.linear_formula.specs.Results.{substituted, negated, valuation_with, renamed_valuation};
+ghost use Rattle.linear_formula.specs.Equality.{same_atom, same_atoms};
 ghost use Rattle.linear_formula.specs.Formula.{Holds, HoldsAll, renamed_atoms, renamed_atoms_by, are_within, are_terms, is_renaming};
 
 use crate::assignment::Assignment;
@@ -42,6 +43,72 @@ impl Model for Atoms {
 #[derive(Debug, Drop)]
 pub struct Cube {
     pub atoms: Atoms,
+}
+
+impl PartialEq for Atom {
+    ghost use Rattle.linear_formula.specs.SameValues.{partial, atom-same};
+
+    ghost eq = { same_atom };
+
+    ghost laws = { partial (same_atom) atom-same };
+
+    fn eq(&self, other: &Atom) -> bool
+        ensures test { result ≡ same_atom self.now other.now }
+        ensures same { IsTrue result ↔ (self.now ≡ other.now) }
+    {
+        self.term == other.term
+    }
+}
+
+impl Eq for Atom {
+    ghost use Rattle.std.specs.Cmp.{decided};
+    ghost use Rattle.linear_formula.specs.SameValues.{atom-same};
+
+    ghost laws = { decided (same_atom) atom-same };
+}
+
+impl PartialEq for Atoms {
+    ghost use Rattle.linear_formula.specs.SameValues.{partial, atoms-same};
+
+    ghost eq = { same_atoms };
+
+    ghost laws = { partial (same_atoms) atoms-same };
+
+    fn eq(&self, other: &Atoms) -> bool
+        ensures test { result ≡ same_atoms self.now other.now }
+        ensures same { IsTrue result ↔ (self.now ≡ other.now) }
+    {
+        self.as_slice() == other.as_slice()
+    }
+}
+
+impl Eq for Atoms {
+    ghost use Rattle.std.specs.Cmp.{decided};
+    ghost use Rattle.linear_formula.specs.SameValues.{atoms-same};
+
+    ghost laws = { decided (same_atoms) atoms-same };
+}
+
+impl PartialEq for Cube {
+    ghost use Rattle.linear_formula.specs.SameValues.{partial, cube-same};
+
+    ghost eq = { λ c d. same_atoms c.atoms d.atoms };
+
+    ghost laws = { partial (λ c d. same_atoms c.atoms d.atoms) cube-same };
+
+    fn eq(&self, other: &Cube) -> bool
+        ensures test { result ≡ same_atoms self.now.atoms other.now.atoms }
+        ensures same { IsTrue result ↔ (self.now ≡ other.now) }
+    {
+        self.atoms == other.atoms
+    }
+}
+
+impl Eq for Cube {
+    ghost use Rattle.std.specs.Cmp.{decided};
+    ghost use Rattle.linear_formula.specs.SameValues.{cube-same};
+
+    ghost laws = { decided (λ c d. same_atoms c.atoms d.atoms) cube-same };
 }
 
 impl Atoms {

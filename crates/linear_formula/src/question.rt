@@ -1,6 +1,7 @@
 // What is asked about cubes and terms.
 
-ghost use Rattle.std.specs.Prelude.{◌≡◌, IfOk};
+ghost use Rattle.std.specs.Prelude.{◌≡◌, ◌↔◌, IfOk, IsTrue};
+ghost use Rattle.linear_formula.specs.Equality.{same_summands, same_columns};
 
 use crate::error::OutOfMemory;
 use crate::formula::Cube;
@@ -95,6 +96,50 @@ impl Columns {
     {
         Ok(Columns::from_vec(Vec::from_slice(alloc, self.as_slice())?))
     }
+}
+
+impl PartialEq for Summands {
+    ghost use Rattle.linear_formula.specs.SameValues.{partial, summands-same};
+
+    ghost eq = { same_summands };
+
+    ghost laws = { partial (same_summands) summands-same };
+
+    fn eq(&self, other: &Summands) -> bool
+        ensures test { result ≡ same_summands self.now other.now }
+        ensures same { IsTrue result ↔ (self.now ≡ other.now) }
+    {
+        self.as_slice() == other.as_slice()
+    }
+}
+
+impl Eq for Summands {
+    ghost use Rattle.std.specs.Cmp.{decided};
+    ghost use Rattle.linear_formula.specs.SameValues.{summands-same};
+
+    ghost laws = { decided (same_summands) summands-same };
+}
+
+impl PartialEq for Columns {
+    ghost use Rattle.linear_formula.specs.SameValues.{partial, columns-same};
+
+    ghost eq = { same_columns };
+
+    ghost laws = { partial (same_columns) columns-same };
+
+    fn eq(&self, other: &Columns) -> bool
+        ensures test { result ≡ same_columns self.now other.now }
+        ensures same { IsTrue result ↔ (self.now ≡ other.now) }
+    {
+        self.as_slice() == other.as_slice()
+    }
+}
+
+impl Eq for Columns {
+    ghost use Rattle.std.specs.Cmp.{decided};
+    ghost use Rattle.linear_formula.specs.SameValues.{columns-same};
+
+    ghost laws = { decided (same_columns) columns-same };
 }
 
 #[derive(Debug, Drop)]

@@ -1,9 +1,10 @@
 // Terms: sums of multiples of columns, and a constant.
 
-ghost use Rattle.std.specs.Prelude.{◌≡◌, ◌∷◌, [], ◌≤◌, ◌^◌, ◌-ℤ◌, ◌+ℤ◌, length, ℕ, ℤ, pos, unsigned_abs, unwrap_or, IfOk, OnOk, OnErr, IsErrOf, IsTrue};
+ghost use Rattle.std.specs.Prelude.{◌≡◌, ◌↔◌, ◌∷◌, [], ◌≤◌, ◌^◌, ◌-ℤ◌, ◌+ℤ◌, length, ℕ, ℤ, pos, unsigned_abs, unwrap_or, IfOk, OnOk, OnErr, IsErrOf, IsTrue};
 ghost use Rattle.std.specs.BTreeMap.{get};
 ghost use Rattle.std.specs.Ordering.{nat_cmp};
 ghost use Rattle.linear_formula.specs.LinearSum.{LinearSum, coefficient, value_of, value_of_parts, valuation, is_term, is_within};
+ghost use Rattle.linear_formula.specs.Equality.{same_parts, same_sum};
 ghost use Rattle.linear_formula.specs.Order.{InOrder, AllWithin};
 ghost use Rattle.linear_formula.specs.Results.{combination, combination_value, plus_both, renamed_by, substituted, negated, negated_parts, valuation_with};
 
@@ -89,6 +90,50 @@ impl Model for Term {
     ghost view = { λ t. record { parts = t.parts; constant = t.constant } };
 
     ghost invariant = { λ t. IsTrue (is_term (record { parts = t.parts; constant = t.constant })) };
+}
+
+impl PartialEq for Parts {
+    ghost use Rattle.linear_formula.specs.SameValues.{partial, parts-same};
+
+    ghost eq = { same_parts };
+
+    ghost laws = { partial same_parts parts-same };
+
+    fn eq(&self, other: &Parts) -> bool
+        ensures test { result ≡ same_parts self.now other.now }
+        ensures same { IsTrue result ↔ (self.now ≡ other.now) }
+    {
+        self.as_slice() == other.as_slice()
+    }
+}
+
+impl Eq for Parts {
+    ghost use Rattle.std.specs.Cmp.{decided};
+    ghost use Rattle.linear_formula.specs.SameValues.{parts-same};
+
+    ghost laws = { decided same_parts parts-same };
+}
+
+impl PartialEq for Term {
+    ghost use Rattle.linear_formula.specs.SameValues.{partial, sum-same};
+
+    ghost eq = { same_sum };
+
+    ghost laws = { partial same_sum sum-same };
+
+    fn eq(&self, other: &Term) -> bool
+        ensures test { result ≡ same_sum self.now other.now }
+        ensures same { IsTrue result ↔ (self.now ≡ other.now) }
+    {
+        self.parts == other.parts && self.constant == other.constant
+    }
+}
+
+impl Eq for Term {
+    ghost use Rattle.std.specs.Cmp.{decided};
+    ghost use Rattle.linear_formula.specs.SameValues.{sum-same};
+
+    ghost laws = { decided same_sum sum-same };
 }
 
 impl Term {
