@@ -10,7 +10,7 @@ use Rattle.linear_formula.specs.declared.formula.Atom.{Atom}
 use Rattle.linear_formula.proofs.Ring.{one-mul}
 use Rattle.linear_formula.proofs.Limits.{both, tests-from_InOrder, IsTerm-from_test}
 use Rattle.linear_formula.proofs.Values.{chosen}
-use Rattle.linear_formula.proofs.Laws.{AllInOrder}
+use Rattle.linear_formula.proofs.Combinations.{AllInOrder}
 use Rattle.infeasible_cert.specs.Right.{range_rows, with_column, with_columns, columns_of, rows_of, base_rows, row_at, summands, AreMultiples}
 use Rattle.infeasible_cert.specs.Known.{RowsInOrder}
 use Rattle.infeasible_cert.proofs.Signs.{mul_nonpos, is64-bounds}

@@ -10,7 +10,7 @@ use Rattle.linear_formula.specs.declared.formula.Atom.{Atom}
 use Rattle.linear_formula.proofs.Ring.{add-zero}
 use Rattle.linear_formula.proofs.Order.{InOrder-plus_parts, listed-plus_parts, same_parts}
 use Rattle.linear_formula.proofs.Values.{value-plus_parts, value-combination}
-use Rattle.linear_formula.proofs.Laws.{InOrder-combination}
+use Rattle.linear_formula.proofs.Combinations.{InOrder-combination}
 use Rattle.linear_formula.proofs.Limits.{IsTerm-from_test}
 use Rattle.infeasible_cert.specs.declared.certificate.Derived.{Derived}
 use Rattle.infeasible_cert.specs.Refutation.{Refutation, close, branch}

@@ -12,6 +12,6 @@ pub mod Combining
 pub mod Searching
 pub mod Evaluating
 pub mod Renamed
-pub mod Laws
+pub mod Combinations
 pub mod Replacing
 pub mod TermAtoms

@@ -107,6 +107,11 @@ IsTerm-from_test t h =
       within = Within-from_test t hs.1;
     }
 
+-- the columns of a term ascend
+pub term-ascends : (t : LinearSum) → IsTrue (is_term t) → IsTrue (is_ascending t.parts)
+term-ascends t h =
+    (both (is_ascending t.parts) (has_no_zero t.parts) (both (is_ascending t.parts && has_no_zero t.parts) (has_columns t.parts) (both (is_ascending t.parts && has_no_zero t.parts && has_columns t.parts) (is_within t) h).0).0).0
+
 pub test-from_IsTerm : (t : LinearSum) → IsTerm t → IsTrue (is_term t)
 test-from_IsTerm t k =
     let ts = tests-from_InOrder 0 t.parts k.order in

@@ -10,7 +10,7 @@ use Rattle.linear_formula.specs.LinearSum.{LinearSum, is_within, is_term}
 use Rattle.linear_formula.specs.Results.{with_part, renamed_column, renamed_parts, renamed_by, renamed_valuation}
 use Rattle.linear_formula.specs.Formula.{HoldsAll, renamed_atoms, renamed_atoms_by, are_within}
 use Rattle.linear_formula.proofs.Limits.{both, both_in, IsTerm-from_test, test-from_Within}
-use Rattle.linear_formula.proofs.Values.{value-renamed}
+use Rattle.linear_formula.proofs.Values.{value-renamed_by}
 
 -- the key that a look-up finds is the column itself
 pub key_is : (x y : ℕ) → is_eq (nat_cmp x y) ≡ (y == x)
@@ -51,13 +51,17 @@ renamed_atoms-same f g [] h = refl
 renamed_atoms-same f g (atom ∷ atoms) h =
     cons_atoms (renamed_by f atom.term) (renamed_by g atom.term) (renamed_atoms_by f atoms) (renamed_atoms_by g atoms) (term_same (renamed_parts f atom.term.parts) (renamed_parts g atom.term.parts) atom.term.constant (renamed_parts-same f g atom.term.parts h)) (renamed_atoms-same f g atoms h)
 
+-- where renamed atoms hold
+pub renamed_by-holds : (v : ℕ → ℤ) (f : ℕ → ℕ) (atoms : List Atom) → HoldsAll v (renamed_atoms_by f atoms) ↔ HoldsAll (λ x. v (f x)) atoms
+renamed_by-holds v f [] = ((λ h. h), (λ h. h))
+renamed_by-holds v f (atom ∷ atoms) =
+    let e = value-renamed_by v f atom.term in
+    let i = renamed_by-holds v f atoms in
+    ((λ h. (subst (λ z. z ≤ℤ pos 0) e h.0, i.0 h.1)), (λ h. (subst (λ z. z ≤ℤ pos 0) (sym e) h.0, i.1 h.1)))
+
 -- the law of a renamed cube
 pub renamed-holds : (v : ℕ → ℤ) (map : List (ℕ × ℕ)) (atoms : List Atom) → HoldsAll v (renamed_atoms map atoms) ↔ HoldsAll (renamed_valuation map v) atoms
-renamed-holds v map [] = ((λ h. h), (λ h. h))
-renamed-holds v map (atom ∷ atoms) =
-    let e = value-renamed v map atom.term in
-    let i = renamed-holds v map atoms in
-    ((λ h. (subst (λ z. z ≤ℤ pos 0) e h.0, i.0 h.1)), (λ h. (subst (λ z. z ≤ℤ pos 0) (sym e) h.0, i.1 h.1)))
+renamed-holds v map atoms = renamed_by-holds v (renamed_column map) atoms
 
 -- so many atoms have been renamed
 pub record Renaming (f : ℕ → ℕ) (atoms start out : List Atom) (k : ℕ) : Type 0 where

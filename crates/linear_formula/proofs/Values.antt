@@ -5,7 +5,7 @@ use Rattle.std.proofs.lemmas.Int.{ints}
 use borrow.Author.Tests.{eqb-true, ne_eqb}
 use Rattle.linear_formula.specs.Order.{InOrder}
 use Rattle.linear_formula.specs.LinearSum.{LinearSum, value_of, value_of_parts, coefficient, listed_at}
-use Rattle.linear_formula.specs.Results.{put_part, with_part, plus_parts, plus_multiple, combination, combination_value, without_part, without_column, substituted, negated, renamed_column, renamed_parts, renamed, renamed_valuation, valuation_with}
+use Rattle.linear_formula.specs.Results.{put_part, with_part, plus_parts, plus_multiple, combination, combination_value, without_part, without_column, substituted, negated, renamed_column, renamed_parts, renamed_by, renamed, renamed_valuation, valuation_with}
 use Rattle.linear_formula.proofs.Ring.{mul-add, add-mul, zero-mul, mul-step}
 
 -- a choice by two tests, case by case
@@ -75,11 +75,14 @@ value-substituted v x by t low o =
     let d = value-valuation_with v x (value_of v by) low t.parts o in
     omega (arith, ints, e, d)
 
-value-renamed_parts : (v : ℕ → ℤ) (f : ℕ → ℕ) (ps : List (ℕ × ℤ)) → value_of_parts v (renamed_parts f ps) ≡ value_of_parts (λ x. v (f x)) ps
+pub value-renamed_parts : (v : ℕ → ℤ) (f : ℕ → ℕ) (ps : List (ℕ × ℤ)) → value_of_parts v (renamed_parts f ps) ≡ value_of_parts (λ x. v (f x)) ps
 value-renamed_parts v f [] = refl
 value-renamed_parts v f (p ∷ ps) =
     value-with v (f p.0) p.1 (renamed_parts f ps) ∙ ap (λ s. (p.1 *ℤ v (f p.0)) +ℤ s) (value-renamed_parts v f ps)
 
 -- the renamed sum reads the new columns
+pub value-renamed_by : (v : ℕ → ℤ) (f : ℕ → ℕ) (t : LinearSum) → value_of v (renamed_by f t) ≡ value_of (λ x. v (f x)) t
+value-renamed_by v f t = ap (λ s. s +ℤ t.constant) (value-renamed_parts v f t.parts)
+
 pub value-renamed : (v : ℕ → ℤ) (map : List (ℕ × ℕ)) (t : LinearSum) → value_of v (renamed map t) ≡ value_of (renamed_valuation map v) t
-value-renamed v map t = ap (λ s. s +ℤ t.constant) (value-renamed_parts v (renamed_column map) t.parts)
+value-renamed v map t = value-renamed_by v (renamed_column map) t

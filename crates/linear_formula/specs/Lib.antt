@@ -7,3 +7,4 @@ pub mod Gathered
 pub mod Replaced
 pub mod Equality
 pub mod SameValues
+pub mod Laws

@@ -1,20 +1,30 @@
 // One column among parts.
 
-ghost use Rattle.std.specs.Prelude.{◌≡◌, IfOk};
-ghost use Rattle.linear_formula.specs.LinearSum.{listed_at};
+ghost use Rattle.std.specs.Prelude.{◌≡◌, IfOk, IsTrue};
+ghost use Rattle.linear_formula.specs.LinearSum.{listed_at, is_ascending};
 ghost use Rattle.linear_formula.specs.Order.{AllWithin};
 ghost use Rattle.linear_formula.specs.Results.{without_part, negated_parts};
 
 use crate::error::OutOfMemory;
 use std::alloc::Global;
 
-/// The coefficient of a column.
+/// The coefficient of a column. Halves the places that are left until it finds the column.
 pub fn coefficient_of(parts: &[(u32, i128)], column: u32) -> i128
+    requires { IsTrue (is_ascending parts.now) }
     ensures { result ≡ listed_at column parts.now }
 {
-    for (x, coefficient) in parts {
-        if column == *x {
-            return *coefficient;
+    let mut low = 0;
+    let mut high = parts.len();
+    while low < high {
+        let middle = low + (high - low) / 2;
+        let (x, coefficient) = parts[middle];
+        if x == column {
+            return coefficient;
+        }
+        if x < column {
+            low = middle + 1;
+        } else {
+            high = middle;
         }
     }
     0

@@ -4,29 +4,19 @@ ghost use Rattle.std.specs.Prelude.{◌≡◌};
 ghost use Rattle.linear_formula.specs.declared.error.LinError.TheVariants.{Memory};
 
 use std::alloc::{AllocError, AllocFailed};
-use std::error::Error;
-use std::fmt;
+use thiserror::Error;
 
 /// Memory ran out.
 pub type OutOfMemory = AllocError;
 
-#[derive(Clone, Copy, Debug, PartialEq, Eq)]
+#[derive(Clone, Copy, Debug, PartialEq, Eq, Error)]
 pub enum LinError {
     /// The exact result is beyond the limits of a term.
+    #[error("a term is too wide")]
     Wide,
+    #[error("out of memory")]
     Memory,
 }
-
-impl fmt::Display for LinError {
-    fn fmt<W: fmt::Write>(&self, f: &mut fmt::Formatter<W>) -> fmt::Result {
-        match self {
-            LinError::Wide => write!(f, "a term is too wide"),
-            LinError::Memory => write!(f, "out of memory"),
-        }
-    }
-}
-
-impl Error for LinError {}
 
 impl From<AllocError> for LinError {
     ghost from_gives = { λ _ e. e ≡ Memory };

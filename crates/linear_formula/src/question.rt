@@ -142,7 +142,7 @@ impl Eq for Columns {
     ghost laws = { decided (same_columns) columns-same };
 }
 
-#[derive(Debug, Drop)]
+#[derive(Debug, Drop, PartialEq, Eq)]
 pub enum Question {
     /// Is the cube true at some values?
     Cube(Cube),

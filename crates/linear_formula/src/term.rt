@@ -3,7 +3,7 @@
 ghost use Rattle.std.specs.Prelude.{◌≡◌, ◌↔◌, ◌∷◌, [], ◌≤◌, ◌^◌, ◌-ℤ◌, ◌+ℤ◌, length, ℕ, ℤ, pos, unsigned_abs, unwrap_or, IfOk, OnOk, OnErr, IsErrOf, IsTrue};
 ghost use Rattle.std.specs.BTreeMap.{get};
 ghost use Rattle.std.specs.Ordering.{nat_cmp};
-ghost use Rattle.linear_formula.specs.LinearSum.{LinearSum, coefficient, value_of, value_of_parts, valuation, is_term, is_within};
+ghost use Rattle.linear_formula.specs.LinearSum.{LinearSum, coefficient, value_of, value_of_parts, valuation, is_term, is_within, max_coefficient};
 ghost use Rattle.linear_formula.specs.Equality.{same_parts, same_sum};
 ghost use Rattle.linear_formula.specs.Order.{InOrder, AllWithin};
 ghost use Rattle.linear_formula.specs.Results.{combination, combination_value, plus_both, renamed_by, substituted, negated, negated_parts, valuation_with};
@@ -17,6 +17,9 @@ use crate::renaming::{NewColumns, add_renamed};
 use crate::sums::Sums;
 use std::alloc::Global;
 use std::marker::Model;
+
+/// The greatest absolute value of a coefficient.
+pub const MAX_COEFFICIENT: i128 = 1 << 40;
 
 /// The greatest number of parts of a term.
 pub const MAX_PARTS: usize = 1024;
@@ -162,7 +165,7 @@ impl Term {
     /// The coefficient of a column, 0 where the term doesn't name it.
     pub fn coefficient(&self, column: u32) -> i128
         ensures value { result ≡ coefficient column self.now }
-        ensures limit { unsigned_abs result ≤ 2 ^ 40 }
+        ensures limit { unsigned_abs result ≤ max_coefficient }
         ensures kept { IsTrue (is_term self.now) }
     {
         coefficient_of(self.parts(), column)
@@ -209,8 +212,8 @@ impl Term {
         second: i64,
         right: &Term,
     ) -> Result<Term, LinError>
-        requires first_limit { unsigned_abs first ≤ 2 ^ 40 }
-        requires second_limit { unsigned_abs second ≤ 2 ^ 40 }
+        requires first_limit { unsigned_abs first ≤ max_coefficient }
+        requires second_limit { unsigned_abs second ≤ max_coefficient }
         ensures value { IfOk result (λ t. t ≡ combination ((first, left.now) ∷ (second, right.now) ∷ []) (pos 0)) }
         ensures kept { IfOk result (λ t. IsTrue (is_term t)) }
         ensures law { IfOk result

@@ -13,7 +13,7 @@ use Rattle.linear_formula.proofs.Ring.{mul-add, mul-zero, zero-mul, mul-assoc, m
 use Rattle.linear_formula.proofs.Order.{zero_is}
 use Rattle.linear_formula.proofs.Limits.{IsTerm-from_test, test-from_IsTerm, Within-from_test}
 use Rattle.linear_formula.proofs.Values.{value-combination, value-valuation_with, listed-none}
-use Rattle.linear_formula.proofs.Laws.{InOrder-combination, coefficient-combination}
+use Rattle.linear_formula.proofs.Combinations.{InOrder-combination, coefficient-combination}
 use Rattle.infeasible_cert.proofs.Signs.{mul_nonpos}
 use Rattle.shadow_elim.specs.Division.{common_divisor}
 use Rattle.shadow_elim.specs.Elimination.{is_upper, is_lower, is_free, size_of, upper_multiple, lower_multiple, multiples, pair_sum}

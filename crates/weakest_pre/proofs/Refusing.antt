@@ -11,7 +11,7 @@ use Rattle.linear_formula.specs.Order.{InOrder, AllWithin}
 use Rattle.linear_formula.specs.Results.{combination}
 use Rattle.linear_formula.specs.Replaced.{column_sum, summands_of, replaced}
 use Rattle.linear_formula.specs.declared.formula.Atom.{Atom}
-use Rattle.linear_formula.proofs.Laws.{AllInOrder, InOrder-combination}
+use Rattle.linear_formula.proofs.Combinations.{AllInOrder, InOrder-combination}
 use Rattle.linear_formula.proofs.Limits.{both, Within, Within-from_test, test-from_Within, IsTerm-from_test}
 use Rattle.linear_formula.proofs.Order.{plus_parts-once}
 use Rattle.linear_formula.proofs.Ring.{mul-zero}

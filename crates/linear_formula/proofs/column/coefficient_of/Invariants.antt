@@ -1,6 +1,9 @@
-use Rattle.std.proofs.Common.{◌≡◌, drop}
-use Rattle.linear_formula.specs.LinearSum.{listed_at}
+use Rattle.std.proofs.Common.{◌-◌}
+use Rattle.linear_formula.proofs.Searching.{Between}
 use Rattle.linear_formula.proofs.column.coefficient_of.Given as goal
 
-abbrev pub invariant-loop-x : goal.invariant-loop-x
-invariant-loop-x l = listed_at l.column (drop l.x-index l.parts) ≡ listed_at l.column l.parts
+abbrev pub invariant-loop-low : goal.invariant-loop-low
+invariant-loop-low l = Between l.parts l.column l.low l.high
+
+abbrev pub decreases-loop-low : goal.decreases-loop-low
+decreases-loop-low l = l.high - l.low

@@ -1,12 +1,12 @@
-use Rattle.std.proofs.Common.{◌≡◌, ◌≤◌, ◌^◌, pos, to_z, of_z, arith, sym, subst, ap, ◌∙◌, refl, unsigned_abs}
+use Rattle.std.proofs.Common.{◌≡◌, ◌≤◌, ◌^◌, ℕ, ℤ, List, pos, to_z, of_z, arith, sym, subst, ap, ◌∙◌, refl, unsigned_abs}
 use Rattle.std.specs.Int.{w128}
 use Rattle.std.specs.Prelude.{IsTrue}
 use Rattle.std.proofs.lemmas.Int.{ints}
 use Rattle.std.proofs.lemmas.Result.{IfOk-weaker}
-use Rattle.linear_formula.specs.LinearSum.{LinearSum, is_within, value_of, coefficient, listed_at}
+use Rattle.linear_formula.specs.LinearSum.{LinearSum, is_within, value_of, coefficient, listed_at, is_ascending}
 use Rattle.linear_formula.specs.Order.{InOrder, AllWithin}
 use Rattle.linear_formula.specs.Results.{without_part, without_column}
-use Rattle.linear_formula.proofs.Limits.{IsTerm-from_test, AllWithin-listed}
+use Rattle.linear_formula.proofs.Limits.{IsTerm-from_test, AllWithin-listed, term-ascends}
 use Rattle.linear_formula.proofs.Order.{InOrder-without, AllWithin-without}
 use Rattle.linear_formula.proofs.Values.{value-substituted}
 use Rattle.linear_formula.proofs.Finishing.{both_same, substituted-both, substituted-absent, constant_is, cast_wide}
@@ -71,3 +71,7 @@ returns-clause-wide c = λ w h.
     let la : unsigned_abs c.coefficient_of-coefficient.result ≤ 2 ^ 40 = subst (λ z. unsigned_abs z ≤ 2 ^ 40) (sym a) (AllWithin-listed c.args.column c.args.self.now.parts k.within.coefficients) in
     let same = both_same (coefficient c.args.column c.args.self.now) (to_z w128 (of_z w128 c.coefficient_of-coefficient.result)) c.args.by.now (pos 1) (pos 1) (without_column c.args.column c.args.self.now) c.as_slice.result.now (to_z w128 (of_z w128 c.constant-constant.result)) (cast_wide c.coefficient_of-coefficient.result (omega (arith, la)) ∙ a) refl r (constant_is c.args.self.now c.constant-constant.result c.constant-constant.ensures.value c.constant-constant.ensures.kept) ∙ substituted-both c.args.column c.args.by.now c.args.self.now k in
     c.both.ensures.wide w (subst (λ (u : LinearSum). IsTrue (is_within u)) (sym same) h)
+
+pub coefficient_of-coefficient-requires : goal.coefficient_of-coefficient-requires
+coefficient_of-coefficient-requires c =
+    subst (λ (ps : List (ℕ × ℤ)). IsTrue (is_ascending ps)) (sym c.parts.ensures.value) (term-ascends c.args.self.now c.parts.ensures.kept)
