@@ -3,7 +3,7 @@ use Rattle.std.proofs.Common.{ℕ, suc, zero, ◌<◌, ◌+◌, ◌^◌, List, [
 use Rattle.std.specs.Prelude.{IsTrue, ◌≤ℤ◌}
 use Rattle.std.proofs.lemmas.Int.{ints}
 use Rattle.linear_formula.specs.LinearSum.{LinearSum, Valuation, Is64, value_of, is_term, is_ascending}
-use Rattle.linear_formula.specs.Order.{InOrder}
+use Rattle.linear_formula.specs.steps.Order.{InOrder}
 use Rattle.linear_formula.specs.Results.{combination_value}
 use Rattle.linear_formula.specs.Formula.{HoldsAll, are_terms}
 use Rattle.linear_formula.specs.declared.formula.Atom.{Atom}

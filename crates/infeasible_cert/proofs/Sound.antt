@@ -3,7 +3,7 @@ use Rattle.std.proofs.Common.{◌≡◌, ℕ, List, [], ◌∷◌, ◌++◌, ℤ
 use Rattle.std.specs.Prelude.{IsTrue, ◌≤ℤ◌}
 use Rattle.std.proofs.lemmas.Int.{ints, by_lt_z}
 use Rattle.linear_formula.specs.LinearSum.{LinearSum, Valuation, Is64, value_of, value_of_parts}
-use Rattle.linear_formula.specs.Order.{InOrder}
+use Rattle.linear_formula.specs.steps.Order.{InOrder}
 use Rattle.linear_formula.specs.Results.{combination, plus_parts}
 use Rattle.linear_formula.specs.Formula.{HoldsAll, are_terms}
 use Rattle.linear_formula.specs.declared.formula.Atom.{Atom}

@@ -1,7 +1,7 @@
 -- The rows that a step may name, and what the check reads of them.
 use Rattle.std.specs.Prelude.{◌≡◌, ℕ, List, [], ◌∷◌, ◌++◌, map, ℤ, pos, ◌+ℤ◌, ◌*ℤ◌}
 use Rattle.linear_formula.specs.LinearSum.{LinearSum, coefficient}
-use Rattle.linear_formula.specs.Order.{InOrder}
+use Rattle.linear_formula.specs.steps.Order.{InOrder}
 use Rattle.infeasible_cert.specs.declared.certificate.Derived.{Derived}
 use Rattle.infeasible_cert.specs.declared.rows.Place.{Place}
 use Rattle.infeasible_cert.specs.declared.rows.Place.TheVariants.{Column, Constant}

@@ -6,6 +6,4 @@ pub mod check;
 mod columns;
 mod rows;
 mod step;
-#[cfg(test)]
-mod tests;
 mod walk;

@@ -5,7 +5,7 @@ use Rattle.std.specs.List.{list_any}
 use Rattle.std.proofs.lemmas.Int.{ints}
 use borrow.Author.Tests.{eqb-true, ne_eqb, eq-eqb}
 use Rattle.linear_formula.specs.LinearSum.{LinearSum, Valuation, value_of, value_of_parts, valuation, listed_at, coefficient, is_zero, is_ascending_from}
-use Rattle.linear_formula.specs.Order.{InOrder}
+use Rattle.linear_formula.specs.steps.Order.{InOrder}
 use Rattle.linear_formula.specs.Results.{valuation_with}
 use Rattle.linear_formula.proofs.Ring.{mul-add, mul-comm, mul-zero, zero-mul}
 use Rattle.linear_formula.proofs.Limits.{both, both_in, le_so, so_le}

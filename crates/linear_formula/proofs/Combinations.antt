@@ -2,7 +2,7 @@
 use Rattle.std.proofs.Common.{◌≡◌, ℕ, ◌<◌, ◌^◌, List, [], ◌∷◌, ℤ, pos, ◌+ℤ◌, ◌*ℤ◌, arith, refl, ◌∙◌, ap, sym}
 use Rattle.std.proofs.lemmas.Int.{ints}
 use Rattle.linear_formula.specs.LinearSum.{LinearSum, coefficient}
-use Rattle.linear_formula.specs.Order.{InOrder}
+use Rattle.linear_formula.specs.steps.Order.{InOrder}
 use Rattle.linear_formula.specs.Results.{plus_multiple, combination, renamed_parts}
 use Rattle.linear_formula.proofs.Order.{InOrder-with, InOrder-plus_parts, listed-plus_parts, same_parts}
 use Rattle.linear_formula.proofs.Finishing.{sum_same}

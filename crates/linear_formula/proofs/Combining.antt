@@ -5,8 +5,8 @@ use Rattle.std.proofs.lemmas.List.{drop_all, get_or_default}
 use Rattle.std.specs.Prelude.{unsigned_abs}
 use Rattle.std.proofs.lemmas.Int.{ints}
 use Rattle.linear_formula.specs.declared.exact_sum.ExactSum.{ExactSum}
-use Rattle.linear_formula.specs.Exact.{exact_value, HasRoom}
-use Rattle.linear_formula.specs.Gathered.{Gathered}
+use Rattle.linear_formula.specs.steps.Exact.{exact_value, HasRoom}
+use Rattle.linear_formula.specs.steps.Gathered.{Gathered}
 use Rattle.linear_formula.specs.LinearSum.{LinearSum}
 use Rattle.linear_formula.specs.Results.{plus_parts, combination, constant_sum}
 

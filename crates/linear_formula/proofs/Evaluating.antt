@@ -6,7 +6,7 @@ use Rattle.std.proofs.lemmas.Int.{ints, unsigned_abs-mul}
 use Rattle.std.proofs.lemmas.List.{drop_all}
 use Rattle.std.proofs.Math.Nat.{mul-le-mul}
 use Rattle.linear_formula.specs.LinearSum.{value_of_parts}
-use Rattle.linear_formula.specs.Order.{AllWithin}
+use Rattle.linear_formula.specs.steps.Order.{AllWithin}
 use Rattle.linear_formula.proofs.Merging.{at, drop_at}
 use Rattle.linear_formula.proofs.Finishing.{AllWithin-at, cast_wide, fits_wide}
 

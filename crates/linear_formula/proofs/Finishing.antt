@@ -6,7 +6,7 @@ use Rattle.std.proofs.lemmas.Int.{ints, unsigned_abs-mul, fits_signed_from_abs}
 use Rattle.std.proofs.Math.Nat.{mul-le-mul}
 use Rattle.std.proofs.lemmas.List.Edits.{map_over_more}
 use Rattle.linear_formula.specs.LinearSum.{LinearSum, is_within, is_term, coefficient}
-use Rattle.linear_formula.specs.Order.{AllWithin}
+use Rattle.linear_formula.specs.steps.Order.{AllWithin}
 use Rattle.linear_formula.specs.Results.{plus_parts, plus_both, combination, negated, negated_parts, substituted, without_part, without_column}
 use Rattle.linear_formula.proofs.Fronts.{both_left}
 use Rattle.linear_formula.proofs.Limits.{IsTerm, Within-from_test, IsTerm-from_test}

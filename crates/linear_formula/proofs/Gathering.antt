@@ -2,7 +2,7 @@
 use Rattle.std.proofs.Common.{◌≡◌, ℕ, ◌<◌, ◌≤◌, ◌+◌, ◌^◌, Bool, true, false, cond, List, [], ◌∷◌, ◌++◌, ℤ, ◌+ℤ◌, ◌*ℤ◌, ◌==◌, nat_lt, Some, to_z, of_z, to_z-of_z, FitsSigned, append-nil, arith, refl, ◌∙◌, ap, sym, subst}
 use Rattle.std.specs.Prelude.{unsigned_abs, unwrap_or}
 use Rattle.std.specs.Int.{w64, w128}
-use Rattle.linear_formula.specs.Gathered.{Gathered}
+use Rattle.linear_formula.specs.steps.Gathered.{Gathered}
 use Rattle.std.specs.Ordering.{nat_cmp, is_eq, match_ordering}
 use Rattle.std.specs.declared.cmp.Ordering.TheVariants.{Less, Equal, Greater}
 use Rattle.std.specs.Map.{lookup}
@@ -10,8 +10,8 @@ use Rattle.std.specs.BTreeMap.{insert_entry, is_at}
 use Rattle.std.proofs.lemmas.Int.{ints}
 use borrow.Author.Tests.{eqb-true, ltb-true, ltb-false, eqb_apart}
 use Rattle.linear_formula.specs.declared.exact_sum.ExactSum.{ExactSum}
-use Rattle.linear_formula.specs.Exact.{exact_value, exact_parts, HasRoom, AreSums, no_sum}
-use Rattle.linear_formula.specs.Order.{InOrder, AllWithin}
+use Rattle.linear_formula.specs.steps.Exact.{exact_value, exact_parts, HasRoom, AreSums, no_sum}
+use Rattle.linear_formula.specs.steps.Order.{InOrder, AllWithin}
 use Rattle.linear_formula.specs.Results.{put_part, with_part}
 use Rattle.linear_formula.proofs.Fronts.{with_part-front, with_part-past, with_part-met}
 use Rattle.linear_formula.proofs.Order.{InOrder-put}

@@ -4,7 +4,7 @@ use Rattle.std.specs.Prelude.{unsigned_abs, IsTrue}
 use Rattle.std.proofs.lemmas.Int.{ints}
 use borrow.Author.Tests.{ltb-true, leb-true, lt-ltb, le-leb}
 use Rattle.linear_formula.specs.LinearSum.{LinearSum, is_zero, is_ascending_from, is_ascending, has_no_zero, has_columns, are_coefficients_within, is_within, is_term, listed_at}
-use Rattle.linear_formula.specs.Order.{InOrder, AllWithin}
+use Rattle.linear_formula.specs.steps.Order.{InOrder, AllWithin}
 use Rattle.linear_formula.specs.Results.{put_part}
 use Rattle.linear_formula.proofs.Order.{apart_from_zero, nonzero_test}
 use Rattle.linear_formula.proofs.Values.{chosen_of_two}

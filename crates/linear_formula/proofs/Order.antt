@@ -4,7 +4,7 @@ use Rattle.std.specs.Prelude.{if◌then◌else◌}
 use Rattle.std.proofs.lemmas.Int.{ints}
 use borrow.Author.Tests.{eqb-true, eqb_apart, ltb-true, ltb-false, eq-eqb, lt-ltb}
 use Rattle.linear_formula.specs.LinearSum.{listed_at, is_zero}
-use Rattle.linear_formula.specs.Order.{InOrder, AllWithin}
+use Rattle.linear_formula.specs.steps.Order.{InOrder, AllWithin}
 use Rattle.linear_formula.specs.Results.{put_part, with_part, plus_parts, without_part, negated_parts}
 use Rattle.linear_formula.proofs.Ring.{zero-mul, one-mul, mul-zero, zero-add}
 use Rattle.linear_formula.proofs.Values.{chosen, chosen_of_two, listed-none}

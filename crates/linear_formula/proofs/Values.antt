@@ -3,7 +3,7 @@ use Rattle.std.proofs.Common.{◌≡◌, ℕ, Bool, true, false, suc, zero, List
 use Rattle.std.specs.Prelude.{if◌then◌else◌}
 use Rattle.std.proofs.lemmas.Int.{ints}
 use borrow.Author.Tests.{eqb-true, ne_eqb}
-use Rattle.linear_formula.specs.Order.{InOrder}
+use Rattle.linear_formula.specs.steps.Order.{InOrder}
 use Rattle.linear_formula.specs.LinearSum.{LinearSum, value_of, value_of_parts, coefficient, listed_at}
 use Rattle.linear_formula.specs.Results.{put_part, with_part, plus_parts, plus_multiple, combination, combination_value, without_part, without_column, substituted, negated, renamed_column, renamed_parts, renamed_by, renamed, renamed_valuation, valuation_with}
 use Rattle.linear_formula.proofs.Ring.{mul-add, add-mul, zero-mul, mul-step}

@@ -1,10 +1,7 @@
 pub mod LinearSum
 pub mod Results
 pub mod Formula
-pub mod Order
-pub mod Exact
-pub mod Gathered
 pub mod Replaced
 pub mod Equality
-pub mod SameValues
 pub mod Laws
+pub mod steps

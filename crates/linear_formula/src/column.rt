@@ -2,7 +2,7 @@
 
 ghost use Rattle.std.specs.Prelude.{◌≡◌, IfOk, IsTrue};
 ghost use Rattle.linear_formula.specs.LinearSum.{listed_at, is_ascending};
-ghost use Rattle.linear_formula.specs.Order.{AllWithin};
+ghost use Rattle.linear_formula.specs.steps.Order.{AllWithin};
 ghost use Rattle.linear_formula.specs.Results.{without_part, negated_parts};
 
 use crate::error::OutOfMemory;

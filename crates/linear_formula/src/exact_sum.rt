@@ -1,7 +1,7 @@
 // Sums of products beyond 128 bits.
 
 ghost use Rattle.std.specs.Prelude.{◌≡◌, ◌+◌, ◌*◌, ◌^◌, ◌<◌, ◌≤◌, ℤ, pos, ◌+ℤ◌, ◌*ℤ◌, unsigned_abs, MatchOption};
-ghost use Rattle.linear_formula.specs.Exact.{exact_value, HasRoom};
+ghost use Rattle.linear_formula.specs.steps.Exact.{exact_value, HasRoom};
 
 const LIMB: i128 = 1 << 96;
 

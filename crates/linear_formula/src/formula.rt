@@ -46,7 +46,7 @@ pub struct Cube {
 }
 
 impl PartialEq for Atom {
-    ghost use Rattle.linear_formula.specs.SameValues.{partial, atom-same};
+    ghost use Rattle.linear_formula.specs.steps.SameValues.{partial, atom-same};
 
     ghost eq = { same_atom };
 
@@ -62,13 +62,13 @@ impl PartialEq for Atom {
 
 impl Eq for Atom {
     ghost use Rattle.std.specs.Cmp.{decided};
-    ghost use Rattle.linear_formula.specs.SameValues.{atom-same};
+    ghost use Rattle.linear_formula.specs.steps.SameValues.{atom-same};
 
     ghost laws = { decided (same_atom) atom-same };
 }
 
 impl PartialEq for Atoms {
-    ghost use Rattle.linear_formula.specs.SameValues.{partial, atoms-same};
+    ghost use Rattle.linear_formula.specs.steps.SameValues.{partial, atoms-same};
 
     ghost eq = { same_atoms };
 
@@ -84,13 +84,13 @@ impl PartialEq for Atoms {
 
 impl Eq for Atoms {
     ghost use Rattle.std.specs.Cmp.{decided};
-    ghost use Rattle.linear_formula.specs.SameValues.{atoms-same};
+    ghost use Rattle.linear_formula.specs.steps.SameValues.{atoms-same};
 
     ghost laws = { decided (same_atoms) atoms-same };
 }
 
 impl PartialEq for Cube {
-    ghost use Rattle.linear_formula.specs.SameValues.{partial, cube-same};
+    ghost use Rattle.linear_formula.specs.steps.SameValues.{partial, cube-same};
 
     ghost eq = { λ c d. same_atoms c.atoms d.atoms };
 
@@ -106,7 +106,7 @@ impl PartialEq for Cube {
 
 impl Eq for Cube {
     ghost use Rattle.std.specs.Cmp.{decided};
-    ghost use Rattle.linear_formula.specs.SameValues.{cube-same};
+    ghost use Rattle.linear_formula.specs.steps.SameValues.{cube-same};
 
     ghost laws = { decided (λ c d. same_atoms c.atoms d.atoms) cube-same };
 }

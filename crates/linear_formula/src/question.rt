@@ -99,7 +99,7 @@ impl Columns {
 }
 
 impl PartialEq for Summands {
-    ghost use Rattle.linear_formula.specs.SameValues.{partial, summands-same};
+    ghost use Rattle.linear_formula.specs.steps.SameValues.{partial, summands-same};
 
     ghost eq = { same_summands };
 
@@ -115,13 +115,13 @@ impl PartialEq for Summands {
 
 impl Eq for Summands {
     ghost use Rattle.std.specs.Cmp.{decided};
-    ghost use Rattle.linear_formula.specs.SameValues.{summands-same};
+    ghost use Rattle.linear_formula.specs.steps.SameValues.{summands-same};
 
     ghost laws = { decided (same_summands) summands-same };
 }
 
 impl PartialEq for Columns {
-    ghost use Rattle.linear_formula.specs.SameValues.{partial, columns-same};
+    ghost use Rattle.linear_formula.specs.steps.SameValues.{partial, columns-same};
 
     ghost eq = { same_columns };
 
@@ -137,7 +137,7 @@ impl PartialEq for Columns {
 
 impl Eq for Columns {
     ghost use Rattle.std.specs.Cmp.{decided};
-    ghost use Rattle.linear_formula.specs.SameValues.{columns-same};
+    ghost use Rattle.linear_formula.specs.steps.SameValues.{columns-same};
 
     ghost laws = { decided (same_columns) columns-same };
 }

@@ -3,7 +3,7 @@
 ghost use Rattle.std.specs.Prelude.{◌≡◌, ◌+◌, ◌≤◌, ◌^◌, ℕ, [], length, unwrap_or, IfOk, OnOk};
 ghost use Rattle.std.specs.BTreeMap.{get};
 ghost use Rattle.std.specs.Ordering.{nat_cmp};
-ghost use Rattle.linear_formula.specs.Order.{AllWithin};
+ghost use Rattle.linear_formula.specs.steps.Order.{AllWithin};
 ghost use Rattle.linear_formula.specs.Results.{renamed_column, renamed_parts};
 
 use crate::error::OutOfMemory;

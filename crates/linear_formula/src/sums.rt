@@ -3,8 +3,8 @@
 ghost use Rattle.std.specs.Prelude.{◌≡◌, ◌+◌, ◌^◌, ◌<◌, ◌≤◌, [], ◌*ℤ◌, length, unsigned_abs, unwrap_or, IfOk, OnOk, IsErrOf};
 ghost use Rattle.std.specs.BTreeMap.{get};
 ghost use Rattle.std.specs.Ordering.{nat_cmp};
-ghost use Rattle.linear_formula.specs.Exact.{no_sum};
-ghost use Rattle.linear_formula.specs.Order.{InOrder, AllWithin};
+ghost use Rattle.linear_formula.specs.steps.Exact.{no_sum};
+ghost use Rattle.linear_formula.specs.steps.Order.{InOrder, AllWithin};
 ghost use Rattle.linear_formula.specs.Results.{with_part, plus_parts};
 
 use crate::error::{LinError, OutOfMemory};
@@ -22,11 +22,11 @@ pub struct Sums {
 }
 
 impl Model for Sums {
-    ghost use Rattle.linear_formula.specs.Gathered.{Gathered};
+    ghost use Rattle.linear_formula.specs.steps.Gathered.{Gathered};
 
     ghost Value = { Gathered };
 
-    ghost use Rattle.linear_formula.specs.Exact.{AreSums, exact_parts};
+    ghost use Rattle.linear_formula.specs.steps.Exact.{AreSums, exact_parts};
 
     ghost view = { λ a. record { parts = exact_parts a.sums.entries; adds = a.adds } };
 

@@ -5,7 +5,7 @@ ghost use Rattle.std.specs.BTreeMap.{get};
 ghost use Rattle.std.specs.Ordering.{nat_cmp};
 ghost use Rattle.linear_formula.specs.LinearSum.{LinearSum, coefficient, value_of, value_of_parts, valuation, is_term, is_within, max_coefficient};
 ghost use Rattle.linear_formula.specs.Equality.{same_parts, same_sum};
-ghost use Rattle.linear_formula.specs.Order.{InOrder, AllWithin};
+ghost use Rattle.linear_formula.specs.steps.Order.{InOrder, AllWithin};
 ghost use Rattle.linear_formula.specs.Results.{combination, combination_value, plus_both, renamed_by, substituted, negated, negated_parts, valuation_with};
 
 use crate::assignment::Assignment;
@@ -96,7 +96,7 @@ impl Model for Term {
 }
 
 impl PartialEq for Parts {
-    ghost use Rattle.linear_formula.specs.SameValues.{partial, parts-same};
+    ghost use Rattle.linear_formula.specs.steps.SameValues.{partial, parts-same};
 
     ghost eq = { same_parts };
 
@@ -112,13 +112,13 @@ impl PartialEq for Parts {
 
 impl Eq for Parts {
     ghost use Rattle.std.specs.Cmp.{decided};
-    ghost use Rattle.linear_formula.specs.SameValues.{parts-same};
+    ghost use Rattle.linear_formula.specs.steps.SameValues.{parts-same};
 
     ghost laws = { decided same_parts parts-same };
 }
 
 impl PartialEq for Term {
-    ghost use Rattle.linear_formula.specs.SameValues.{partial, sum-same};
+    ghost use Rattle.linear_formula.specs.steps.SameValues.{partial, sum-same};
 
     ghost eq = { same_sum };
 
@@ -134,7 +134,7 @@ impl PartialEq for Term {
 
 impl Eq for Term {
     ghost use Rattle.std.specs.Cmp.{decided};
-    ghost use Rattle.linear_formula.specs.SameValues.{sum-same};
+    ghost use Rattle.linear_formula.specs.steps.SameValues.{sum-same};
 
     ghost laws = { decided same_sum sum-same };
 }

@@ -7,7 +7,7 @@ use Rattle.std.proofs.Math.Numerals.{add-one}
 use Rattle.std.proofs.lemmas.Int.{ints}
 use Rattle.std.proofs.lemmas.Nat.Gcd.{dvd_refl, dvd_trans, le_of_dvd}
 use Rattle.linear_formula.specs.LinearSum.{LinearSum, is_term}
-use Rattle.linear_formula.specs.Order.{InOrder, AllWithin}
+use Rattle.linear_formula.specs.steps.Order.{InOrder, AllWithin}
 use Rattle.linear_formula.proofs.Limits.{IsTerm, IsTerm-from_test, test-from_IsTerm}
 use Rattle.linear_formula.proofs.Finishing.{cast_wide}
 use Rattle.shadow_elim.specs.Division.{common_divisor, parts_divisor, divided_parts, divided, floor_quotient, ceiling_quotient}

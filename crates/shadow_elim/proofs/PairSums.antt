@@ -7,7 +7,7 @@ use Rattle.std.proofs.Math.Nat.{eq-zero_of_zero-dvd}
 use Prim.Native.Nat.{◌∣◌}
 use borrow.Author.Tests.{eqb-true}
 use Rattle.linear_formula.specs.LinearSum.{LinearSum, Valuation, value_of, value_of_parts, listed_at, coefficient, is_term, is_within}
-use Rattle.linear_formula.specs.Order.{InOrder}
+use Rattle.linear_formula.specs.steps.Order.{InOrder}
 use Rattle.linear_formula.specs.Results.{without_part, without_column, valuation_with}
 use Rattle.linear_formula.proofs.Ring.{mul-add, mul-zero, zero-mul, mul-assoc, mul-step, add-mul}
 use Rattle.linear_formula.proofs.Order.{zero_is}

@@ -4,7 +4,7 @@ use Rattle.std.specs.Prelude.{unsigned_abs, IsTrue, int_lt, if◌then◌else◌}
 use Rattle.std.specs.Int.{w64, w128}
 use Rattle.std.proofs.lemmas.Int.{ints, fits_signed_from_abs}
 use Rattle.linear_formula.specs.LinearSum.{LinearSum, is_term, coefficient}
-use Rattle.linear_formula.specs.Order.{InOrder, AllWithin}
+use Rattle.linear_formula.specs.steps.Order.{InOrder, AllWithin}
 use Rattle.linear_formula.specs.Results.{combination}
 use Rattle.linear_formula.proofs.Limits.{IsTerm-from_test}
 use Rattle.linear_formula.proofs.Merging.{cast_same}

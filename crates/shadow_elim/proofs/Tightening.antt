@@ -9,7 +9,7 @@ use borrow.Author.Differences.{up, down, neg_is}
 use Rattle.std.proofs.Math.Nat.{mul-le-mul}
 use mathlib.Core.Bool.{true≢false}
 use Rattle.linear_formula.specs.LinearSum.{LinearSum, Valuation, value_of, value_of_parts, listed_at, coefficient, is_term}
-use Rattle.linear_formula.specs.Order.{InOrder, AllWithin}
+use Rattle.linear_formula.specs.steps.Order.{InOrder, AllWithin}
 use Rattle.linear_formula.proofs.Ring.{mul-add, one-mul, mul-zero, mul-step}
 use Rattle.linear_formula.proofs.Limits.{IsTerm-from_test, test-from_IsTerm}
 use Rattle.linear_formula.proofs.Values.{chosen_of_two}

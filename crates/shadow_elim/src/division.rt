@@ -2,7 +2,7 @@
 
 ghost use Rattle.std.specs.Prelude.{◌≡◌, ◌^◌, ◌<◌, ◌≤◌, pos, IfOk, IsTrue, unsigned_abs, nat_lt};
 ghost use Rattle.linear_formula.specs.LinearSum.{is_term};
-ghost use Rattle.linear_formula.specs.Order.{AllWithin};
+ghost use Rattle.linear_formula.specs.steps.Order.{AllWithin};
 ghost use Rattle.shadow_elim.specs.Division.{common_divisor, parts_divisor, divided_parts, tightened, row_divisor, ceiling_quotient};
 
 use linear_formula::error::OutOfMemory;

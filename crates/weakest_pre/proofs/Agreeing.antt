@@ -7,7 +7,7 @@ use Rattle.std.proofs.lemmas.List.Elements.{All-head, All-tail}
 use borrow.Author.Tests.{lt-ltb}
 use Rattle.c_tree.specs.Meaning.{is_value}
 use Rattle.linear_formula.specs.LinearSum.{LinearSum, Valuation, value_of_parts, is64, listed_at, coefficient, is_term, is_within}
-use Rattle.linear_formula.specs.Order.{InOrder}
+use Rattle.linear_formula.specs.steps.Order.{InOrder}
 use Rattle.linear_formula.specs.Formula.{HoldsAll, are_terms}
 use Rattle.linear_formula.specs.Replaced.{replaced_valuation}
 use Rattle.linear_formula.specs.declared.formula.Atom.{Atom}

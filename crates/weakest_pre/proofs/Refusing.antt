@@ -7,7 +7,7 @@ use Rattle.std.proofs.lemmas.Int.{ints}
 use Rattle.std.proofs.lemmas.Result.{err_from_is_err_and}
 use Rattle.std.proofs.lemmas.List.Elements.{Contains-append_left, Contains-append_right}
 use Rattle.linear_formula.specs.LinearSum.{LinearSum, is_within, is_term}
-use Rattle.linear_formula.specs.Order.{InOrder, AllWithin}
+use Rattle.linear_formula.specs.steps.Order.{InOrder, AllWithin}
 use Rattle.linear_formula.specs.Results.{combination}
 use Rattle.linear_formula.specs.Replaced.{column_sum, summands_of, replaced}
 use Rattle.linear_formula.specs.declared.formula.Atom.{Atom}

@@ -1,4 +1,4 @@
-use Rattle.linear_formula.specs.SameValues.{sum-same, atoms-same}
+use Rattle.linear_formula.specs.steps.SameValues.{sum-same, atoms-same}
 use Rattle.linear_formula.proofs.laws.compared.Goals as goal
 
 pub returns-clause-sums : goal.returns-clause-sums

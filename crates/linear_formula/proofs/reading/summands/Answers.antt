@@ -1,6 +1,6 @@
 use Rattle.std.proofs.Common.{◌≤◌, ◌^◌, arith, sym, subst}
 use Rattle.std.specs.Prelude.{unsigned_abs}
-use Rattle.linear_formula.specs.Order.{AllWithin}
+use Rattle.linear_formula.specs.steps.Order.{AllWithin}
 use Rattle.linear_formula.proofs.Finishing.{AllWithin-at}
 use Rattle.linear_formula.proofs.Limits.{IsTerm-from_test}
 use Rattle.linear_formula.proofs.Merging.{at}

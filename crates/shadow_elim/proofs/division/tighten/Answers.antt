@@ -1,5 +1,5 @@
 use Rattle.std.proofs.Common.{arith, ap, sym, ◌∙◌, subst}
-use Rattle.linear_formula.specs.Order.{AllWithin}
+use Rattle.linear_formula.specs.steps.Order.{AllWithin}
 use Rattle.linear_formula.proofs.Limits.{IsTerm-from_test}
 use Rattle.linear_formula.proofs.Finishing.{constant_is}
 use Rattle.shadow_elim.specs.Division.{parts_divisor, divided_parts, ceiling_quotient}

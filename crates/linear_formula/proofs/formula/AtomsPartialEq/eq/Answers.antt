@@ -1,6 +1,6 @@
 use Rattle.std.proofs.Common.{rules, ◌≡◌}
 use Rattle.linear_formula.specs.Equality.{same_atoms}
-use Rattle.linear_formula.specs.SameValues.{atoms-same, says}
+use Rattle.linear_formula.specs.steps.SameValues.{atoms-same, says}
 use Rattle.linear_formula.proofs.formula.AtomsPartialEq.eq.Goals as goal
 
 pub returns-clause-same : goal.returns-clause-same

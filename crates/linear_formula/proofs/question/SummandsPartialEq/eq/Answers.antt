@@ -1,6 +1,6 @@
 use Rattle.std.proofs.Common.{rules, ◌≡◌}
 use Rattle.linear_formula.specs.Equality.{same_summands}
-use Rattle.linear_formula.specs.SameValues.{summands-same, says}
+use Rattle.linear_formula.specs.steps.SameValues.{summands-same, says}
 use Rattle.linear_formula.proofs.question.SummandsPartialEq.eq.Goals as goal
 
 pub returns-clause-same : goal.returns-clause-same

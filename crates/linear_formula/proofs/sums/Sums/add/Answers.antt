@@ -1,6 +1,6 @@
 use Rattle.std.proofs.Common.{◌+◌, ◌+ℤ◌, ◌*ℤ◌, arith, subst, sym, ap, ◌∙◌}
-use Rattle.linear_formula.specs.Exact.{HasRoom, AreSums, exact_value, exact_parts}
-use Rattle.linear_formula.specs.Gathered.{Gathered}
+use Rattle.linear_formula.specs.steps.Exact.{HasRoom, AreSums, exact_value, exact_parts}
+use Rattle.linear_formula.specs.steps.Gathered.{Gathered}
 use Rattle.linear_formula.specs.Results.{with_part}
 use Rattle.linear_formula.proofs.Gathering.{found-room, AreSums-more, AreSums-insert, exact-insert, factors_passed}
 use Rattle.linear_formula.proofs.sums.Sums.add.Goals as goal

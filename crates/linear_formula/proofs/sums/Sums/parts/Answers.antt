@@ -1,9 +1,9 @@
 use Rattle.std.proofs.Common.{◌<◌, ◌^◌, arith, subst, sym, ap, ◌∙◌, refl, unsigned_abs, to_z-of_z, FitsSigned, rules}
 use Rattle.std.specs.Int.{w128}
 use Rattle.std.proofs.lemmas.Result.{err_from_is_err_and}
-use Rattle.linear_formula.specs.Exact.{exact_parts}
-use Rattle.linear_formula.specs.Gathered.{Gathered}
-use Rattle.linear_formula.specs.Order.{InOrder}
+use Rattle.linear_formula.specs.steps.Exact.{exact_parts}
+use Rattle.linear_formula.specs.steps.Gathered.{Gathered}
+use Rattle.linear_formula.specs.steps.Order.{InOrder}
 use Rattle.linear_formula.proofs.Exits.{was_wide}
 use Rattle.linear_formula.proofs.Gathering.{InOrder-exact, listing-steps, listing-stops, listing-ends}
 use Rattle.linear_formula.proofs.sums.Sums.parts.Goals as goal

@@ -1,6 +1,6 @@
 use Rattle.std.proofs.Common.{rules, ◌≡◌}
 use Rattle.linear_formula.specs.Equality.{same_parts}
-use Rattle.linear_formula.specs.SameValues.{parts-same, says}
+use Rattle.linear_formula.specs.steps.SameValues.{parts-same, says}
 use Rattle.linear_formula.proofs.term.PartsPartialEq.eq.Goals as goal
 
 pub returns-clause-same : goal.returns-clause-same

@@ -3,7 +3,7 @@ use Rattle.std.specs.Prelude.{IsTrue}
 use Rattle.std.specs.Int.{w128}
 use Rattle.std.proofs.lemmas.Result.{err_from_is_err_and, IfOk-weaker}
 use Rattle.linear_formula.specs.LinearSum.{LinearSum, is_within}
-use Rattle.linear_formula.specs.Order.{InOrder, AllWithin}
+use Rattle.linear_formula.specs.steps.Order.{InOrder, AllWithin}
 use Rattle.linear_formula.specs.Results.{plus_both}
 use Rattle.linear_formula.proofs.Exits.{was_wide, OnErr-at}
 use Rattle.linear_formula.proofs.Fronts.{both_left}

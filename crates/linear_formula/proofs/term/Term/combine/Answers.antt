@@ -3,9 +3,9 @@ use Rattle.std.specs.Int.{w64, w128}
 use Rattle.std.specs.Prelude.{IsTrue}
 use Rattle.std.proofs.lemmas.Result.{err_from_is_err_and, IfOk-weaker}
 use Rattle.linear_formula.specs.LinearSum.{LinearSum, is_within, value_of}
-use Rattle.linear_formula.specs.Order.{AllWithin}
+use Rattle.linear_formula.specs.steps.Order.{AllWithin}
 use Rattle.linear_formula.specs.Results.{combination, plus_parts}
-use Rattle.linear_formula.specs.Exact.{exact_value}
+use Rattle.linear_formula.specs.steps.Exact.{exact_value}
 use Rattle.linear_formula.proofs.Combining.{Added, adding-steps, adding-ends, summand-is}
 use Rattle.linear_formula.proofs.Exits.{was_wide, OnErr-at}
 use Rattle.linear_formula.proofs.Finishing.{SameSum, sum_same}

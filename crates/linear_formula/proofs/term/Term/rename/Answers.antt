@@ -3,7 +3,7 @@ use Rattle.std.specs.Prelude.{unwrap_or}
 use Rattle.std.specs.BTreeMap.{get}
 use Rattle.std.specs.Ordering.{nat_cmp}
 use Rattle.std.proofs.lemmas.Result.{err_from_is_err_and}
-use Rattle.linear_formula.specs.Order.{AllWithin}
+use Rattle.linear_formula.specs.steps.Order.{AllWithin}
 use Rattle.linear_formula.specs.Results.{renamed_parts, renamed_by}
 use Rattle.linear_formula.proofs.Exits.{was_wide}
 use Rattle.linear_formula.proofs.Limits.{IsTerm-from_test, Within-from_test}

@@ -4,7 +4,7 @@ use Rattle.std.specs.Prelude.{IsTrue}
 use Rattle.std.proofs.lemmas.Int.{ints}
 use Rattle.std.proofs.lemmas.Result.{IfOk-weaker}
 use Rattle.linear_formula.specs.LinearSum.{LinearSum, is_within, value_of, coefficient, listed_at, is_ascending}
-use Rattle.linear_formula.specs.Order.{InOrder, AllWithin}
+use Rattle.linear_formula.specs.steps.Order.{InOrder, AllWithin}
 use Rattle.linear_formula.specs.Results.{without_part, without_column}
 use Rattle.linear_formula.proofs.Limits.{IsTerm-from_test, AllWithin-listed, term-ascends}
 use Rattle.linear_formula.proofs.Order.{InOrder-without, AllWithin-without}

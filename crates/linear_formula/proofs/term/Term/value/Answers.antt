@@ -1,5 +1,5 @@
 use Rattle.std.proofs.Common.{sym, subst}
-use Rattle.linear_formula.specs.Order.{AllWithin}
+use Rattle.linear_formula.specs.steps.Order.{AllWithin}
 use Rattle.linear_formula.proofs.Limits.{IsTerm-from_test}
 use Rattle.linear_formula.proofs.term.Term.value.Goals as goal
 

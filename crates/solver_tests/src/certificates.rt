@@ -3,8 +3,8 @@
 ghost use Rattle.std.specs.Prelude.{◌∷◌, [], IsTrue};
 ghost use Rattle.linear_formula.specs.LinearSum.{is_term};
 
-use crate::certificate::{Certificate, Derived, Multiples};
-use crate::check::refutes;
+use infeasible_cert::certificate::{Certificate, Derived, Multiples};
+use infeasible_cert::check::refutes;
 use linear_formula::error::LinError;
 use linear_formula::formula::{Atom, Atoms, Cube};
 use linear_formula::term::{Parts, Term};

@@ -1,0 +1,4 @@
+pub mod Exact
+pub mod Gathered
+pub mod Order
+pub mod SameValues
