@@ -23,3 +23,5 @@ pub mod Splitting
 pub mod Assembling
 pub mod Bests
 pub mod PlanValues
+pub mod Summing
+pub mod Projecting

@@ -114,7 +114,7 @@ elimination-eliminates y (x ∷ xs) rows left h k (inr m) =
     let f = elimination-first x xs rows left h in
     elimination-eliminates y xs f.next left f.others (after-terms x rows f.next (after-is x rows f.next f.column) k) m
 
-absent-atoms : (y : ℕ) (atoms : List Atom) → IsAbsent y (rows_of atoms) → All (λ a. coefficient y a.term ≡ pos 0) atoms
+pub absent-atoms : (y : ℕ) (atoms : List Atom) → IsAbsent y (rows_of atoms) → All (λ a. coefficient y a.term ≡ pos 0) atoms
 absent-atoms y [] n = All-nil (λ a. coefficient y a.term ≡ pos 0)
 absent-atoms y (a ∷ atoms) n =
     All-cons (λ b. coefficient y b.term ≡ pos 0) a atoms (n a.term (inl refl)) (absent-atoms y atoms (λ t k. n t (inr k)))

@@ -12,3 +12,6 @@ pub mod RightLimit
 pub mod LimitKinds
 pub mod Questions
 pub mod Entailment
+pub mod Sums
+pub mod Projection
+pub mod ProjectionLaws

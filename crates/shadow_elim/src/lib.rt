@@ -5,10 +5,13 @@ mod column;
 mod division;
 pub mod eliminate;
 pub mod elimination;
+pub mod laws;
 pub mod limit;
 mod pairing;
+pub mod projection;
 mod reduction;
 pub mod row;
 pub mod shadow;
+pub mod sum;
 #[cfg(test)]
 mod tests;
