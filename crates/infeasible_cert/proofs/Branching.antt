@@ -7,7 +7,7 @@ use Rattle.linear_formula.specs.LinearSum.{LinearSum}
 use Rattle.infeasible_cert.specs.declared.certificate.Derived.{Derived}
 use Rattle.infeasible_cert.specs.Refutation.{Refutation, branch}
 use Rattle.infeasible_cert.specs.Right.{AreRightSteps, rows_after, IsRight, nesting, at_most, at_least}
-use Rattle.infeasible_cert.specs.Known.{terms_of, single, RowsInOrder}
+use Rattle.infeasible_cert.specs.steps.Known.{terms_of, single, RowsInOrder}
 use Rattle.infeasible_cert.specs.Terms.{AreDerivedTerms}
 use Rattle.infeasible_cert.proofs.Meeting.{order-append}
 use Rattle.infeasible_cert.proofs.Deriving.{after-is, known-order}

@@ -7,7 +7,7 @@ use Rattle.linear_formula.proofs.Limits.{IsTerm-from_test}
 use Rattle.infeasible_cert.specs.declared.certificate.Derived.{Derived}
 use Rattle.infeasible_cert.specs.Right.{AreRightSteps, IsRightStep, EndsInContradiction, rows_after}
 use Rattle.infeasible_cert.specs.Terms.{AreDerivedTerms}
-use Rattle.infeasible_cert.specs.Known.{terms_of, RowsInOrder}
+use Rattle.infeasible_cert.specs.steps.Known.{terms_of, RowsInOrder}
 use Rattle.infeasible_cert.proofs.Meeting.{order-append}
 
 pub record DerivedSoFar (rows : List LinearSum) (ds : List Derived) (k : ℕ) : Type 0 where

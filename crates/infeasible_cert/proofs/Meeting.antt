@@ -12,7 +12,7 @@ use Rattle.linear_formula.proofs.Limits.{both, tests-from_InOrder, IsTerm-from_t
 use Rattle.linear_formula.proofs.Values.{chosen}
 use Rattle.linear_formula.proofs.Combinations.{AllInOrder}
 use Rattle.infeasible_cert.specs.Right.{range_rows, with_column, with_columns, columns_of, rows_of, base_rows, row_at, summands, AreMultiples}
-use Rattle.infeasible_cert.specs.Known.{RowsInOrder}
+use Rattle.infeasible_cert.specs.steps.Known.{RowsInOrder}
 use Rattle.infeasible_cert.proofs.Signs.{mul_nonpos, is64-bounds}
 
 -- each row is met
@@ -83,10 +83,6 @@ columns-with_all low (p ∷ ps) xs o h =
 columns-of : (ts : List LinearSum) → RowsInOrder ts → AreColumns (columns_of ts)
 columns-of [] h = tt
 columns-of (t ∷ ts) h = columns-with_all 0 t.parts (columns_of ts) h.0 (columns-of ts h.1)
-
--- the columns of a term ascend
-pub term-ascends : (t : LinearSum) → IsTrue (is_term t) → IsTrue (is_ascending t.parts)
-term-ascends t h = (tests-from_InOrder 0 t.parts (IsTerm-from_test t h).order).0
 
 atoms-order : (atoms : List Atom) → IsTrue (are_terms atoms) → RowsInOrder (rows_of atoms)
 atoms-order [] h = tt

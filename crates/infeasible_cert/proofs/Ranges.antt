@@ -10,7 +10,7 @@ use Rattle.infeasible_cert.specs.Right.{upper_range, lower_range, range_rows, co
 use Rattle.infeasible_cert.specs.declared.rows.Nodes.{Nodes}
 use Rattle.infeasible_cert.specs.declared.rows.Nodes.TheVariants.{Top, Steps', Bound'}
 use Rattle.infeasible_cert.specs.declared.rows.Row.{Row}
-use Rattle.infeasible_cert.specs.Known.{rows_below, single, terms_of, sum_of}
+use Rattle.infeasible_cert.specs.steps.Known.{rows_below, single, terms_of, sum_of}
 
 pub length-ranges : (xs : List ℕ) → length (range_rows xs) ≡ 2 * length xs
 length-ranges [] = refl

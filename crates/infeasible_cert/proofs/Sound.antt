@@ -16,7 +16,7 @@ use Rattle.infeasible_cert.specs.declared.certificate.Derived.{Derived}
 use Rattle.infeasible_cert.specs.Refutation.{Refutation, close, branch}
 use Rattle.infeasible_cert.specs.Right.{summands, IsRightStep, rows_after, AreRightSteps, EndsInContradiction, IsRight, Refutes, at_most, at_least, base_rows}
 use Rattle.infeasible_cert.specs.Terms.{AreDerivedTerms, HasTerms}
-use Rattle.infeasible_cert.specs.Known.{RowsInOrder}
+use Rattle.infeasible_cert.specs.steps.Known.{RowsInOrder}
 use Rattle.infeasible_cert.proofs.Signs.{rounded_nonpos}
 use Rattle.infeasible_cert.proofs.Meeting.{AllMet, met-append, met-last, order-append, summands-met, summands-order, base-order, base-met}
 

@@ -1,5 +1,4 @@
 pub mod Refutation
 pub mod Right
 pub mod Terms
-pub mod Known
-pub mod Columns
+pub mod steps

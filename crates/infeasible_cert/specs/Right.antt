@@ -115,7 +115,11 @@ abbrev pub nesting : Refutation → ℕ
 nesting (close ds) = 0
 nesting (branch ds x at low high) = 1 + max (nesting low) (nesting high)
 
+-- how deep branches may nest
+abbrev pub max_nesting : ℕ
+max_nesting = 512
+
 -- the certificate is right for the cube
 pub record Refutes (atoms : List Atom) (c : Refutation) : Type 0 where
-  pub shallow : nesting c ≤ 512
+  pub shallow : nesting c ≤ max_nesting
   pub right : IsRight (base_rows atoms) c

@@ -49,7 +49,7 @@ pub struct Derived {
 /// `column >= at + 1` after derived rows.
 ///
 /// `copy` and the drop call themselves down to the deepest branch. On a stack of 8 MiB they were tried with branches that
-/// nest 3000 deep; `refutes` goes down 512 branches at most, however deep the certificate is.
+/// nest 3000 deep; `refutes` goes down `MAX_NESTING` branches at most, however deep the certificate is.
 #[derive(Drop)]
 pub enum Certificate {
     Close(Vec<Derived>),

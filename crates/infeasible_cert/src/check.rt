@@ -20,7 +20,7 @@ pub fn right_is_sound()
         Is64 v → HoldsAll v atoms → ⊥ }
 {}
 
-/// How deep branches may nest.
+/// How deep branches may nest: `max_nesting` of the definitions.
 const MAX_NESTING: u32 = 512;
 
 /// How many columns of a cube are listed; those behind them are looked up in the cube.

@@ -7,3 +7,5 @@ mod columns;
 mod rows;
 mod step;
 mod walk;
+
+pub use check::{refutes, right_is_sound};

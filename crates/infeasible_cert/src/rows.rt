@@ -1,9 +1,8 @@
 //! The rows that a step may name, by their numbers.
 
-ghost use Rattle.std.specs.Prelude.{◌≡◌, ◌+◌, ◌<◌, [], length, IsTrue, MatchResult, if◌then◌else◌};
-ghost use Rattle.linear_formula.specs.LinearSum.{listed_at, coefficient, is_ascending};
+ghost use Rattle.std.specs.Prelude.{◌≡◌, ◌+◌, ◌<◌, [], length, MatchResult, if◌then◌else◌};
 ghost use Rattle.infeasible_cert.specs.Right.{base_rows, row_at, upper_range, lower_range};
-ghost use Rattle.infeasible_cert.specs.Known.{number_at, sum_of, rows_below, rows_in};
+ghost use Rattle.infeasible_cert.specs.steps.Known.{number_at, sum_of, rows_below, rows_in};
 
 use crate::certificate::Derived;
 use crate::columns::{Columns, nth_column};
@@ -50,42 +49,13 @@ pub struct Rows<'a> {
     pub nodes: &'a Nodes<'a>,
 }
 
-/// Halves the places that are left until it finds the column.
-fn listed(parts: &[(u32, i128)], column: u32) -> i128
-    requires { IsTrue (is_ascending parts.now) }
-    ensures { result ≡ listed_at column parts.now }
-{
-    let mut low = 0;
-    let mut high = parts.len();
-    while low < high {
-        let middle = low + (high - low) / 2;
-        let (x, coefficient) = parts[middle];
-        if x == column {
-            return coefficient;
-        }
-        if x < column {
-            low = middle + 1;
-        } else {
-            high = middle;
-        }
-    }
-    0
-}
-
-/// The coefficient of a column.
-pub fn coefficient_of(term: &Term, column: u32) -> i128
-    ensures { result ≡ coefficient column term.now }
-{
-    listed(term.parts(), column)
-}
-
 impl Row<'_> {
     pub fn number(&self, place: Place) -> i128
         ensures { result ≡ number_at place (sum_of self.now) }
     {
         match self {
             Row::Listed(term) => match place {
-                Place::Column(x) => coefficient_of(term, x),
+                Place::Column(x) => term.coefficient(x),
                 Place::Constant => term.constant(),
             },
             Row::Single {

@@ -4,7 +4,7 @@ ghost use Rattle.std.specs.Prelude.{◌≡◌, ◌<◌, ◌≤◌, ◌↔◌, []
 ghost use Rattle.infeasible_cert.specs.Refutation.{refutation_of};
 ghost use Rattle.infeasible_cert.specs.Right.{AreRightSteps, EndsInContradiction, IsRight, nesting};
 ghost use Rattle.infeasible_cert.specs.Terms.{AreDerivedTerms, HasTerms};
-ghost use Rattle.infeasible_cert.specs.Known.{rows_in, RowsInOrder};
+ghost use Rattle.infeasible_cert.specs.steps.Known.{rows_in, RowsInOrder};
 
 use crate::certificate::{Certificate, Derived};
 use crate::rows::{Nodes, Rows};

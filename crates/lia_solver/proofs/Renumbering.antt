@@ -7,7 +7,7 @@ use Rattle.linear_formula.specs.LinearSum.{LinearSum, coefficient}
 use Rattle.linear_formula.specs.Results.{combination}
 use Rattle.infeasible_cert.specs.declared.certificate.Derived.{Derived}
 use Rattle.infeasible_cert.specs.Right.{row_at, rows_after, summands, AreMultiples, FitsAlong, column_products, constant_products, IsRoundedUp, IsRightStep, AreRightSteps, EndsInContradiction}
-use Rattle.infeasible_cert.specs.Known.{terms_of}
+use Rattle.infeasible_cert.specs.steps.Known.{terms_of}
 use Rattle.infeasible_cert.specs.Terms.{AreDerivedTerms}
 use Rattle.infeasible_cert.proofs.Deriving.{after-is}
 use Rattle.shadow_elim.specs.Reduction.{is_contradiction}

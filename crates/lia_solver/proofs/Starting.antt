@@ -8,7 +8,7 @@ use Rattle.linear_formula.specs.steps.Order.{InOrder}
 use Rattle.linear_formula.specs.Formula.{HoldsAll, are_terms}
 use Rattle.linear_formula.specs.declared.formula.Atom.{Atom}
 use Rattle.infeasible_cert.specs.Right.{upper_range, range_rows, columns_of, rows_of, base_rows}
-use Rattle.infeasible_cert.specs.Known.{RowsInOrder}
+use Rattle.infeasible_cert.specs.steps.Known.{RowsInOrder}
 use Rattle.infeasible_cert.proofs.Ascending.{Ascends, columns-ascend}
 use Rattle.infeasible_cert.proofs.Meeting.{base-order}
 use Rattle.shadow_elim.specs.declared.elimination.Stage.{Stage}

@@ -1,5 +1,5 @@
 -- What renaming gives, and what comparisons say.
-use Rattle.std.specs.Prelude.{◌≡◌, ◌↔◌, ℕ, not, IsTrue, List}
+use Rattle.std.specs.Prelude.{◌≡◌, ◌↔◌, ℕ, IsTrue, List}
 use Rattle.linear_formula.specs.LinearSum.{LinearSum, Valuation, value_of}
 use Rattle.linear_formula.specs.Results.{renamed_by}
 use Rattle.linear_formula.specs.Formula.{HoldsAll, renamed_atoms_by}

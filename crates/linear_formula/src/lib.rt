@@ -13,3 +13,5 @@ pub mod reading;
 mod renaming;
 mod sums;
 pub mod term;
+
+pub use reading::{column_term, summands};

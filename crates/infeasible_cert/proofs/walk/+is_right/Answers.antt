@@ -1,7 +1,7 @@
 use Rattle.std.proofs.Common.{◌∙◌, FitsSigned, Fits, w32, w64, arith, rules, refl, sym, ap, subst}
 use Rattle.infeasible_cert.specs.Refutation.{refutation_of}
 use Rattle.infeasible_cert.specs.Terms.{AreDerivedTerms}
-use Rattle.infeasible_cert.specs.Known.{rows_in}
+use Rattle.infeasible_cert.specs.steps.Known.{rows_in}
 use Rattle.infeasible_cert.proofs.Branching.{below-order, node-then, node-else, not_max, minus-cast, more-cast}
 use Rattle.infeasible_cert.proofs.walk.+is_right.Goals as goal
 

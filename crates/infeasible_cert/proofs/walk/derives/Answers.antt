@@ -1,7 +1,7 @@
 use Rattle.std.proofs.Common.{◌<◌, ◌++◌, length, take, arith, refl, subst, IsTrue}
 use Rattle.linear_formula.specs.LinearSum.{is_term}
 use Rattle.infeasible_cert.specs.declared.certificate.Derived.{Derived}
-use Rattle.infeasible_cert.specs.Known.{rows_in, terms_of}
+use Rattle.infeasible_cert.specs.steps.Known.{rows_in, terms_of}
 use Rattle.infeasible_cert.specs.Right.{IsRightStep}
 use Rattle.infeasible_cert.proofs.Deriving.{known-order, derived-steps}
 use Rattle.infeasible_cert.proofs.walk.derives.Goals as goal

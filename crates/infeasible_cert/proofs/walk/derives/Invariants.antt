@@ -1,4 +1,4 @@
-use Rattle.infeasible_cert.specs.Known.{rows_in}
+use Rattle.infeasible_cert.specs.steps.Known.{rows_in}
 use Rattle.infeasible_cert.proofs.Deriving.{DerivedSoFar}
 use Rattle.infeasible_cert.proofs.walk.derives.Given as goal
 
