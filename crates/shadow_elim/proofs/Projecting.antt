@@ -1,6 +1,7 @@
 -- What a projection gives or refuses.
-use Rattle.std.proofs.Common.{◌≡◌, ◌⊎◌, inl, inr, ⊎_elim, ℕ, zero, suc, ◌+◌, ◌<◌, length, drop, get_or, List, [], ◌∷◌, ◌++◌, Bool, true, false, ◌||◌, ◌==◌, nat_lt, None, Some, Option, ℤ, pos, Less, Equal, Greater, Ordering, arith, refl, sym, subst, ap, ◌∙◌}
-use Rattle.std.specs.Prelude.{IsTrue, All, Contains, if◌then◌else◌}
+use Rattle.std.proofs.Common.{◌≡◌, ◌⊎◌, inl, inr, ⊎_elim, ℕ, zero, suc, ◌+◌, ◌<◌, length, drop, get_or, List, [], ◌∷◌, ◌++◌, Bool, true, false, ◌||◌, ◌==◌, nat_lt, None, Some, Option, Result, Ok, Err, ℤ, pos, Less, Equal, Greater, Ordering, arith, refl, sym, subst, ap, ◌∙◌}
+use Rattle.std.specs.Prelude.{IsTrue, All, Contains, IfErr, IsErrAnd, if◌then◌else◌}
+use Rattle.std.proofs.lemmas.Result.{err_from_is_err_and}
 use Rattle.std.specs.List.{list_any}
 use Rattle.std.specs.Ordering.{nat_cmp, match_ordering}
 use Rattle.std.specs.Cmp.{nat_cmp_is}
@@ -15,9 +16,12 @@ use Rattle.infeasible_cert.specs.Right.{columns_of, with_columns, with_column, r
 use Rattle.shadow_elim.specs.Elimination.{Remainder, remains, wide, too_many, elimination, listed_rows, first_inexact}
 use Rattle.shadow_elim.specs.RightLimit.{IsRight}
 use Rattle.shadow_elim.specs.Shadows.{KeepsAll, NamesNone, LosesNone}
-use Rattle.shadow_elim.specs.Sums.{first_wide, rows_of_sums}
-use Rattle.shadow_elim.specs.Projection.{Projected, gives, refuses, unless_wide, atoms_of, left_by, projected, then_summed, wide_rows, long_rows}
+use Rattle.shadow_elim.specs.Sums.{first_wide, rows_of_sums, IsFirstWide}
+use Rattle.shadow_elim.specs.Projection.{Projected, gives, refuses, unless_wide, summed, atoms_of, left_by, projected, then_summed, wide_rows, long_rows, IfRefused}
 use Rattle.shadow_elim.specs.ProjectionLaws.{FitsProjection, Pair, IsUnnamed}
+use Rattle.shadow_elim.specs.declared.limit.Kept.{Kept}
+use Rattle.shadow_elim.specs.declared.projection.ProjectionError.{ProjectionError}
+use Rattle.shadow_elim.specs.declared.projection.ProjectionError.TheVariants as refusal
 use Rattle.shadow_elim.specs.declared.sum.Sum.{Sum}
 use Rattle.shadow_elim.proofs.Exact.{loses-none}
 use Rattle.shadow_elim.proofs.Keeping.{keeps-all}
@@ -68,6 +72,30 @@ wide-rows-right columns atoms e = (refl, e)
 
 pub long-rows-right : (columns : List ℕ) (atoms : List Atom) → elimination columns (listed_rows atoms columns) ≡ too_many → IsRight (long_rows columns atoms)
 long-rows-right columns atoms e = (refl, e)
+
+-- ---- what the code answers
+pub summed-refuses : (sums : List Sum) (next : List Atom → Projected) (kept : Kept) → IsFirstWide sums kept → summed sums next ≡ refuses kept
+summed-refuses sums next kept w =
+    ap (λ o. unless_wide o (next (rows_of_sums sums))) w.first ∙ ap refuses (sym w.same)
+
+pub summed-gives : (sums : List Sum) (next : List Atom → Projected) (rows : List Atom) → first_wide sums ≡ None → rows ≡ rows_of_sums sums → summed sums next ≡ next rows
+summed-gives sums next rows n e =
+    ap (λ o. unless_wide o (next (rows_of_sums sums))) n ∙ ap next (sym e)
+
+limit-weaker : (P Q : Kept → Type 0) (e : ProjectionError) → ((k : Kept) → P k → Q k) → IfRefused e P → IfRefused e Q
+limit-weaker P Q (refusal.Limit kept) f h = f kept h
+limit-weaker P Q refusal.Memory f h = tt
+
+-- a limit that `?` passes on
+pub passed-on : {A : Type 0} (P Q : Kept → Type 0) (r : Result A ProjectionError) (e : ProjectionError) → IsErrAnd r (λ y. y ≡ e) → ((k : Kept) → P k → Q k) → IfRefused e P → IfErr r (λ y. IfRefused y Q)
+passed-on P Q r e i f h =
+    let p = err_from_is_err_and r i in
+    let at : r ≡ Err e = p.1 ∙ ap Err p.2 in
+    subst (λ q. IfErr q (λ y. IfRefused y Q)) (sym at) (limit-weaker P Q e f h)
+
+pub refused-weaker : {A : Type 0} (P Q : Kept → Type 0) (r : Result A ProjectionError) → ((k : Kept) → P k → Q k) → IfErr r (λ e. IfRefused e P) → IfErr r (λ e. IfRefused e Q)
+refused-weaker P Q (Ok a) f h = tt
+refused-weaker P Q (Err e) f h = limit-weaker P Q e f h
 
 -- rows that were made of the rows that an elimination left
 pub record IsMade (sums_of : List Atom → List Sum) (b : Projected) (rows : List Atom) (pair : Pair) : Type 0 where

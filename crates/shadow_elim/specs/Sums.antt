@@ -1,5 +1,5 @@
 -- Rows as sums in order, and the first sum that is too wide.
-use Rattle.std.specs.Prelude.{◌≡◌, ℕ, List, [], ◌∷◌, map, Option, None, Some, slice_index_or, ℤ, pos, negsuc, if◌then◌else◌}
+use Rattle.std.specs.Prelude.{◌≡◌, ℕ, IsTrue, List, [], ◌∷◌, map, Option, None, Some, slice_index_or, ℤ, pos, negsuc, if◌then◌else◌}
 use Rattle.linear_formula.specs.LinearSum.{LinearSum, is_within}
 use Rattle.linear_formula.specs.Results.{combination, constant_sum}
 use Rattle.linear_formula.specs.Replaced.{column_sum, summands_of}
@@ -44,6 +44,11 @@ wide_sum s = record {
   question = asks.Combine s.summands s.constant;
   limit = Wide (asks.Combine s.summands s.constant);
 }
+
+-- the sum is too wide, and the limit is its
+pub record IsWideSum (sum : Sum) (kept : Kept) : Type 0 where
+  pub same : kept ≡ wide_sum sum
+  pub wide : ¬ IsTrue (is_within (total sum))
 
 -- the limit of the first sum that is too wide
 pub record IsFirstWide (sums : List Sum) (kept : Kept) : Type 0 where

@@ -2,7 +2,8 @@
 
 ghost use Rattle.std.specs.Prelude.{◌≡◌, ◌∷◌, [], ◌++◌, None, pos, negsuc, IfOk, IfErr, OnOk, IsTrue};
 ghost use Rattle.linear_formula.specs.Formula.{are_terms};
-ghost use Rattle.shadow_elim.specs.Sums.{first_wide, rows_of_sums, row_sums, equal_sums, wide_sum, IsFirstWide};
+ghost use Rattle.linear_formula.specs.LinearSum.{is_term};
+ghost use Rattle.shadow_elim.specs.Sums.{total, first_wide, rows_of_sums, row_sums, equal_sums, wide_sum, IsFirstWide, IsWideSum};
 ghost use Rattle.shadow_elim.specs.Projection.{IfRefused};
 ghost use Rattle.shadow_elim.specs.RightLimit.{IsRight};
 
@@ -34,6 +35,23 @@ fn wide(alloc: Global, sum: &Sum) -> Result<Kept, OutOfMemory>
     })
 }
 
+/// The term of a sum, or the limit of a sum that is too wide.
+pub fn total_term(alloc: Global, sum: &Sum) -> Result<Term, ProjectionError>
+    ensures value { IfOk result (λ t. t ≡ total sum.now) }
+    ensures kept { IfOk result (λ t. IsTrue (is_term t)) }
+    ensures limit { IfErr result (λ e. IfRefused e (IsWideSum sum.now)) }
+    ensures right { IfErr result (λ e. IfRefused e IsRight) }
+{
+    match Term::combine(alloc, sum.summands.as_slice(), sum.constant) {
+        Ok(term) => Ok(term),
+        Err(LinError::Wide) => {
+            let kept = wide(alloc, sum)?;
+            Err(ProjectionError::Limit(kept))
+        }
+        Err(LinError::Memory) => Err(ProjectionError::Memory),
+    }
+}
+
 /// The rows of the sums, or the limit of the first sum that is too wide.
 pub fn total_rows(alloc: Global, sums: &[Sum]) -> Result<Cube, ProjectionError>
     ensures rows { IfOk result (λ cube. cube.atoms ≡ rows_of_sums sums.now) }
@@ -44,11 +62,8 @@ pub fn total_rows(alloc: Global, sums: &[Sum]) -> Result<Cube, ProjectionError>
 {
     let mut rows = Atoms::with_capacity(alloc, sums.len())?;
     for sum in sums {
-        match Term::combine(alloc, sum.summands.as_slice(), sum.constant) {
-            Ok(term) => rows.push(Atom { term })?,
-            Err(LinError::Wide) => return Err(ProjectionError::Limit(wide(alloc, sum)?)),
-            Err(LinError::Memory) => return Err(ProjectionError::Memory),
-        }
+        let term = total_term(alloc, sum)?;
+        rows.push(Atom { term })?;
     }
     let _ = rows.as_slice();
     Ok(Cube { atoms: rows })
