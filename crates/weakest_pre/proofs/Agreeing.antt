@@ -9,17 +9,10 @@ use Rattle.c_tree.specs.Meaning.{is_value}
 use Rattle.linear_formula.specs.LinearSum.{LinearSum, Valuation, value_of_parts, is64, listed_at, coefficient, is_term, is_within}
 use Rattle.linear_formula.specs.steps.Order.{InOrder}
 use Rattle.linear_formula.specs.Formula.{HoldsAll, are_terms}
-use Rattle.linear_formula.specs.Replaced.{replaced_valuation}
 use Rattle.linear_formula.specs.declared.formula.Atom.{Atom}
 use Rattle.linear_formula.proofs.Limits.{both, both_in, IsTerm-from_test}
-use Rattle.linear_formula.proofs.Replacing.{value-replaced}
-use Rattle.infeasible_cert.specs.Right.{rows_of}
-use Rattle.infeasible_cert.proofs.Meeting.{AllMet}
 use Rattle.infeasible_cert.proofs.Signs.{is64-bounds}
-use Rattle.shadow_elim.proofs.Keeping.{holds-met, met-holds}
-use Rattle.shadow_elim.specs.Elimination.{remains, wide}
 use Rattle.flow_graph.specs.Columns.{names_only, rows_name_only}
-use Rattle.weakest_pre.specs.Preimage.{measured, read_rows}
 
 -- ---- values
 abbrev pub least : ℤ
@@ -55,7 +48,7 @@ is64-value z h = let b = is64-bounds z h in bounds-value z b.1 b.0
 abbrev pub Agree : (ℕ → Bool) → Valuation → Valuation → Type 0
 Agree allowed v w = (x : ℕ) → IsTrue (allowed x) → v x ≡ w x
 
-parts-agree : (allowed : ℕ → Bool) (v w : Valuation) (ps : List (ℕ × ℤ)) → Agree allowed v w → IsTrue (list_all (λ p. allowed p.0) ps) → value_of_parts v ps ≡ value_of_parts w ps
+pub parts-agree : (allowed : ℕ → Bool) (v w : Valuation) (ps : List (ℕ × ℤ)) → Agree allowed v w → IsTrue (list_all (λ p. allowed p.0) ps) → value_of_parts v ps ≡ value_of_parts w ps
 parts-agree allowed v w [] a n = refl
 parts-agree allowed v w (p ∷ ps) a n =
     let ns = both (allowed p.0) (list_all (λ q. allowed q.0) ps) n in
@@ -71,16 +64,6 @@ holds-agree allowed v w (atom ∷ atoms) a n h =
 pub agree-back : (allowed : ℕ → Bool) (v w : Valuation) → Agree allowed v w → Agree allowed w v
 agree-back allowed v w a = λ x n. sym (a x n)
 
-parts-same : (v w : Valuation) (ps : List (ℕ × ℤ)) → ((x : ℕ) → v x ≡ w x) → value_of_parts v ps ≡ value_of_parts w ps
-parts-same v w [] a = refl
-parts-same v w (p ∷ ps) a =
-    ap (λ z. (p.1 *ℤ z) +ℤ value_of_parts v ps) (a p.0) ∙ ap (λ z. (p.1 *ℤ w p.0) +ℤ z) (parts-same v w ps a)
-
-pub holds-same : (v w : Valuation) (atoms : List Atom) → ((x : ℕ) → v x ≡ w x) → HoldsAll v atoms → HoldsAll w atoms
-holds-same v w [] a h = tt
-holds-same v w (atom ∷ atoms) a h =
-    (subst (λ z. (z +ℤ atom.term.constant) ≤ℤ pos 0) (parts-same v w atom.term.parts a) h.0, holds-same v w atoms a h.1)
-
 pub holds-append : (v : Valuation) (atoms others : List Atom) → HoldsAll v atoms → HoldsAll v others → HoldsAll v (atoms ++ others)
 holds-append v [] others h k = k
 holds-append v (atom ∷ atoms) others h k = (h.0, holds-append v atoms others h.1 k)
@@ -88,34 +71,6 @@ holds-append v (atom ∷ atoms) others h k = (h.0, holds-append v atoms others h
 pub holds-split : (v : Valuation) (atoms others : List Atom) → HoldsAll v (atoms ++ others) → HoldsAll v atoms × HoldsAll v others
 holds-split v [] others h = (tt, h)
 holds-split v (atom ∷ atoms) others h = let r = holds-split v atoms others h.1 in ((h.0, r.0), r.1)
-
-pub met-split : (v : Valuation) (ts us : List LinearSum) → AllMet v (ts ++ us) → AllMet v ts × AllMet v us
-met-split v [] us h = (tt, h)
-met-split v (t ∷ ts) us h = let r = met-split v ts us h.1 in ((h.0, r.0), r.1)
-
--- ---- rows read through sums
-pub read-met : (v : Valuation) (by : ℕ → LinearSum) (target : List Atom) → HoldsAll (replaced_valuation by v) target → AllMet v (read_rows by target)
-read-met v by [] h = tt
-read-met v by (atom ∷ target) h =
-    (subst (λ z. z ≤ℤ pos 0) (sym (value-replaced v by atom.term)) h.0, read-met v by target h.1)
-
-pub met-read : (v : Valuation) (by : ℕ → LinearSum) (target : List Atom) → AllMet v (read_rows by target) → HoldsAll (replaced_valuation by v) target
-met-read v by [] h = tt
-met-read v by (atom ∷ target) h =
-    (subst (λ z. z ≤ℤ pos 0) (value-replaced v by atom.term) h.0, met-read v by target h.1)
-
--- rows that were measured are those that remain
-pub measured-same : (rows left : List LinearSum) → measured rows ≡ remains left → rows ≡ left
-measured-same rows left e = by_test (list_all is_within rows) e where
-  by_test : (b : Bool) → (if b then remains rows else wide) ≡ remains left → rows ≡ left
-  by_test true d = cc
-  by_test false d = cc
-
-pub rows-hold : (v : Valuation) (rows : List LinearSum) (atoms : List Atom) → rows ≡ rows_of atoms → AllMet v rows → HoldsAll v atoms
-rows-hold v rows atoms e h = met-holds v atoms (subst (AllMet v) e h)
-
-pub rows-met : (v : Valuation) (rows : List LinearSum) (atoms : List Atom) → rows ≡ rows_of atoms → HoldsAll v atoms → AllMet v rows
-rows-met v rows atoms e h = subst (AllMet v) (sym e) (holds-met v atoms h)
 
 -- ---- rows that don't name a column
 abbrev pub other : ℕ → ℕ → Bool

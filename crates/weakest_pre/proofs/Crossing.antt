@@ -1,56 +1,52 @@
 -- The states before an edge, and those that go over it into a target.
-use Rattle.std.proofs.Common.{◌≡◌, ◌⊎◌, inl, inr, Result, Ok, Err, ℕ, ◌<◌, Bool, true, false, List, [], ◌∷◌, ◌++◌, zero, suc, cond, ◌-◌, ◌==◌, ℤ, pos, negsuc, ◌+ℤ◌, ◌*ℤ◌, nat_lt, arith, refl, ◌∙◌, sym, subst}
-use Rattle.std.specs.Prelude.{IsTrue, IfOk, slice_index_or, if◌then◌else◌}
+use Rattle.std.proofs.Common.{◌≡◌, ℕ, ◌<◌, Bool, true, false, List, [], ◌∷◌, ◌++◌, zero, suc, cond, ◌-◌, ◌==◌, ℤ, pos, negsuc, ◌+ℤ◌, ◌*ℤ◌, nat_lt, arith, refl, ◌∙◌, sym, subst}
+use Rattle.std.specs.Prelude.{IsTrue, slice_index_or, if◌then◌else◌}
 use Rattle.std.specs.List.{list_all}
 use Rattle.std.proofs.lemmas.Int.{ints}
 use Rattle.c_tree.specs.Meaning.{State, with_slot, entered, is_value}
 use Rattle.linear_formula.specs.LinearSum.{LinearSum, Valuation, Is64, is64, value_of}
 use Rattle.linear_formula.specs.Formula.{HoldsAll, are_terms}
 use Rattle.linear_formula.specs.Replaced.{column_sum, replaced_valuation}
+use Rattle.linear_formula.specs.Results.{combination}
 use Rattle.linear_formula.specs.declared.formula.Atom.{Atom}
 use Rattle.linear_formula.specs.declared.formula.Cube.{Cube}
 use Rattle.linear_formula.proofs.Limits.{both}
 use Rattle.linear_formula.proofs.Values.{value-combination}
-use Rattle.infeasible_cert.specs.Right.{rows_of}
-use Rattle.infeasible_cert.proofs.Meeting.{AllMet, met-append}
-use Rattle.shadow_elim.specs.Elimination.{remains}
 use Rattle.shadow_elim.specs.Shadows.{KeepsAll, NamesNone, LosesNone}
+use Rattle.shadow_elim.specs.Sums.{total, rows_of_sums, row_sums}
+use Rattle.shadow_elim.proofs.Summing.{sums-hold, hold-sums, holds-same, sums-append, sums-split}
 use Rattle.flow_graph.specs.declared.graph.Lin.{Lin}
 use Rattle.flow_graph.specs.declared.graph.Edge.{Edge}
 use Rattle.flow_graph.specs.declared.graph.Edge.TheVariants.{Entry, Assign, Guard, Input, Pick, Assert, Return}
 use Rattle.flow_graph.specs.Runs.{inside, left, failing, lin_value}
 use Rattle.flow_graph.specs.WellFormed.{max_slots, names_slots}
 use Rattle.flow_graph.specs.Columns.{first_entry, first_exit, first_symbol, columns_of, valuation_of, is_slot_column, is_value_column, AreValues, AreAllValues, value_at}
-use Rattle.weakest_pre.specs.Preimage.{entry_reading, one_reading, value_sum, upper_row, lower_row, measured, read_rows, assigned_rows}
-use Rattle.weakest_pre.specs.Predecessors.{FitsEdge, Lies, HoldsPredecessors, HoldsNoOther}
-use Rattle.weakest_pre.proofs.Agreeing.{value-bounds, bounds-value, value-is64, is64-value, holds-agree, agree-back, holds-same, holds-append, holds-split, met-split, read-met, met-read, measured-same, rows-hold, rows-met, rows-absent, other}
+use Rattle.flow_graph.specs.Readings.{entry_reading, one_reading}
+use Rattle.flow_graph.specs.Regions.{FitsEdge, LiesIn}
+use Rattle.weakest_pre.specs.Preimage.{lin_sum, range_sums, assigned_sums}
+use Rattle.weakest_pre.specs.Predecessors.{HoldsPredecessors, HoldsNoOther}
+use Rattle.weakest_pre.proofs.Agreeing.{value-bounds, bounds-value, value-is64, is64-value, holds-agree, agree-back, holds-append, holds-split, rows-absent, other}
 use Rattle.weakest_pre.proofs.Places.{slots-agree, entry-reads, one-reads, behind-agrees, changed, value-assigned, return-reads}
 
-pub ok-from_three : {A E : Type 0} (P Q R S : A → Type 0) (r : Result A E) → ((x : A) → P x → Q x → R x → S x) → IfOk r P → IfOk r Q → IfOk r R → IfOk r S
-ok-from_three P Q R S (Ok x) f p q t = f x p q t
-ok-from_three P Q R S (Err e) f p q t = tt
-
 -- ---- rows that are read
-read-holds : (v : Valuation) (by : ℕ → LinearSum) (target atoms : List Atom) → measured (read_rows by target) ≡ remains (rows_of atoms) → HoldsAll (replaced_valuation by v) target → HoldsAll v atoms
-read-holds v by target atoms e h =
-    rows-hold v (read_rows by target) atoms (measured-same (read_rows by target) (rows_of atoms) e) (read-met v by target h)
+read-holds : (v : Valuation) (by : ℕ → LinearSum) (target atoms : List Atom) → atoms ≡ rows_of_sums (row_sums by target) → HoldsAll (replaced_valuation by v) target → HoldsAll v atoms
+read-holds v by target atoms e h = subst (HoldsAll v) (sym e) (sums-hold v by target h)
 
-holds-read : (v : Valuation) (by : ℕ → LinearSum) (target atoms : List Atom) → measured (read_rows by target) ≡ remains (rows_of atoms) → HoldsAll v atoms → HoldsAll (replaced_valuation by v) target
-holds-read v by target atoms e h =
-    met-read v by target (rows-met v (read_rows by target) atoms (measured-same (read_rows by target) (rows_of atoms) e) h)
+holds-read : (v : Valuation) (by : ℕ → LinearSum) (target atoms : List Atom) → atoms ≡ rows_of_sums (row_sums by target) → HoldsAll v atoms → HoldsAll (replaced_valuation by v) target
+holds-read v by target atoms e h = hold-sums v by target (subst (HoldsAll v) e h)
 
 -- ---- the entry
-module _ (to params : ℕ) (target atoms : List Atom) (e : measured (read_rows (entry_reading params) target) ≡ remains (rows_of atoms)) where
+module _ (to params : ℕ) (target atoms : List Atom) (e : atoms ≡ rows_of_sums (row_sums (entry_reading params) target)) where
   pub entry-holds : HoldsPredecessors (Entry to params) target atoms
   entry-holds = λ f s entry vs es g.
-      (g.0, read-holds (valuation_of entry []) (entry_reading params) target atoms e (holds-same (columns_of (entered entry) entry []) (replaced_valuation (entry_reading params) (valuation_of entry [])) target (λ x. sym (entry-reads params entry x g.0)) g.1))
+      (g.0, read-holds (valuation_of entry []) (entry_reading params) target atoms e (holds-same (columns_of (entered entry) entry []) (replaced_valuation (entry_reading params) (valuation_of entry [])) target (λ x. sym (entry-reads params entry x g.0)) g.1.1))
 
   pub entry-exact : HoldsNoOther (Entry to params) target atoms
   entry-exact = λ f s entry vs es g.
-      (g.0, holds-same (replaced_valuation (entry_reading params) (valuation_of entry [])) (columns_of (entered entry) entry []) target (λ x. entry-reads params entry x g.0) (holds-read (valuation_of entry []) (entry_reading params) target atoms e g.1))
+      (g.0, (tt, holds-same (replaced_valuation (entry_reading params) (valuation_of entry [])) (columns_of (entered entry) entry []) target (λ x. entry-reads params entry x g.0) (holds-read (valuation_of entry []) (entry_reading params) target atoms e g.1)))
 
 -- ---- the exit
-module _ (from to slot : ℕ) (target atoms : List Atom) (e : measured (read_rows (one_reading first_exit (column_sum slot)) target) ≡ remains (rows_of atoms)) where
+module _ (from to slot : ℕ) (target atoms : List Atom) (e : atoms ≡ rows_of_sums (row_sums (one_reading first_exit (column_sum slot)) target)) where
   abbrev by : ℕ → LinearSum
   by = one_reading first_exit (column_sum slot)
 
@@ -58,14 +54,14 @@ module _ (from to slot : ℕ) (target atoms : List Atom) (e : measured (read_row
   return-holds = λ f s entry vs es g.
       let v = columns_of s entry [] in
       let w = valuation_of entry (s slot ∷ []) in
-      let lies : HoldsAll w target = subst (Lies entry target) g.3.0 g.4 in
+      let lies : HoldsAll w target = (subst (LiesIn entry target) g.3.0 g.4).1 in
       read-holds v by target atoms e (holds-agree (is_value_column first_entry first_entry) w (replaced_valuation by v) target (agree-back (is_value_column first_entry first_entry) (replaced_valuation by v) w (return-reads s entry slot f.slots)) f.columns lies)
 
   pub return-exact : HoldsNoOther (Return from to slot) target atoms
   return-exact = λ f s entry vs es g.
       let v = columns_of s entry [] in
       let w = valuation_of entry (s slot ∷ []) in
-      ([], [], left (s slot ∷ []), (refl, refl), holds-agree (is_value_column first_entry first_entry) (replaced_valuation by v) w target (return-reads s entry slot f.slots) f.columns (holds-read v by target atoms e g))
+      ([], [], left (s slot ∷ []), (refl, refl), (tt, holds-agree (is_value_column first_entry first_entry) (replaced_valuation by v) w target (return-reads s entry slot f.slots) f.columns (holds-read v by target atoms e g)))
 
 -- ---- rows of a guard
 abbrev NamesSlots : List Atom → Type 0
@@ -89,78 +85,64 @@ module _ (from to id : ℕ) (rows : Cube) (target atoms : List Atom) (e : atoms 
       (r.0, rows-before s entry rows.atoms n r.1)
 
   pub guard-holds : HoldsPredecessors (Guard from to rows) target atoms
-  guard-holds = λ f s entry vs es g. both-hold s entry f.slots (subst (Lies entry target) g.3.1 g.4) g.3.0
+  guard-holds = λ f s entry vs es g. both-hold s entry f.slots (subst (LiesIn entry target) g.3.1 g.4).1 g.3.0
 
   pub guard-exact : HoldsNoOther (Guard from to rows) target atoms
   guard-exact = λ f s entry vs es g.
       let r = both-held s entry f.slots g in
-      ([], [], inside to s, (r.1, refl, refl), r.0)
+      ([], [], inside to s, (r.1, refl, refl), (tt, r.0))
 
   pub assert-holds : HoldsPredecessors (Assert from to id rows) target atoms
-  assert-holds = λ f s entry vs es g. both-hold s entry f.slots (subst (Lies entry target) g.3.1 g.4) g.3.0
+  assert-holds = λ f s entry vs es g. both-hold s entry f.slots (subst (LiesIn entry target) g.3.1 g.4).1 g.3.0
 
   pub assert-exact : HoldsNoOther (Assert from to id rows) target atoms
   assert-exact = λ f s entry vs es g.
       let r = both-held s entry f.slots g in
-      ([], [], failing id s, (r.1, refl, refl), r.0)
-
--- the edge is a guard or an assertion with these rows
-abbrev AddsRows : Edge → Cube → Type 0
-AddsRows edge rows =
-    ((from : ℕ) × (to : ℕ) × (edge ≡ Guard from to rows)) ⊎ ((from : ℕ) × (to : ℕ) × (id : ℕ) × (edge ≡ Assert from to id rows))
-
-pub added-holds : (edge : Edge) (rows : Cube) (target atoms : List Atom) → atoms ≡ target ++ rows.atoms → AddsRows edge rows → HoldsPredecessors edge target atoms
-added-holds edge rows target atoms e (inl g) =
-    subst (λ d. HoldsPredecessors d target atoms) (sym g.2) (guard-holds g.0 g.1 0 rows target atoms e)
-added-holds edge rows target atoms e (inr g) =
-    subst (λ d. HoldsPredecessors d target atoms) (sym g.3) (assert-holds g.0 g.1 g.2 rows target atoms e)
-
-pub added-exact : (edge : Edge) (rows : Cube) (target atoms : List Atom) → atoms ≡ target ++ rows.atoms → AddsRows edge rows → HoldsNoOther edge target atoms
-added-exact edge rows target atoms e (inl g) =
-    subst (λ d. HoldsNoOther d target atoms) (sym g.2) (guard-exact g.0 g.1 0 rows target atoms e)
-added-exact edge rows target atoms e (inr g) =
-    subst (λ d. HoldsNoOther d target atoms) (sym g.3) (assert-exact g.0 g.1 g.2 rows target atoms e)
+      ([], [], failing id s, (r.1, refl, refl), (tt, r.0))
 
 -- ---- an assignment
 abbrev NamesSlotsOnly : Lin → Type 0
 NamesSlotsOnly value = IsTrue (list_all (λ p. nat_lt p.1 max_slots) value.parts)
 
-upper-value : (v : Valuation) (t : LinearSum) → value_of v (upper_row t) ≡ value_of v t +ℤ negsuc 9223372036854775806
+abbrev upper_sum : LinearSum → LinearSum
+upper_sum t = combination ((pos 1, t) ∷ []) (negsuc 9223372036854775806)
+
+abbrev lower_sum : LinearSum → LinearSum
+lower_sum t = combination ((negsuc 0, t) ∷ []) (negsuc 9223372036854775807)
+
+upper-value : (v : Valuation) (t : LinearSum) → value_of v (upper_sum t) ≡ value_of v t +ℤ negsuc 9223372036854775806
 upper-value v t = value-combination v ((pos 1, t) ∷ []) (negsuc 9223372036854775806) ∙ omega (arith, ints)
 
-lower-value : (v : Valuation) (t : LinearSum) → value_of v (lower_row t) ≡ (negsuc 0 *ℤ value_of v t) +ℤ negsuc 9223372036854775807
+lower-value : (v : Valuation) (t : LinearSum) → value_of v (lower_sum t) ≡ (negsuc 0 *ℤ value_of v t) +ℤ negsuc 9223372036854775807
 lower-value v t = value-combination v ((negsuc 0, t) ∷ []) (negsuc 9223372036854775807)
 
-range-met : (v : Valuation) (t : LinearSum) → IsTrue (is_value (value_of v t)) → AllMet v (upper_row t ∷ lower_row t ∷ [])
-range-met v t h =
+range-holds : (v : Valuation) (t : LinearSum) → IsTrue (is_value (value_of v t)) → HoldsAll v (rows_of_sums (range_sums t))
+range-holds v t h =
     let b = value-bounds (value_of v t) h in
     (omega (arith, ints, upper-value v t, b.1), (omega (arith, ints, lower-value v t, b.0), tt))
 
-met-range : (v : Valuation) (t : LinearSum) → AllMet v (upper_row t ∷ lower_row t ∷ []) → IsTrue (is_value (value_of v t))
-met-range v t h =
+holds-range : (v : Valuation) (t : LinearSum) → HoldsAll v (rows_of_sums (range_sums t)) → IsTrue (is_value (value_of v t))
+holds-range v t h =
     let high = h.0 in let low = h.1.0 in
     bounds-value (value_of v t) (omega (arith, ints, lower-value v t, low)) (omega (arith, ints, upper-value v t, high))
 
-module _ (from to slot : ℕ) (value : Lin) (target atoms : List Atom) (e : measured (assigned_rows slot (value_sum value) target) ≡ remains (rows_of atoms)) where
+module _ (from to slot : ℕ) (value : Lin) (target atoms : List Atom) (e : atoms ≡ rows_of_sums (assigned_sums slot (total (lin_sum value)) target)) where
   abbrev sum : LinearSum
-  sum = value_sum value
-
-  abbrev all_rows : List LinearSum
-  all_rows = assigned_rows slot sum target
+  sum = total (lin_sum value)
 
   assigned : (s : State) (entry : List ℤ) → FitsEdge (Assign from to slot value) target → value_of (columns_of s entry []) sum ≡ lin_value s value
-  assigned s entry f =
-      value-assigned s entry value (both _ _ (both _ _ f.slots).1).1
+  assigned s entry f = value-assigned s entry value (both _ _ (both _ _ f.slots).1).1
 
   pub assign-holds : HoldsPredecessors (Assign from to slot value) target atoms
   assign-holds = λ f s entry vs es g.
       let v = columns_of s entry [] in
       let z = lin_value s value in
       let is : value_of v sum ≡ z = assigned s entry f in
-      let lies : HoldsAll (columns_of (with_slot s slot z) entry []) target = subst (Lies entry target) g.3.1 g.4 in
+      let lies : HoldsAll (columns_of (with_slot s slot z) entry []) target = (subst (LiesIn entry target) g.3.1 g.4).1 in
       let small : nat_lt slot first_entry ≡ true = (both _ _ f.slots).0 in
       let in_range : IsTrue (is_value (value_of v sum)) = subst (λ y. IsTrue (is_value y)) (sym is) g.3.0 in
-      rows-hold v all_rows atoms (measured-same all_rows (rows_of atoms) e) (met-append v (read_rows (one_reading slot sum) target) (upper_row sum ∷ lower_row sum ∷ []) (read-met v (one_reading slot sum) target (holds-same (columns_of (with_slot s slot z) entry []) (replaced_valuation (one_reading slot sum) v) target (λ x. sym (one-reads s entry slot z small sum is x)) lies)) (range-met v sum in_range))
+      let rows = sums-hold v (one_reading slot sum) target (holds-same (columns_of (with_slot s slot z) entry []) (replaced_valuation (one_reading slot sum) v) target (λ x. sym (one-reads s entry slot z small sum is x)) lies) in
+      subst (HoldsAll v) (sym e) (sums-append v (row_sums (one_reading slot sum) target) (range_sums sum) rows (range-holds v sum in_range))
 
   pub assign-exact : HoldsNoOther (Assign from to slot value) target atoms
   assign-exact = λ f s entry vs es g.
@@ -168,9 +150,9 @@ module _ (from to slot : ℕ) (value : Lin) (target atoms : List Atom) (e : meas
       let z = lin_value s value in
       let is : value_of v sum ≡ z = assigned s entry f in
       let small : nat_lt slot first_entry ≡ true = (both _ _ f.slots).0 in
-      let met = met-split v (read_rows (one_reading slot sum) target) (upper_row sum ∷ lower_row sum ∷ []) (rows-met v all_rows atoms (measured-same all_rows (rows_of atoms) e) g) in
-      let lies = holds-same (replaced_valuation (one_reading slot sum) v) (columns_of (with_slot s slot z) entry []) target (λ x. one-reads s entry slot z small sum is x) (met-read v (one_reading slot sum) target met.0) in
-      ([], [], inside to (with_slot s slot z), (subst (λ y. IsTrue (is_value y)) is (met-range v sum met.1), refl, refl), lies)
+      let met = sums-split v (row_sums (one_reading slot sum) target) (range_sums sum) (subst (HoldsAll v) e g) in
+      let lies = holds-same (replaced_valuation (one_reading slot sum) v) (columns_of (with_slot s slot z) entry []) target (λ x. one-reads s entry slot z small sum is x) (hold-sums v (one_reading slot sum) target met.0) in
+      ([], [], inside to (with_slot s slot z), (subst (λ y. IsTrue (is_value y)) is (holds-range v sum met.1), refl, refl), (tt, lies))
 
 -- ---- a slot that gets some value
 columns-values : (s : State) (entry : List ℤ) → AreValues s → AreAllValues entry → Is64 (columns_of s entry [])
@@ -212,12 +194,12 @@ module _ (slot : ℕ) (cube atoms : List Atom) where
 module _ (from to slot : ℕ) (target atoms : List Atom) where
   pub input-holds : IsTrue (are_terms atoms) → KeepsAll target atoms → NamesNone (slot ∷ []) atoms → HoldsPredecessors (Input from to slot) target atoms
   input-holds terms keeps free = λ f s entry vs es g.
-      forgotten slot target atoms terms keeps free s entry g.3.0 vs es f.slots g.3.1 (subst (Lies entry target) g.3.3 g.4)
+      forgotten slot target atoms terms keeps free s entry g.3.0 vs es f.slots g.3.1 (subst (LiesIn entry target) g.3.3 g.4).1
 
   pub input-exact : LosesNone (slot ∷ []) target atoms → HoldsNoOther (Input from to slot) target atoms
   input-exact loses = λ f s entry vs es g.
       let r = found slot target atoms loses s entry vs es f.slots g in
-      (r.0 ∷ [], [], inside to (with_slot s slot r.0), (r.0, r.1, refl, refl), r.2)
+      (r.0 ∷ [], [], inside to (with_slot s slot r.0), (r.0, r.1, refl, refl), (tt, r.2))
 
 module _ (from to slot : ℕ) (rows : Cube) (target cube atoms : List Atom) (e : cube ≡ target ++ rows.atoms) where
   pub pick-holds : IsTrue (are_terms atoms) → KeepsAll cube atoms → NamesNone (slot ∷ []) atoms → HoldsPredecessors (Pick from to slot rows) target atoms
@@ -225,7 +207,7 @@ module _ (from to slot : ℕ) (rows : Cube) (target cube atoms : List Atom) (e :
       let fs = both (nat_lt slot max_slots) (list_all (names_slots max_slots) rows.atoms) f.slots in
       let z = g.3.0 in
       let w = columns_of (with_slot s slot z) entry [] in
-      let lies : HoldsAll w target = subst (Lies entry target) g.3.3 g.4 in
+      let lies : HoldsAll w target = (subst (LiesIn entry target) g.3.3 g.4).1 in
       let all = holds-append w target rows.atoms lies (rows-behind (with_slot s slot z) entry rows.atoms fs.1 g.3.2) in
       forgotten slot cube atoms terms keeps free s entry z vs es fs.0 g.3.1 (subst (HoldsAll w) (sym e) all)
 
@@ -235,4 +217,4 @@ module _ (from to slot : ℕ) (rows : Cube) (target cube atoms : List Atom) (e :
       let r = found slot cube atoms loses s entry vs es fs.0 g in
       let w = columns_of (with_slot s slot r.0) entry [] in
       let all = holds-split w target rows.atoms (subst (HoldsAll w) e r.2) in
-      ([], [], inside to (with_slot s slot r.0), (r.0, r.1, rows-before (with_slot s slot r.0) entry rows.atoms fs.1 all.1, refl, refl), all.0)
+      ([], [], inside to (with_slot s slot r.0), (r.0, r.1, rows-before (with_slot s slot r.0) entry rows.atoms fs.1 all.1, refl, refl), (tt, all.0))

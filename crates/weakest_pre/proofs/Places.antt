@@ -1,5 +1,5 @@
 -- The columns before an edge, read at the sums in the places of those behind it.
-use Rattle.std.proofs.Common.{◌≡◌, ◌⊎◌, inl, inr, cond, ℕ, ◌<◌, ◌≤◌, ◌+◌, ◌-◌, Bool, true, false, List, [], ◌∷◌, length, ℤ, pos, ◌+ℤ◌, ◌*ℤ◌, ◌==◌, nat_lt, nat_le, ◌||◌, arith, refl, ◌∙◌, ap, sym}
+use Rattle.std.proofs.Common.{◌≡◌, ◌⊎◌, inl, inr, cond, ℕ, ◌<◌, ◌≤◌, ◌+◌, ◌-◌, Bool, true, false, List, [], ◌∷◌, length, map, ℤ, pos, ◌+ℤ◌, ◌*ℤ◌, ◌==◌, nat_lt, nat_le, ◌||◌, arith, refl, ◌∙◌, ap, sym}
 use Rattle.std.specs.Prelude.{IsTrue, if◌then◌else◌}
 use Rattle.std.specs.List.{list_all}
 use Rattle.std.proofs.lemmas.Int.{ints}
@@ -15,9 +15,10 @@ use Rattle.linear_formula.proofs.Values.{value-combination}
 use Rattle.flow_graph.specs.declared.graph.Lin.{Lin}
 use Rattle.flow_graph.specs.Columns.{first_entry, first_exit, first_symbol, value_at, columns_of, no_slots, valuation_of, is_among, is_value_column, is_slot_column}
 use Rattle.flow_graph.specs.Runs.{value_of_slots, lin_value}
-use Rattle.weakest_pre.specs.Preimage.{entry_reading, one_reading, value_sum}
+use Rattle.flow_graph.specs.Readings.{entry_reading, one_reading}
+use Rattle.shadow_elim.specs.Sums.{total}
+use Rattle.weakest_pre.specs.Preimage.{lin_sum}
 use Rattle.weakest_pre.proofs.Agreeing.{Agree, other}
-use Rattle.weakest_pre.proofs.Refusing.{multiples_of}
 
 -- ---- slots
 pub slot-at : (s : State) (entry exit : List ℤ) (x : ℕ) → nat_lt x first_entry ≡ true → columns_of s entry exit x ≡ s x
@@ -87,6 +88,9 @@ module _ (s : State) (entry : List ℤ) (slot : ℕ) (z : ℤ) (small : nat_lt s
     by_test false d = a x (eqb_apart x slot d) ∙ sym (behind-other x d)
 
 -- ---- the value of an assignment
+abbrev multiples_of : List (ℤ × ℕ) → List (ℤ × LinearSum)
+multiples_of parts = map (λ p. (p.0, column_sum p.1)) parts
+
 multiples-value : (s : State) (v : Valuation) (parts : List (ℤ × ℕ)) (c : ℤ) → Agree is_slot_column s v → IsTrue (list_all (λ p. nat_lt p.1 first_entry) parts) → combination_value v (multiples_of parts) c ≡ value_of_slots s parts +ℤ c
 multiples-value s v [] c a n = omega (arith, ints)
 multiples-value s v (p ∷ parts) c a n =
@@ -94,7 +98,7 @@ multiples-value s v (p ∷ parts) c a n =
     let d : value_of v (column_sum p.1) ≡ s p.1 = value-column v p.1 ∙ sym (a p.1 ns.0) in
     ap (λ y. (p.0 *ℤ y) +ℤ combination_value v (multiples_of parts) c) d ∙ ap (λ y. (p.0 *ℤ s p.1) +ℤ y) (multiples-value s v parts c a ns.1) ∙ omega (arith, ints)
 
-pub value-assigned : (s : State) (entry : List ℤ) (value : Lin) → IsTrue (list_all (λ p. nat_lt p.1 first_entry) value.parts) → value_of (columns_of s entry []) (value_sum value) ≡ lin_value s value
+pub value-assigned : (s : State) (entry : List ℤ) (value : Lin) → IsTrue (list_all (λ p. nat_lt p.1 first_entry) value.parts) → value_of (columns_of s entry []) (total (lin_sum value)) ≡ lin_value s value
 value-assigned s entry value n =
     value-combination (columns_of s entry []) (multiples_of value.parts) value.constant ∙ multiples-value s (columns_of s entry []) value.parts value.constant (slots-agree s entry) n
 

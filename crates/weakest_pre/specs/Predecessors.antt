@@ -1,49 +1,41 @@
--- The states that go over an edge into a cube.
-use Rattle.std.specs.Prelude.{◌≡◌, ℕ, Bool, ◌||◌, IsTrue, List, [], length, ℤ}
-use Rattle.c_tree.specs.Meaning.{State, entered}
-use Rattle.linear_formula.specs.Formula.{HoldsAll}
+-- What the preimage promises of the states that go over an edge into a region.
+use Rattle.std.specs.Prelude.{◌≡◌, ℕ, false, IsTrue, List, ◌++◌, Option, None, ℤ}
+use Rattle.c_tree.specs.Meaning.{State}
+use Rattle.linear_formula.specs.LinearSum.{LinearSum}
+use Rattle.linear_formula.specs.Formula.{are_terms}
 use Rattle.linear_formula.specs.declared.formula.Atom.{Atom}
+use Rattle.shadow_elim.specs.Projection.{gives}
 use Rattle.flow_graph.specs.declared.graph.Edge.{Edge}
-use Rattle.flow_graph.specs.declared.graph.Edge.TheVariants.{Entry, Return}
-use Rattle.flow_graph.specs.Runs.{Place, inside, left, failing, halted, Step, GraphRun}
-use Rattle.flow_graph.specs.WellFormed.{has_slots, max_slots}
-use Rattle.flow_graph.specs.Columns.{is_slot_column, is_entry_column, is_value_column, rows_name_only, columns_of, valuation_of, AreValues, AreAllValues, first_entry}
-
--- the place meets the rows; the entry values of its frame are those
-abbrev pub Lies : (entry : List ℤ) → List Atom → Place → Type 0
-Lies entry rows (inside node slots) = HoldsAll (columns_of slots entry []) rows
-Lies entry rows (left values) = HoldsAll (valuation_of entry values) rows
-Lies entry rows (failing id slots) = HoldsAll (columns_of slots entry []) rows
-Lies entry rows halted = ⊥
-
--- The columns of a region behind the edge: slots and entry values, and at the exit entry and exit values.
-abbrev pub is_region_column : Edge → ℕ → Bool
-is_region_column (Return from to slot) x = is_value_column first_entry first_entry x
-is_region_column _ x = is_slot_column x || is_entry_column first_entry x
-
--- the edge names slots, and the target is a region behind it
-pub record FitsEdge (edge : Edge) (target : List Atom) : Type 0 where
-  pub slots : IsTrue (has_slots max_slots edge)
-  pub columns : IsTrue (rows_name_only (is_region_column edge) target)
-
--- From a state of slots and entry values, over the edge, into the target. Before the entry edge there are entry values
--- alone. (An edge that is no call needs no graphs.)
-abbrev pub GoesInto : Edge → List Atom → State → (entry : List ℤ) → Type 0
-GoesInto (Entry to params) target s entry = (length entry ≡ params) × Lies entry target (inside to (entered entry))
-GoesInto edge target s entry =
-    (ins rest : List ℤ) × (b : Place) × Step (GraphRun [] 0) edge s ins b rest × Lies entry target b
-
--- the state before the edge meets the rows
-abbrev pub MeetsBefore : Edge → List Atom → State → (entry : List ℤ) → Type 0
-MeetsBefore (Entry to params) rows s entry = (length entry ≡ params) × HoldsAll (valuation_of entry []) rows
-MeetsBefore edge rows s entry = HoldsAll (columns_of s entry []) rows
+use Rattle.flow_graph.specs.declared.graph.Edge.TheVariants.{Pick}
+use Rattle.flow_graph.specs.Columns.{AreValues, AreAllValues}
+use Rattle.flow_graph.specs.Regions.{FitsEdge, GoesInto, MeetsBefore}
+use Rattle.flow_graph.specs.Shapes.{is_call}
+use Rattle.weakest_pre.specs.Preimage.{preimage}
 
 -- every state that goes over the edge into the target meets the rows
 abbrev pub HoldsPredecessors : Edge → List Atom → List Atom → Type 0
 HoldsPredecessors edge target rows =
-    FitsEdge edge target → (s : State) (entry : List ℤ) → AreValues s → AreAllValues entry → GoesInto edge target s entry → MeetsBefore edge rows s entry
+    FitsEdge edge target → (s : State) (entry : List ℤ) → AreValues s → AreAllValues entry →
+    GoesInto edge target s entry → MeetsBefore edge rows s entry
 
 -- each state that meets the rows goes over the edge into the target
 abbrev pub HoldsNoOther : Edge → List Atom → List Atom → Type 0
 HoldsNoOther edge target rows =
-    FitsEdge edge target → (s : State) (entry : List ℤ) → AreValues s → AreAllValues entry → MeetsBefore edge rows s entry → GoesInto edge target s entry
+    FitsEdge edge target → (s : State) (entry : List ℤ) → AreValues s → AreAllValues entry →
+    MeetsBefore edge rows s entry → GoesInto edge target s entry
+
+-- the atoms from which a slot is eliminated: a pick has rows of its own
+abbrev pub asked_atoms : Edge → List Atom → List Atom
+asked_atoms (Pick from to slot rows) target = target ++ rows.atoms
+asked_atoms _ target = target
+
+-- what the definition promises without a call
+abbrev pub PreimagesHold : Type 0
+PreimagesHold =
+    (edge : Edge) (target rows : List Atom) (pair : Option (ℕ × (LinearSum × LinearSum))) → is_call edge ≡ false →
+    IsTrue (are_terms (asked_atoms edge target)) → preimage edge target ≡ gives rows pair → HoldsPredecessors edge target rows
+
+abbrev pub PreimagesAreExact : Type 0
+PreimagesAreExact =
+    (edge : Edge) (target rows : List Atom) → is_call edge ≡ false →
+    IsTrue (are_terms (asked_atoms edge target)) → preimage edge target ≡ gives rows None → HoldsNoOther edge target rows

@@ -2,8 +2,8 @@
 #![tactic(auto)]
 
 pub mod error;
+pub mod laws;
 pub mod preimage;
-mod reading;
-mod rows;
-#[cfg(test)]
-mod tests;
+pub mod reading;
+
+pub use preimage::pre;

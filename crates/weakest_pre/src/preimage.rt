@@ -1,38 +1,36 @@
 //! Preimages over edges.
 
-ghost use Rattle.std.specs.Prelude.{◌≡◌, ◌∷◌, [], false, None, IfOk, IfErr, IsTrue};
+ghost use Rattle.std.specs.Prelude.{◌≡◌, ◌∷◌, ◌++◌, [], false, None, IfOk, IfErr, OnOk, IsTrue};
 ghost use Rattle.linear_formula.specs.Formula.{are_terms};
 ghost use Rattle.flow_graph.specs.Shapes.{is_call};
-ghost use Rattle.infeasible_cert.specs.Right.{rows_of};
-ghost use Rattle.shadow_elim.specs.Elimination.{remains, wide, too_many, listed_rows, first_inexact};
-ghost use Rattle.shadow_elim.specs.Shadows.{pair_rows, KeepsAll, NamesNone, LosesNone};
-ghost use Rattle.weakest_pre.specs.Preimage.{preimage, inexact_pair, measured, read_rows, assigned_rows, value_sum, without_slot};
-ghost use Rattle.weakest_pre.specs.Predecessors.{HoldsPredecessors, HoldsNoOther};
-ghost use Rattle.weakest_pre.specs.Refusals.{IsRefusal, IfLimit, ReadsRow, AssignSum, Eliminates};
-ghost use Rattle.weakest_pre.specs.Sums.{Refuses};
+ghost use Rattle.shadow_elim.specs.Projection.{gives, refuses, summed, IfRefused};
+ghost use Rattle.shadow_elim.specs.RightLimit.{IsRight};
+ghost use Rattle.shadow_elim.specs.Shadows.{pair_rows};
+ghost use Rattle.shadow_elim.specs.Sums.{IsFirstWide};
+ghost use Rattle.weakest_pre.specs.Preimage.{preimage, read_before, assigned_before, assigned_sums, lin_sum, range_sums};
+ghost use Rattle.weakest_pre.specs.Predecessors.{HoldsPredecessors, HoldsNoOther, asked_atoms};
 
 use crate::error::PreError;
 use crate::reading::{AtEntry, OneColumn};
-use crate::rows::{read_rows, row, value_term};
+use flow_graph::columns::FIRST_EXIT;
 use flow_graph::graph::{Edge, Lin};
 use linear_formula::error::OutOfMemory;
-use linear_formula::formula::{Atoms, Cube};
-use linear_formula::question::{Columns, Question};
+use linear_formula::formula::Cube;
+use linear_formula::question::Summands;
 use linear_formula::reading::{Reading, column_term};
-use shadow_elim::eliminate::eliminate;
-use shadow_elim::limit::{Kept, Limit};
-use shadow_elim::shadow::{Pre, ShadowError};
+use linear_formula::term::Term;
+use shadow_elim::projection::project;
+use shadow_elim::shadow::Pre;
+use shadow_elim::sum::{Sum, push_read, total_rows, total_term};
 use std::alloc::Global;
 
-/// The column of the first exit value.
-const FIRST_EXIT: u32 = 20_000;
-
-fn exact(atoms: Atoms) -> Pre
-    ensures rows { result.cube.atoms ≡ atoms }
+/// A cube without an inexact pair.
+fn exact(cube: Cube) -> Pre
+    ensures rows { result.cube ≡ cube }
     ensures exact { result.inexact ≡ None }
 {
     Pre {
-        cube: Cube { atoms },
+        cube,
         inexact: None,
     }
 }
@@ -40,103 +38,101 @@ fn exact(atoms: Atoms) -> Pre
 /// The target as it reads before an edge that changes no rows.
 fn read<R: Reading>(alloc: Global, reading: &R, target: &Cube) -> Result<Pre, PreError>
     ensures rows { IfOk result
-        (λ p. measured (read_rows (R.term_at reading.now) target.now.atoms) ≡ remains (rows_of p.cube.atoms)) }
-    ensures exact { IfOk result (λ p. p.inexact ≡ None) }
-    ensures limit { IfErr result (λ e. IfLimit e
-        (Refuses (ReadsRow (R.term_at reading.now) target.now.atoms) (measured (read_rows (R.term_at reading.now) target.now.atoms)))) }
+        (λ p. read_before (R.term_at reading.now) target.now.atoms ≡ gives p.cube.atoms (pair_rows p.inexact)) }
+    ensures limit { IfErr result
+        (λ e. IfRefused e (λ kept. read_before (R.term_at reading.now) target.now.atoms ≡ refuses kept)) }
+    ensures right { IfErr result (λ e. IfRefused e IsRight) }
 {
-    Ok(exact(read_rows(alloc, reading, target.atoms.as_slice())?))
+    let atoms = target.atoms.as_slice();
+    let mut sums = Vec::with_capacity(alloc, atoms.len())?;
+    push_read(alloc, &mut sums, reading, atoms)?;
+    Ok(exact(total_rows(alloc, &sums)?))
 }
 
-/// Before an assignment: the target with the value in the slot's place, and the value's range.
+/// The value of an assignment as it is asked for.
+fn value_sum(alloc: Global, value: &Lin) -> Result<Sum, OutOfMemory>
+    ensures { IfOk result (λ s. s ≡ lin_sum value.now) }
+{
+    let mut items = Vec::with_capacity(alloc, value.parts.as_slice().len())?;
+    for (coefficient, slot) in value.parts.as_slice() {
+        items.push((*coefficient, column_term(alloc, *slot)?))?;
+    }
+    Ok(Sum {
+        summands: Summands::from_vec(items),
+        constant: value.constant,
+    })
+}
+
+/// A multiple of a term and a constant.
+fn multiple(alloc: Global, multiplier: i64, term: &Term, constant: i64) -> Result<Sum, OutOfMemory>
+    ensures { IfOk result (λ s. s ≡ record { summands = (multiplier, term.now) ∷ []; constant = constant }) }
+{
+    let summands = vec![in alloc; (multiplier, term.copy(alloc)?)]?;
+    Ok(Sum {
+        summands: Summands::from_vec(summands),
+        constant,
+    })
+}
+
+/// Adds the two rows of a term's range.
+fn push_range(alloc: Global, sums: &mut Vec<Sum>, term: &Term) -> Result<(), OutOfMemory>
+    ensures { OnOk result (sums.new.items ≡ sums.old.items ++ range_sums term.now) }
+{
+    sums.push(multiple(alloc, 1, term, -i64::MAX)?)?;
+    sums.push(multiple(alloc, -1, term, i64::MIN)?)?;
+    Ok(())
+}
+
+/// Before the slot gets the reading's term: the target with the term in its place, and the term's
+/// range.
+fn with_value(alloc: Global, reading: &OneColumn, target: &Cube) -> Result<Pre, PreError>
+    ensures rows { IfOk result
+        (λ p. summed (assigned_sums reading.now.column reading.now.by target.now.atoms) (λ rows. gives rows None)
+        ≡ gives p.cube.atoms (pair_rows p.inexact)) }
+    ensures limit { IfErr result
+        (λ e. IfRefused e (IsFirstWide (assigned_sums reading.now.column reading.now.by target.now.atoms))) }
+    ensures right { IfErr result (λ e. IfRefused e IsRight) }
+{
+    let atoms = target.atoms.as_slice();
+    let mut sums = Vec::with_capacity(alloc, atoms.len() + 2)?;
+    push_read(alloc, &mut sums, reading, atoms)?;
+    push_range(alloc, &mut sums, &reading.by)?;
+    Ok(exact(total_rows(alloc, &sums)?))
+}
+
+/// Before an assignment: the value comes first, and then its rows.
 fn assigned(alloc: Global, slot: u32, value: &Lin, target: &Cube) -> Result<Pre, PreError>
     ensures rows { IfOk result
-        (λ p. measured (assigned_rows slot (value_sum value.now) target.now.atoms) ≡ remains (rows_of p.cube.atoms)) }
-    ensures exact { IfOk result (λ p. p.inexact ≡ None) }
-    ensures limit { IfErr result (λ e. IfLimit e
-        (Refuses (AssignSum slot value.now target.now.atoms) (measured (assigned_rows slot (value_sum value.now) target.now.atoms)))) }
-{
-    let by = value_term(alloc, value)?;
-    let reading = OneColumn { column: slot, by };
-    let mut atoms = read_rows(alloc, &reading, target.atoms.as_slice())?;
-    atoms.push(row(alloc, 1, &reading.by, -i64::MAX)?)?;
-    atoms.push(row(alloc, -1, &reading.by, i64::MIN)?)?;
-    Ok(exact(atoms))
-}
-
-/// The limit of an elimination whose rows are too wide.
-fn wide_elimination(alloc: Global, cube: &Cube, slot: u32) -> Result<Kept, OutOfMemory>
-    requires { without_slot slot cube.now.atoms ≡ wide }
-    ensures { IfOk result (Refuses (Eliminates slot cube.now.atoms) (without_slot slot cube.now.atoms)) }
-{
-    let columns = vec![in alloc; slot]?;
-    let question = Question::Eliminate(cube.copy(alloc)?, Columns::from_vec(columns));
-    let branch = question.copy(alloc)?;
-    Ok(Kept {
-        question,
-        limit: Limit::Wide { branch },
-    })
-}
-
-/// The limit of an elimination that leaves too many rows.
-fn long_elimination(alloc: Global, cube: &Cube, slot: u32) -> Result<Kept, OutOfMemory>
-    requires { without_slot slot cube.now.atoms ≡ too_many }
-    ensures { IfOk result (Refuses (Eliminates slot cube.now.atoms) (without_slot slot cube.now.atoms)) }
-{
-    let columns = vec![in alloc; slot]?;
-    let branch = cube.copy(alloc)?;
-    let question = Question::Eliminate(cube.copy(alloc)?, Columns::from_vec(columns));
-    Ok(Kept {
-        question,
-        limit: Limit::Rows { branch },
-    })
-}
-
-/// Before the slot gets a value that isn't known.
-fn without(alloc: Global, cube: &Cube, slot: u32) -> Result<Pre, PreError>
-    ensures rows { IfOk result (λ p. without_slot slot cube.now.atoms ≡ remains (rows_of p.cube.atoms)) }
-    ensures inexact { IfOk result
-        (λ p. pair_rows p.inexact ≡ first_inexact (slot ∷ []) (listed_rows cube.now.atoms (slot ∷ []))) }
-    ensures keeps { IfOk result (λ p. KeepsAll cube.now.atoms p.cube.atoms) }
-    ensures free { IfOk result (λ p. NamesNone (slot ∷ []) p.cube.atoms) }
-    ensures terms { IfOk result (λ p. IsTrue (are_terms p.cube.atoms)) }
-    ensures exact { IfOk result (λ p. p.inexact ≡ None → LosesNone (slot ∷ []) cube.now.atoms p.cube.atoms) }
+        (λ p. assigned_before slot value.now target.now.atoms ≡ gives p.cube.atoms (pair_rows p.inexact)) }
     ensures limit { IfErr result
-        (λ e. IfLimit e (Refuses (Eliminates slot cube.now.atoms) (without_slot slot cube.now.atoms))) }
+        (λ e. IfRefused e (λ kept. assigned_before slot value.now target.now.atoms ≡ refuses kept)) }
+    ensures right { IfErr result (λ e. IfRefused e IsRight) }
 {
-    match eliminate(alloc, cube, &[slot]) {
-        Ok(shadow) => {
-            let _ = shadow.pre.cube.atoms.as_slice();
-            Ok(shadow.pre)
-        }
-        Err(ShadowError::Wide) => Err(PreError::Limit(wide_elimination(alloc, cube, slot)?)),
-        Err(ShadowError::Rows) => Err(PreError::Limit(long_elimination(alloc, cube, slot)?)),
-        Err(ShadowError::Memory) => Err(PreError::Memory),
-    }
+    let sum = value_sum(alloc, value)?;
+    let by = total_term(alloc, &sum)?;
+    with_value(alloc, &OneColumn { column: slot, by }, target)
 }
 
-/// The cube of the states before an edge that go over it into the target. `Pre::inexact` is the first pair of rows whose
-/// elimination may let other states in.
-pub fn pre(alloc: Global, edge: &Edge, target: &Cube) -> Result<Pre, PreError>
+/// The rows before an edge.
+fn rows_before(alloc: Global, edge: &Edge, target: &Cube) -> Result<Pre, PreError>
     requires { is_call edge.now ≡ false }
-    ensures rows { IfOk result (λ p. preimage edge.now target.now.atoms ≡ remains (rows_of p.cube.atoms)) }
-    ensures inexact { IfOk result (λ p. pair_rows p.inexact ≡ inexact_pair edge.now target.now.atoms) }
-    ensures holds { IfOk result (λ p. HoldsPredecessors edge.now target.now.atoms p.cube.atoms) }
-    ensures exact { IfOk result (λ p. p.inexact ≡ None → HoldsNoOther edge.now target.now.atoms p.cube.atoms) }
-    ensures limit { IfErr result (λ e. IfLimit e (IsRefusal edge.now target.now.atoms)) }
+    ensures rows { IfOk result
+        (λ p. preimage edge.now target.now.atoms ≡ gives p.cube.atoms (pair_rows p.inexact)) }
+    ensures limit { IfErr result
+        (λ e. IfRefused e (λ kept. preimage edge.now target.now.atoms ≡ refuses kept)) }
+    ensures right { IfErr result (λ e. IfRefused e IsRight) }
 {
     match edge {
         Edge::Entry { params, .. } => read(alloc, &AtEntry { params: *params }, target),
         Edge::Assign { slot, value, .. } => assigned(alloc, *slot, value, target),
         Edge::Guard { rows, .. } | Edge::Assert { rows, .. } => {
-            let cube = target.and(alloc, rows)?;
-            Ok(Pre {
-                cube,
-                inexact: None,
-            })
+            Ok(exact(target.and(alloc, rows)?))
         }
-        Edge::Input { slot, .. } => without(alloc, target, *slot),
-        Edge::Pick { slot, rows, .. } => without(alloc, &target.and(alloc, rows)?, *slot),
+        Edge::Input { slot, .. } => project(alloc, target, &[*slot]),
+        Edge::Pick { slot, rows, .. } => {
+            let cube = target.and(alloc, rows)?;
+            project(alloc, &cube, &[*slot])
+        }
         Edge::Return { slot, .. } => {
             let by = column_term(alloc, *slot)?;
             let column = FIRST_EXIT;
@@ -144,4 +140,34 @@ pub fn pre(alloc: Global, edge: &Edge, target: &Cube) -> Result<Pre, PreError>
         }
         Edge::Call { .. } => unreachable!(),
     }
+}
+
+/// What the types keep of the atoms from which a slot is eliminated, for the proof.
+fn asked_are_terms(edge: &Edge, target: &Cube)
+    ensures { IsTrue (are_terms (asked_atoms edge.now target.now.atoms)) }
+{
+    let _ = target.atoms.as_slice();
+    if let Edge::Pick { rows, .. } = edge {
+        let _ = rows.atoms.as_slice();
+    }
+}
+
+/// The cube of the states before an edge that go over it into the target (Dijkstra's weakest
+/// precondition, and over 64-bit values its projection where the edge forgets a slot). `Pre::inexact`
+/// is the first pair of rows whose elimination may let other states in. Before an assignment the value
+/// is asked for first, then the rows of the target, then the value's range; the limit is that of the
+/// first sum that is too wide, or of the elimination.
+pub fn pre(alloc: Global, edge: &Edge, target: &Cube) -> Result<Pre, PreError>
+    requires { is_call edge.now ≡ false }
+    ensures rows { IfOk result
+        (λ p. preimage edge.now target.now.atoms ≡ gives p.cube.atoms (pair_rows p.inexact)) }
+    ensures holds { IfOk result (λ p. HoldsPredecessors edge.now target.now.atoms p.cube.atoms) }
+    ensures exact { IfOk result
+        (λ p. p.inexact ≡ None → HoldsNoOther edge.now target.now.atoms p.cube.atoms) }
+    ensures limit { IfErr result
+        (λ e. IfRefused e (λ kept. preimage edge.now target.now.atoms ≡ refuses kept)) }
+    ensures right { IfErr result (λ e. IfRefused e IsRight) }
+{
+    asked_are_terms(edge, target);
+    rows_before(alloc, edge, target)
 }

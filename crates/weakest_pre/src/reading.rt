@@ -2,15 +2,13 @@
 
 ghost use Rattle.std.specs.Prelude.{ℕ};
 ghost use Rattle.linear_formula.specs.LinearSum.{LinearSum};
-ghost use Rattle.weakest_pre.specs.Preimage.{entry_reading, one_reading};
+ghost use Rattle.flow_graph.specs.Readings.{entry_reading, one_reading};
 
+use flow_graph::columns::FIRST_ENTRY;
 use linear_formula::error::OutOfMemory;
 use linear_formula::reading::{Reading, column_term};
 use linear_formula::term::{Parts, Term};
 use std::alloc::Global;
-
-/// The column of the first entry value; slots stand below it.
-const FIRST_ENTRY: u32 = 10_000;
 
 /// At the entry: the entry value of a parameter for its slot, and 0 for every other slot.
 #[derive(Drop)]
