@@ -1,4 +1,5 @@
-//! A program that does what its first input says, run on inputs. Outcomes are counted by hand: a statement, a test of
+//! A program that does what its first input says, run on inputs. Outcomes are counted by hand: a
+//! statement, a test of
 //! a loop and a node of an expression are a step each.
 
 use crate::sources::program;
@@ -25,7 +26,8 @@ const SOURCE: &str = "
         if (x == 10) { do y = y + 1; while (input()); return y; }
         if (x == 11) return appends(input(), input());
         if (x == 12) ends(input());
-        if (x == 13) { while (1) { { { y = y + 1; if (y == 2) break; y = y; } y = y; } y = y; } return y; }
+        if (x == 13) { while (1) { { { y = y + 1; if (y == 2) break; y = y; } y = y; } y = y; }
+            return y; }
         if (x == 14) while (1) { { { return 7; y = y; } y = y; } y = y; }
         if (x == 15) { { { } } y = 3; { y = y + 1; { } } return y; }
         return x;

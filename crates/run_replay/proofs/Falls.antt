@@ -31,12 +31,16 @@ remaining c m = 4 * m.steps_left + weigh m.waits + weight c
 abbrev remaining_of : Moment → ℕ
 remaining_of r = remaining r.0 r.1
 
-counted_at : (F : Snapshot → Moment) (m : Snapshot) (l n : ℕ) → 0 < n → (remaining_of (F (record m { steps_left = l - 1 })) ≤ 4 * (l - 1) + weigh m.waits + 4) → remaining_of (counted (record m { steps_left = l }) F) < 4 * l + weigh m.waits + n
+counted_at : (F : Snapshot → Moment) (m : Snapshot) (l n : ℕ) → 0 < n → (remaining_of (F (record m { steps_left = l - 1 })) ≤ 4 * (l - 1)
+    + weigh m.waits + 4) → remaining_of (counted (record m { steps_left = l }) F) < 4 * l + weigh m.waits + n
 counted_at F m zero n p f = omega arith
 counted_at F m (suc l) n p f =
-    subst (λ b. remaining_of (cond b (over Fuel, record m { steps_left = suc l }) (F (record m { steps_left = suc l - 1 }))) < 4 * suc l + weigh m.waits + n) (sym (eqb-suc-zero l)) (omega arith)
+    subst (λ b. remaining_of (cond b (over Fuel, record m { steps_left = suc l }) (F (record m { steps_left = suc l - 1 }))) < 4 * suc l
+    + weigh m.waits + n) (sym (eqb-suc-zero l)) (omega arith)
 
-counted_falls : (F : Snapshot → Moment) (m : Snapshot) (n : ℕ) → 0 < n → (remaining_of (F (record m { steps_left = m.steps_left - 1 })) ≤ 4 * (m.steps_left - 1) + weigh m.waits + 4) → remaining_of (counted m F) < 4 * m.steps_left + weigh m.waits + n
+counted_falls : (F : Snapshot → Moment) (m : Snapshot) (n : ℕ) → 0 < n →
+    (remaining_of (F (record m { steps_left = m.steps_left - 1 })) ≤ 4 * (m.steps_left - 1) + weigh m.waits + 4) →
+    remaining_of (counted m F) < 4 * m.steps_left + weigh m.waits + n
 counted_falls F m n p f = counted_at F m m.steps_left n p f
 
 goes_on_weight : (ss : Statements) (m : Snapshot) → remaining_of (goes_on ss m) < 4 * m.steps_left + weigh m.waits + 3
@@ -48,13 +52,23 @@ enters_weight : (q : Option PureProcedure) (m : Snapshot) → remaining_of (ente
 enters_weight None m = omega arith
 enters_weight (Some q) m =
     let start = length m.arguments - q.params in
-    omega (arith, goes_on_weight q.body (record m { waits = back_to (length m.frame) q.gives ∷ m.waits; arguments = take start m.arguments; under = m.under ++ m.frame; frame = drop start m.arguments }))
+    omega (
+      arith,
+      goes_on_weight q.body (record m {
+        waits = back_to (length m.frame) q.gives ∷ m.waits;
+        arguments = take start m.arguments;
+        under = m.under ++ m.frame;
+        frame = drop start m.arguments;
+      }),
+    )
 
-through_weight : (P : PureProgram) (p : ℕ) (es : Expressions) (m : Snapshot) → remaining_of (goes_through P p es m) ≤ 4 * m.steps_left + weigh m.waits + 4
+through_weight : (P : PureProgram) (p : ℕ) (es : Expressions) (m : Snapshot) → remaining_of (goes_through P p es m) ≤ 4 * m.steps_left
+    + weigh m.waits + 4
 through_weight P p no_expressions m = enters_weight (slice_get P.procedures p) m
 through_weight P p (expression e es) m = omega arith
 
-input_weight : (b : Bool) (v : ℤ) (m : Snapshot) → remaining_of (cond b (gives_value v, record m { used = m.used + 1 }) (over Starved, m)) ≤ 4 * m.steps_left + weigh m.waits + 4
+input_weight : (b : Bool) (v : ℤ) (m : Snapshot) → remaining_of (cond b (gives_value v, record m { used = m.used + 1 }) (over Starved, m)) ≤
+    4 * m.steps_left + weigh m.waits + 4
 input_weight true v m = omega arith
 input_weight false v m = omega arith
 
@@ -67,7 +81,8 @@ begun_weight P (negate e) m = omega arith
 begun_weight P (not e) m = omega arith
 begun_weight P (binary op a b) m = omega arith
 
-turned_weight : (t : Expression) (s b : Statement) (m : Snapshot) (n : ℕ) → 0 < n → remaining_of (turned t s b m) < 4 * m.steps_left + weigh m.waits + n
+turned_weight : (t : Expression) (s b : Statement) (m : Snapshot) (n : ℕ) → 0 < n → remaining_of (turned t s b m) < 4 * m.steps_left
+    + weigh m.waits + n
 turned_weight t s b m n p = counted_falls (λ l. (begins t, with_wait (to_test t s b) l)) m n p (omega arith)
 
 ran_weight : (a : Statement) (m : Snapshot) → remaining_of (ran a m) ≤ 4 * m.steps_left + weigh m.waits + 4
@@ -88,19 +103,23 @@ value_weight : (d : Option ℤ) (m : Snapshot) → remaining_of (value_or_stop d
 value_weight None m = omega arith
 value_weight (Some u) m = omega arith
 
-decides_weight : (d : Option ℤ) (op : Op) (v : ℤ) (b : Expression) (m : Snapshot) → remaining_of (decides d op v b m) < 4 * m.steps_left + weigh m.waits + 3
+decides_weight : (d : Option ℤ) (op : Op) (v : ℤ) (b : Expression) (m : Snapshot) → remaining_of (decides d op v b m) < 4 * m.steps_left
+    + weigh m.waits + 3
 decides_weight None op v b m = omega arith
 decides_weight (Some u) op v b m = omega arith
 
-unless_weight : (z : Bool) (r : ReplayOutcome) (m : Snapshot) → remaining_of (cond z (over r) (leaves normally), m) < 4 * m.steps_left + weigh m.waits + 3
+unless_weight : (z : Bool) (r : ReplayOutcome) (m : Snapshot) → remaining_of (cond z (over r) (leaves normally), m) < 4 * m.steps_left
+    + weigh m.waits + 3
 unless_weight true r m = omega arith
 unless_weight false r m = omega arith
 
-test_weight : (z : Bool) (b : Statement) (x : Waiting) (m : Snapshot) → wait_weight x ≡ 1 → remaining_of (cond z (leaves normally, m) (runs b, with_wait x m)) < 4 * m.steps_left + weigh m.waits + 3
+test_weight : (z : Bool) (b : Statement) (x : Waiting) (m : Snapshot) → wait_weight x ≡ 1 →
+    remaining_of (cond z (leaves normally, m) (runs b, with_wait x m)) < 4 * m.steps_left + weigh m.waits + 3
 test_weight true b x m e = omega arith
 test_weight false b x m e = omega arith
 
-given_falls : (P : PureProgram) (v : ℤ) (x : Waiting) (m : Snapshot) → remaining_of (given P v x m) < 4 * m.steps_left + (wait_weight x + weigh m.waits) + 2
+given_falls : (P : PureProgram) (v : ℤ) (x : Waiting) (m : Snapshot) → remaining_of (given P v x m) < 4 * m.steps_left
+    + (wait_weight x + weigh m.waits) + 2
 given_falls P v to_negate m = omega (arith, value_weight (exact (neg_ℤ v)) m)
 given_falls P v to_invert m = omega arith
 given_falls P v (left_of op b) m = omega (arith, decides_weight (decided op (is_zero v)) op v b m)
@@ -120,17 +139,20 @@ given_falls P v (step_of t s b) m = omega arith
 given_falls P v (turn_of b t) m = omega arith
 given_falls P v (back_to size gives) m = omega arith
 
-valued_falls : (P : PureProgram) (v : ℤ) (k : List Waiting) (m : Snapshot) → m.waits ≡ k → remaining_of (valued P v k m) < 4 * m.steps_left + weigh k + 2
+valued_falls : (P : PureProgram) (v : ℤ) (k : List Waiting) (m : Snapshot) → m.waits ≡ k → remaining_of (valued P v k m) < 4 * m.steps_left
+    + weigh k + 2
 valued_falls P v [] m e = omega (arith, ap weigh e)
 valued_falls P v (x ∷ k) m e = given_falls P v x (record m { waits = k })
 
-rest_weight : (f : Exit) (ss : Statements) (m : Snapshot) → remaining_of (after_normal f (goes_on ss) m) < 4 * m.steps_left + weigh m.waits + 3
+rest_weight : (f : Exit) (ss : Statements) (m : Snapshot) → remaining_of (after_normal f (goes_on ss) m) < 4 * m.steps_left + weigh m.waits
+    + 3
 rest_weight normally ss m = goes_on_weight ss m
 rest_weight by_break ss m = omega arith
 rest_weight by_continue ss m = omega arith
 rest_weight (by_return v) ss m = omega arith
 
-body_weight : (f : Option Exit) (F : Snapshot → Moment) (m : Snapshot) → remaining_of (F m) < 4 * m.steps_left + weigh m.waits + 3 → remaining_of (after_body f F m) < 4 * m.steps_left + weigh m.waits + 3
+body_weight : (f : Option Exit) (F : Snapshot → Moment) (m : Snapshot) → remaining_of (F m) < 4 * m.steps_left + weigh m.waits + 3 →
+    remaining_of (after_body f F m) < 4 * m.steps_left + weigh m.waits + 3
 body_weight None F m h = h
 body_weight (Some f) F m h = omega arith
 
@@ -139,7 +161,11 @@ left_falls f (rest_of ss) m = omega (arith, rest_weight f ss m)
 left_falls f (body_of t s b) m = omega (arith, body_weight (loop_exit f) (λ n. (runs s, with_wait (step_of t s b) n)) m (omega arith))
 left_falls f (step_of t s b) m = omega (arith, body_weight (loop_exit f) (turned t s b) m (turned_weight t s b m 3 (omega arith)))
 left_falls f (turn_of b t) m =
-    omega (arith, body_weight (loop_exit f) (λ n. counted n (λ l. (begins t, with_wait (to_test_again b t) l))) m (counted_falls (λ l. (begins t, with_wait (to_test_again b t) l)) m 3 (omega arith) (omega arith)))
+    omega (
+      arith,
+      body_weight (loop_exit f) (λ n. counted n (λ l. (begins t, with_wait (to_test_again b t) l))) m
+          (counted_falls (λ l. (begins t, with_wait (to_test_again b t) l)) m 3 (omega arith) (omega arith)),
+    )
 left_falls f (back_to size gives) m = omega arith
 left_falls f to_negate m = omega arith
 left_falls f to_invert m = omega arith
@@ -178,7 +204,8 @@ IsOver (over o) = Unit {0}
 IsOver _ = ⊥
 
 -- a step of a run that isn't over makes the measure smaller
-pub stepped_falls : (P : PureProgram) (c : Control) (m : Snapshot) → (IsOver c → ⊥) → remaining (stepped P c m).0 (stepped P c m).1 < remaining c m
+pub stepped_falls : (P : PureProgram) (c : Control) (m : Snapshot) → (IsOver c → ⊥) → remaining (stepped P c m).0 (stepped P c m).1 <
+    remaining c m
 stepped_falls P (begins e) m h = counted_falls (begun P e) m 1 (omega arith) (begun_weight P e (record m { steps_left = m.steps_left - 1 }))
 stepped_falls P (gives_value v) m h = valued_falls P v m.waits m refl
 stepped_falls P (runs a) m h = counted_falls (ran a) m 1 (omega arith) (ran_weight a (record m { steps_left = m.steps_left - 1 }))

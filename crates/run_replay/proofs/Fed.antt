@@ -41,13 +41,20 @@ module _ (all : List ℤ) where
   enters_fed None m u = (u.0, u.1, tt)
   enters_fed (Some q) m u =
       let start = length m.arguments - q.params in
-      goes_on_fed q.body (record m { waits = back_to (length m.frame) q.gives ∷ m.waits; arguments = take start m.arguments; under = m.under ++ m.frame; frame = drop start m.arguments }) u
+      goes_on_fed q.body (record m {
+        waits = back_to (length m.frame) q.gives ∷ m.waits;
+        arguments = take start m.arguments;
+        under = m.under
+            ++ m.frame;
+        frame = drop start m.arguments;
+      }) u
 
   through_fed : (P : PureProgram) (p : ℕ) (es : Expressions) (m : Snapshot) → Fine m → FedAt (goes_through P p es m)
   through_fed P p no_expressions m u = enters_fed (slice_get P.procedures p) m u
   through_fed P p (expression e es) m u = (u.0, u.1, tt)
 
-  input_fed : (b : Bool) (m : Snapshot) → nat_lt m.used (length m.inputs) ≡ b → Fine m → FedAt (cond b (gives_value (get_or m.inputs m.used (pos 0)), record m { used = m.used + 1 }) (over Starved, m))
+  input_fed : (b : Bool) (m : Snapshot) → nat_lt m.used (length m.inputs) ≡ b → Fine m →
+      FedAt (cond b (gives_value (get_or m.inputs m.used (pos 0)), record m { used = m.used + 1 }) (over Starved, m))
   input_fed true m e u = let lt : m.used < length m.inputs = ltb-true _ _ e in (u.0, omega arith, tt)
   input_fed false m e u = (u.0, u.1, ltb-false _ _ e)
 
@@ -62,7 +69,8 @@ module _ (all : List ℤ) where
 
   turned_fed : (t : Expression) (a b : Statement) (m : Snapshot) → Fine m → FedAt (turned t a b m)
   turned_fed t a b m u =
-      counted_fed (m.steps_left == 0) m (record m { steps_left = m.steps_left - 1 }) (λ n. (begins t, with_wait (to_test t a b) n)) u (u.0, u.1, tt)
+      counted_fed (m.steps_left == 0) m (record m { steps_left = m.steps_left - 1 }) (λ n. (begins t, with_wait (to_test t a b) n)) u
+      (u.0, u.1, tt)
 
   ran_fed : (a : Statement) (m : Snapshot) → Fine m → FedAt (ran a m)
   ran_fed (block ss) m u = goes_on_fed ss m u
@@ -134,7 +142,8 @@ module _ (all : List ℤ) where
   left_fed f (step_of t a b) m u = body_fed (loop_exit f) (turned t a b) m u (turned_fed t a b m u)
   left_fed f (turn_of b t) m u =
       body_fed (loop_exit f) (λ n. counted n (λ l. (begins t, with_wait (to_test_again b t) l))) m u
-      (counted_fed (m.steps_left == 0) m (record m { steps_left = m.steps_left - 1 }) (λ l. (begins t, with_wait (to_test_again b t) l)) u (u.0, u.1, tt))
+      (counted_fed (m.steps_left == 0) m (record m { steps_left = m.steps_left - 1 }) (λ l. (begins t, with_wait (to_test_again b t) l)) u
+      (u.0, u.1, tt))
   left_fed f (back_to size gives) m u = (u.0, u.1, tt)
   left_fed f to_negate m u = (u.0, u.1, tt)
   left_fed f to_invert m u = (u.0, u.1, tt)
@@ -163,9 +172,11 @@ module _ (all : List ℤ) where
   -- after a step too
   pub stepped_fed : (P : PureProgram) (c : Control) (m : Snapshot) → Fed c m → Fed (stepped P c m).0 (stepped P c m).1
   stepped_fed P (begins e) m h =
-      counted_fed (m.steps_left == 0) m (record m { steps_left = m.steps_left - 1 }) (begun P e) (h.0, h.1) (begun_fed P e (record m { steps_left = m.steps_left - 1 }) (h.0, h.1))
+      counted_fed (m.steps_left == 0) m (record m { steps_left = m.steps_left - 1 }) (begun P e) (h.0, h.1)
+      (begun_fed P e (record m { steps_left = m.steps_left - 1 }) (h.0, h.1))
   stepped_fed P (gives_value v) m h = valued_fed P v m.waits m (h.0, h.1)
   stepped_fed P (runs a) m h =
-      counted_fed (m.steps_left == 0) m (record m { steps_left = m.steps_left - 1 }) (ran a) (h.0, h.1) (ran_fed a (record m { steps_left = m.steps_left - 1 }) (h.0, h.1))
+      counted_fed (m.steps_left == 0) m (record m { steps_left = m.steps_left - 1 }) (ran a) (h.0, h.1)
+      (ran_fed a (record m { steps_left = m.steps_left - 1 }) (h.0, h.1))
   stepped_fed P (leaves f) m h = reached_fed f m (h.0, h.1)
   stepped_fed P (over r) m h = h

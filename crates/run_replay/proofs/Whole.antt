@@ -32,15 +32,19 @@ main_in : (f : Option PureProcedure) (n : ℕ) → IsTrue (takes f n) → (q : P
 main_in None n h = cc
 main_in (Some q) n h = (q, refl)
 
-pub main_keeps : (P : PureProgram) (formed : IsWellFormed P) (inputs : List ℤ) (fuel : ℕ) (o : Progress ℤ) → (let r = enters P P.main (start inputs fuel) in Results P r.0 r.1 (world r.1) o) → AnyRun P P.main [] (record { inputs = inputs; steps_left = fuel }) o
+pub main_keeps : (P : PureProgram) (formed : IsWellFormed P) (inputs : List ℤ) (fuel : ℕ) (o : Progress ℤ) →
+    (let r = enters P P.main (start inputs fuel) in Results P r.0 r.1 (world r.1) o) →
+    AnyRun P P.main [] (record { inputs = inputs; steps_left = fuel }) o
 main_keeps P formed inputs fuel o h =
     let f = main_in (slice_get P.procedures P.main) 0 formed.main_takes_none in
     let n = length {A = ℤ} [] - f.0.params in
     let none : drop {A = ℤ} n [] ≡ [] = drop_all n [] (omega arith) in
     then_gives_it (AnyRun P P.main []) (record { inputs = inputs; steps_left = fuel }) o
-    (subst (λ args. Then (AnyRun P P.main args) (λ v. Gives v) (record { inputs = inputs; steps_left = fuel }) o) none (enters_keeps P P.main f.0 (start inputs fuel) o f.1 h))
+    (subst (λ args. Then (AnyRun P P.main args) (λ v. Gives v) (record { inputs = inputs; steps_left = fuel }) o) none
+    (enters_keeps P P.main f.0 (start inputs fuel) o f.1 h))
 
-pub main_stands : (P : PureProgram) (formed : IsWellFormed P) (inputs : List ℤ) (fuel : ℕ) → (let r = enters P P.main (start inputs fuel) in Stands P r.0 r.1.waits)
+pub main_stands : (P : PureProgram) (formed : IsWellFormed P) (inputs : List ℤ) (fuel : ℕ) → (let r = enters P P.main (start inputs fuel) in
+    Stands P r.0 r.1.waits)
 main_stands P formed inputs fuel = enters_stands P formed P.main (slice_get P.procedures P.main) (start inputs fuel) refl tt
 
 pub main_fed : (P : PureProgram) (inputs : List ℤ) (fuel : ℕ) → (let r = enters P P.main (start inputs fuel) in Fed inputs r.0 r.1)
@@ -61,19 +65,37 @@ world_result Starved w = refl
 world_result Fuel w = refl
 
 -- a run that is over is a replay
-pub replays_at : (P : PureProgram) (inputs : List ℤ) (fuel : ℕ) (r : ReplayOutcome) (m : Snapshot) → Fed inputs (over r) m → ((o : Progress ℤ) → Results P (over r) m (world m) o → AnyRun P P.main [] (record { inputs = inputs; steps_left = fuel }) o) → Replays P inputs fuel r m.used
+pub replays_at : (P : PureProgram) (inputs : List ℤ) (fuel : ℕ) (r : ReplayOutcome) (m : Snapshot) → Fed inputs (over r) m →
+    ((o : Progress ℤ) → Results P (over r) m (world m) o → AnyRun P P.main [] (record { inputs = inputs; steps_left = fuel }) o) →
+    Replays P inputs fuel r m.used
 replays_at P inputs fuel r m fed results =
     let run = results (result_of r (world m)) refl in
     let le : m.used ≤ length m.inputs = fed.1 in
-    let left : m.used + length (drop m.used m.inputs) ≡ length m.inputs = omega (arith, length-drop m.used m.inputs) in
-    (run.0, result_of r (world m), run.1, replay_result r (world m), ap (λ w. m.used + length w.inputs) (world_result r (world m)) ∙ left ∙ ap length fed.0)
+    let left : m.used + length (drop m.used m.inputs) ≡ length m.inputs = omega (arith, length-drop m.used m.inputs) in (
+      run.0,
+      result_of r (world m),
+      run.1,
+      replay_result r (world m),
+      ap (λ w. m.used + length w.inputs) (world_result r (world m)) ∙ left
+          ∙ ap length fed.0,
+    )
 
 -- what holds at a moment holds where a machine arrives at it
 pub arrived : (F : Control → Snapshot → Type 0) (c : Control) (m : Snapshot) (r : Moment) → (c ≡ r.0) × (m ≡ r.1) → F r.0 r.1 → F c m
 arrived F c m r e h = subst (λ x. F x m) (sym e.0) (subst (F r.0) (sym e.1) h)
 
-pub start_is : (waits : List Waiting) (arguments under frame inputs : List ℤ) (fuel : ℕ) → waits ≡ [] → arguments ≡ [] → under ≡ [] → frame ≡ [] →
-    ◌≡◌ {A = Snapshot} (record { waits = waits; arguments = arguments; under = under; frame = frame; inputs = inputs; used = 0; steps_left = fuel }) (start inputs fuel)
+pub start_is : (waits : List Waiting) (arguments under frame inputs : List ℤ) (fuel : ℕ) → waits ≡ [] → arguments ≡ [] → under ≡ [] →
+    frame ≡ [] →
+    ◌≡◌ {A = Snapshot} (record {
+      waits = waits;
+      arguments = arguments;
+      under = under;
+      frame = frame;
+      inputs = inputs;
+      used = 0;
+      steps_left = fuel;
+    })
+    (start inputs fuel)
 start_is waits arguments under frame inputs fuel a b c d = cc
 
 pub not_over : (n : Next) → ((o : Outcome_of) → n ≡ Ended o → ⊥) → IsOver (control_of n) → ⊥

@@ -40,7 +40,8 @@ pub enum Wait<'a> {
     Step(&'a Expr, &'a Stmt, &'a Stmt),
     /// A loop that tests behind its body, whose body runs.
     Turn(&'a Stmt, &'a Expr),
-    /// A caller: how many slots its frame has, and whether the procedure that it called gives a value.
+    /// A caller: how many slots its frame has, and whether the procedure that it called gives a
+    /// value.
     Back(usize, bool),
 }
 
@@ -92,7 +93,8 @@ pub struct Machine<'a> {
 impl<'a> Machine<'a> {
     /// Makes this wait.
     pub fn wait(&mut self, wait: Wait<'a>) -> Result<(), AllocError>
-        ensures { OnOk result (snapshot_of self.new ≡ with_wait (waiting_of wait.entry) (snapshot_of self.old)) }
+        ensures { OnOk result (snapshot_of self.new ≡ with_wait (waiting_of wait.entry)
+            (snapshot_of self.old)) }
     {
         self.waits.push(wait)?;
         Ok(())
@@ -100,7 +102,8 @@ impl<'a> Machine<'a> {
 
     /// Makes the rest of a block wait, if there is one.
     pub fn wait_for(&mut self, rest: &'a [Stmt]) -> Result<(), AllocError>
-        ensures { OnOk result (snapshot_of self.new ≡ with_rest (statements_of rest.now) (snapshot_of self.old)) }
+        ensures { OnOk result (snapshot_of self.new ≡ with_rest (statements_of rest.now)
+            (snapshot_of self.old)) }
     {
         match rest {
             [] => Ok(()),
@@ -110,7 +113,8 @@ impl<'a> Machine<'a> {
 
     /// What waits next, which then waits no more.
     pub fn next_wait(&mut self) -> Option<Wait<'a>>
-        ensures some { IfSome result (λ wait. snapshot_of self.old ≡ with_wait (waiting_of wait) (snapshot_of self.new)) }
+        ensures some { IfSome result (λ wait. snapshot_of self.old ≡ with_wait (waiting_of wait)
+            (snapshot_of self.new)) }
         ensures none { IfNone result ((snapshot_of self.old).waits ≡ []) }
         ensures unchanged { IfNone result (snapshot_of self.new ≡ snapshot_of self.old) }
     {
@@ -119,7 +123,8 @@ impl<'a> Machine<'a> {
 
     /// What waits next behind the rests of blocks, which then wait no more.
     pub fn next_past_rests(&mut self) -> Option<Wait<'a>>
-        ensures some { IfSome result (λ wait. without_rests (snapshot_of self.old) ≡ with_wait (waiting_of wait) (snapshot_of self.new)) }
+        ensures some { IfSome result (λ wait. without_rests (snapshot_of self.old)
+            ≡ with_wait (waiting_of wait) (snapshot_of self.new)) }
         ensures none { IfNone result ((without_rests (snapshot_of self.old)).waits ≡ []) }
     {
         while let Some(wait) = self.next_wait() {
@@ -132,7 +137,8 @@ impl<'a> Machine<'a> {
 
     /// What sees a statement end so, which then waits no more.
     pub fn next_reached(&mut self, flow: Flow) -> Option<Wait<'a>>
-        ensures some { IfSome result (λ wait. reached (exit_of flow) (snapshot_of self.old) ≡ with_wait (waiting_of wait) (snapshot_of self.new)) }
+        ensures some { IfSome result (λ wait. reached (exit_of flow) (snapshot_of self.old)
+            ≡ with_wait (waiting_of wait) (snapshot_of self.new)) }
         ensures none { IfNone result ((reached (exit_of flow) (snapshot_of self.old)).waits ≡ []) }
     {
         match flow {
@@ -146,7 +152,8 @@ impl<'a> Machine<'a> {
     /// Counts a step, and says whether there was one.
     pub fn count(&mut self) -> bool
         ensures some { result ≡ not (self.old.steps_left == 0) }
-        ensures counted { snapshot_of self.new ≡ record (snapshot_of self.old) { steps_left = self.old.steps_left - 1 } }
+        ensures counted { snapshot_of self.new
+            ≡ record (snapshot_of self.old) { steps_left = self.old.steps_left - 1 } }
     {
         let some = self.steps_left != 0;
         self.steps_left = self.steps_left.saturating_sub(1);

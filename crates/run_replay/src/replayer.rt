@@ -22,11 +22,13 @@ pub fn replay(
     inputs: &[i64],
     fuel: u64,
 ) -> Result<Replayed, OutOfMemory>
-    ensures replays { IfOk result (λ r. Replays (program_of program.now) inputs.now fuel (replay_outcome r.outcome) r.used) }
+    ensures replays { IfOk result (λ r. Replays (program_of program.now) inputs.now fuel
+        (replay_outcome r.outcome) r.used) }
     ensures within { IfOk result (λ r. r.used ≤ length inputs.now) }
     ensures starved { IfOk result (λ r. r.outcome ≡ Outcome.Starved → r.used ≡ length inputs.now) }
     ensures runs { IfOk result (λ r. (out : PureOutcome) → replay_outcome r.outcome ≡ Comes out
-        → (d : ℕ) × Runs (program_of program.now) d (program_of program.now).main [] (take r.used inputs.now) out) }
+        → (d : ℕ) × Runs (program_of program.now) d (program_of program.now).main []
+        (take r.used inputs.now) out) }
 {
     let mut machine = Machine {
         waits: Vec::new(alloc),

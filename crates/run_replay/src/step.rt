@@ -23,7 +23,10 @@ fn begin_for<'a>(
     expression: &'a Expr,
     machine: &mut Machine<'a>,
 ) -> Result<Next<'a>, AllocError>
-    ensures { IfOk result (λ next. Arrives next machine.new (begins (expression_of expression.now), with_wait (waiting_of wait.entry) (snapshot_of machine.old))) }
+    ensures { IfOk result (λ next. Arrives next machine.new (
+      begins (expression_of expression.now),
+      with_wait (waiting_of wait.entry) (snapshot_of machine.old),
+    )) }
 {
     machine.wait(wait)?;
     Ok(Next::Begin(expression))
@@ -35,7 +38,10 @@ fn run_for<'a>(
     statement: &'a Stmt,
     machine: &mut Machine<'a>,
 ) -> Result<Next<'a>, AllocError>
-    ensures { IfOk result (λ next. Arrives next machine.new (runs (statement_of statement.now), with_wait (waiting_of wait.entry) (snapshot_of machine.old))) }
+    ensures { IfOk result (λ next. Arrives next machine.new (
+      runs (statement_of statement.now),
+      with_wait (waiting_of wait.entry) (snapshot_of machine.old),
+    )) }
 {
     machine.wait(wait)?;
     Ok(Next::Run(statement))
@@ -48,7 +54,9 @@ pub fn enter<'a>(
     machine: &mut Machine<'a>,
 ) -> Result<Next<'a>, AllocError>
     requires { callee < length program.now.procedures.items }
-    ensures { IfOk result (λ next. Arrives next machine.new (enters (program_of program.now) callee (snapshot_of machine.old))) }
+    ensures { IfOk result
+        (λ next. Arrives next machine.new
+        (enters (program_of program.now) callee (snapshot_of machine.old))) }
 {
     let procedure = &program.procedures[callee as usize];
     let start = machine
@@ -70,7 +78,9 @@ fn go_through<'a>(
     machine: &mut Machine<'a>,
 ) -> Result<Next<'a>, AllocError>
     requires { callee < length program.now.procedures.items }
-    ensures { IfOk result (λ next. Arrives next machine.new (goes_through (program_of program.now) callee (expressions_of arguments.now) (snapshot_of machine.old))) }
+    ensures { IfOk result
+        (λ next. Arrives next machine.new (goes_through (program_of program.now) callee
+        (expressions_of arguments.now) (snapshot_of machine.old))) }
 {
     match arguments.split_first() {
         Some((first, rest)) => begin_for(Wait::Argument(callee, rest), first, machine),
@@ -85,7 +95,9 @@ fn evaluate<'a>(
     machine: &mut Machine<'a>,
 ) -> Result<Next<'a>, AllocError>
     requires { IsSound (program_of program.now) (expression_of expression.now) }
-    ensures next { IfOk result (λ next. Arrives next machine.new (begun (program_of program.now) (expression_of expression.now) (snapshot_of machine.old))) }
+    ensures next { IfOk result
+        (λ next. Arrives next machine.new
+        (begun (program_of program.now) (expression_of expression.now) (snapshot_of machine.old))) }
     ensures values { TakesValues (expression_of expression.now) (snapshot_of machine.old) }
 {
     match expression {
@@ -106,8 +118,12 @@ fn begin<'a>(
     machine: &mut Machine<'a>,
 ) -> Result<Next<'a>, AllocError>
     requires { IsSound (program_of program.now) (expression_of expression.now) }
-    ensures next { IfOk result (λ next. Arrives next machine.new (counted (snapshot_of machine.old) (begun (program_of program.now) (expression_of expression.now)))) }
-    ensures values { StepsOnValues (begins (expression_of expression.now)) (snapshot_of machine.old) }
+    ensures next { IfOk result
+        (λ next. Arrives next machine.new
+        (counted (snapshot_of machine.old)
+        (begun (program_of program.now) (expression_of expression.now)))) }
+    ensures values { StepsOnValues (begins (expression_of expression.now))
+        (snapshot_of machine.old) }
 {
     if machine.count() {
         evaluate(program, expression, machine)
@@ -123,7 +139,9 @@ fn begin_turn<'a>(
     body: &'a Stmt,
     machine: &mut Machine<'a>,
 ) -> Result<Next<'a>, AllocError>
-    ensures { IfOk result (λ next. Arrives next machine.new (turned (expression_of test.now) (statement_of step.now) (statement_of body.now) (snapshot_of machine.old))) }
+    ensures { IfOk result
+        (λ next. Arrives next machine.new (turned (expression_of test.now) (statement_of step.now)
+        (statement_of body.now) (snapshot_of machine.old))) }
 {
     if machine.count() {
         begin_for(Wait::Test(test, step, body), test, machine)
@@ -138,7 +156,13 @@ fn test_again<'a>(
     test: &'a Expr,
     machine: &mut Machine<'a>,
 ) -> Result<Next<'a>, AllocError>
-    ensures { IfOk result (λ next. Arrives next machine.new (counted (snapshot_of machine.old) (λ m. (begins (expression_of test.now), with_wait (to_test_again (statement_of body.now) (expression_of test.now)) m)))) }
+    ensures { IfOk result
+        (λ next. Arrives next machine.new
+        (counted (snapshot_of machine.old)
+        (λ m. (
+          begins (expression_of test.now),
+          with_wait (to_test_again (statement_of body.now) (expression_of test.now)) m,
+        )))) }
 {
     if machine.count() {
         begin_for(Wait::TestAgain(body, test), test, machine)
@@ -149,7 +173,9 @@ fn test_again<'a>(
 
 /// Executes one node of a statement, whose step is counted.
 fn execute<'a>(statement: &'a Stmt, machine: &mut Machine<'a>) -> Result<Next<'a>, AllocError>
-    ensures { IfOk result (λ next. Arrives next machine.new (ran (statement_of statement.now) (snapshot_of machine.old))) }
+    ensures { IfOk result
+        (λ next. Arrives next machine.new
+        (ran (statement_of statement.now) (snapshot_of machine.old))) }
 {
     match statement {
         Stmt::Block(statements) => go_on(statements, machine),
@@ -169,7 +195,9 @@ fn execute<'a>(statement: &'a Stmt, machine: &mut Machine<'a>) -> Result<Next<'a
 
 /// Begins a statement, which counts a step.
 fn run<'a>(statement: &'a Stmt, machine: &mut Machine<'a>) -> Result<Next<'a>, AllocError>
-    ensures { IfOk result (λ next. Arrives next machine.new (counted (snapshot_of machine.old) (ran (statement_of statement.now)))) }
+    ensures { IfOk result
+        (λ next. Arrives next machine.new
+        (counted (snapshot_of machine.old) (ran (statement_of statement.now)))) }
 {
     if machine.count() {
         execute(statement, machine)
@@ -185,7 +213,9 @@ fn give_left<'a>(
     right: &'a Expr,
     machine: &mut Machine<'a>,
 ) -> Result<Next<'a>, AllocError>
-    ensures { IfOk result (λ next. Arrives next machine.new (decides (decided op (is_zero value)) op value (expression_of right.now) (snapshot_of machine.old))) }
+    ensures { IfOk result
+        (λ next. Arrives next machine.new (decides (decided op (is_zero value)) op value
+        (expression_of right.now) (snapshot_of machine.old))) }
 {
     match decide(op, value) {
         Some(decided) => Ok(Next::Value(decided)),
@@ -222,7 +252,13 @@ fn turn<'a>(
     body: &'a Stmt,
     machine: &mut Machine<'a>,
 ) -> Result<Next<'a>, AllocError>
-    ensures { IfOk result (λ next. Arrives next machine.new (cond (is_zero value) (leaves normally, snapshot_of machine.old) (runs (statement_of body.now), with_wait (waiting_of wait.entry) (snapshot_of machine.old)))) }
+    ensures { IfOk result
+        (λ next. Arrives next machine.new
+        (cond (is_zero value) (leaves normally, snapshot_of machine.old) (
+          runs (statement_of body.now),
+          with_wait (waiting_of wait.entry)
+              (snapshot_of machine.old),
+        ))) }
 {
     if value == 0 {
         Ok(Next::Flow(Flow::Normal))
@@ -238,8 +274,11 @@ fn give<'a>(
     wait: Wait<'a>,
     machine: &mut Machine<'a>,
 ) -> Result<Next<'a>, AllocError>
-    requires { TakesValue (program_of program.now) (waiting_of wait ∷ (snapshot_of machine.old).waits) }
-    ensures { IfOk result (λ next. Arrives next machine.new (given (program_of program.now) value (waiting_of wait.entry) (snapshot_of machine.old))) }
+    requires { TakesValue (program_of program.now)
+        (waiting_of wait ∷ (snapshot_of machine.old).waits) }
+    ensures { IfOk result
+        (λ next. Arrives next machine.new
+        (given (program_of program.now) value (waiting_of wait.entry) (snapshot_of machine.old))) }
 {
     match wait {
         Wait::Negate => Ok(value_or_stopped(negate(value))),
@@ -272,7 +311,10 @@ fn resume<'a>(
     machine: &mut Machine<'a>,
 ) -> Result<Next<'a>, AllocError>
     requires { TakesValue (program_of program.now) (snapshot_of machine.old).waits }
-    ensures { IfOk result (λ next. Arrives next machine.new (valued (program_of program.now) value (snapshot_of machine.old).waits (snapshot_of machine.old))) }
+    ensures { IfOk result
+        (λ next. Arrives next machine.new
+        (valued (program_of program.now) value (snapshot_of machine.old).waits
+        (snapshot_of machine.old))) }
 {
     match machine.next_wait() {
         Some(wait) => give(program, value, wait, machine),
@@ -282,7 +324,9 @@ fn resume<'a>(
 
 /// Goes on with a block.
 fn go_on<'a>(statements: &'a [Stmt], machine: &mut Machine<'a>) -> Result<Next<'a>, AllocError>
-    ensures { IfOk result (λ next. Arrives next machine.new (goes_on (statements_of statements.now) (snapshot_of machine.old))) }
+    ensures { IfOk result
+        (λ next. Arrives next machine.new
+        (goes_on (statements_of statements.now) (snapshot_of machine.old))) }
 {
     match statements.split_first() {
         Some((first, rest)) => {
@@ -299,7 +343,10 @@ fn go_on_after<'a>(
     statements: &'a [Stmt],
     machine: &mut Machine<'a>,
 ) -> Result<Next<'a>, AllocError>
-    ensures { IfOk result (λ next. Arrives next machine.new (after_normal (exit_of flow) (goes_on (statements_of statements.now)) (snapshot_of machine.old))) }
+    ensures { IfOk result
+        (λ next. Arrives next machine.new
+        (after_normal (exit_of flow) (goes_on (statements_of statements.now))
+        (snapshot_of machine.old))) }
 {
     match flow {
         Flow::Normal => go_on(statements, machine),
@@ -333,7 +380,9 @@ fn returned(flow: Flow, gives: bool) -> i64
 /// Tells what waited that a statement ended so.
 fn end<'a>(flow: Flow, wait: Wait<'a>, machine: &mut Machine<'a>) -> Result<Next<'a>, AllocError>
     requires { (P : PureProgram) × TakesExit P (waiting_of wait ∷ (snapshot_of machine.old).waits) }
-    ensures { IfOk result (λ next. Arrives next machine.new (left (exit_of flow) (waiting_of wait.entry) (snapshot_of machine.old))) }
+    ensures { IfOk result
+        (λ next. Arrives next machine.new
+        (left (exit_of flow) (waiting_of wait.entry) (snapshot_of machine.old))) }
 {
     match wait {
         Wait::Rest(rest) => go_on_after(flow, rest, machine),
@@ -359,8 +408,11 @@ fn end<'a>(flow: Flow, wait: Wait<'a>, machine: &mut Machine<'a>) -> Result<Next
 
 /// Tells what waits that a statement ended so.
 fn leave<'a>(flow: Flow, machine: &mut Machine<'a>) -> Result<Next<'a>, AllocError>
-    requires { (P : PureProgram) × TakesExit P (reached (exit_of flow) (snapshot_of machine.old)).waits }
-    ensures { IfOk result (λ next. Arrives next machine.new (exited (exit_of flow) (reached (exit_of flow) (snapshot_of machine.old)).waits
+    requires { (P : PureProgram)
+        × TakesExit P (reached (exit_of flow) (snapshot_of machine.old)).waits }
+    ensures { IfOk result
+        (λ next. Arrives next machine.new
+        (exited (exit_of flow) (reached (exit_of flow) (snapshot_of machine.old)).waits
         (reached (exit_of flow) (snapshot_of machine.old)))) }
 {
     match machine.next_reached(flow) {
@@ -376,7 +428,10 @@ pub fn step<'a>(
     machine: &mut Machine<'a>,
 ) -> Result<Next<'a>, AllocError>
     requires { Stands (program_of program.now) (control_of next) (snapshot_of machine.old).waits }
-    ensures next { IfOk result (λ after. Arrives after machine.new (stepped (program_of program.now) (control_of next.entry) (snapshot_of machine.old))) }
+    ensures next { IfOk result
+        (λ after. Arrives after machine.new
+        (stepped (program_of program.now) (control_of next.entry)
+        (snapshot_of machine.old))) }
     ensures values { StepsOnValues (control_of next.entry) (snapshot_of machine.old) }
 {
     match next {

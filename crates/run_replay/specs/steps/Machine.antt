@@ -1,4 +1,6 @@
--- A machine that runs programs with lists in place of recursion: what comes next, what waits, and one step. Where what comes next doesn't fit what waits, or a call names no procedure, it is out of fuel: `Standing` rules that out.
+-- A machine that runs programs with lists in place of recursion: what comes next, what waits, and
+-- one step. Where what comes next doesn't fit what waits, or a call names no procedure, it is out
+-- of fuel: `Standing` rules that out.
 use Rattle.std.specs.Prelude.{ℕ, ◌+◌, ◌-◌, zero, suc, List, [], ◌∷◌, ◌++◌, length, take, drop, Bool, true, false, cond, ◌==◌, not as not_bool, Option, Some, None, ℤ, pos, neg_ℤ, ◌-ℤ◌, int_lt, int_le, nat_lt, get_or, slice_get}
 use Rattle.c_tree.specs.declared.tree.Op.{Op}
 use Rattle.c_tree.specs.declared.tree.Op.TheVariants.{Add, Subtract, Multiply, Less, LessEqual, Greater, GreaterEqual, Equal, Unequal, And, Or}
@@ -42,7 +44,9 @@ pub data Control : Type 0 where
   leaves : Exit → Control
   over : ReplayOutcome → Control
 
--- What a machine keeps: what waits, the next one first; the arguments that are evaluated; the slots of the callers, the slots of the call that runs; the inputs, and how many are used; and the steps that are left.
+-- What a machine keeps: what waits, the next one first; the arguments that are evaluated; the slots
+-- of the callers, the slots of the call that runs; the inputs, and how many are used; and the steps
+-- that are left.
 pub record Snapshot : Type 0 where
   pub waits : List Waiting
   pub arguments : List ℤ
@@ -64,7 +68,8 @@ with_wait x m = record m { waits = x ∷ m.waits }
 
 -- a step is counted before its work
 abbrev pub counted : Snapshot → (Snapshot → Moment) → Moment
-counted m F = cond (m.steps_left == 0) (over Fuel, m) (F (record m { steps_left = m.steps_left - 1 }))
+counted m F = cond (m.steps_left == 0) (over Fuel, m)
+    (F (record m { steps_left = m.steps_left - 1 }))
 
 -- a frame after a write: it becomes longer where the slot is past its end
 abbrev pub stored : List ℤ → ℕ → ℤ → List ℤ
@@ -106,7 +111,12 @@ abbrev pub enters_procedure : Option PureProcedure → Snapshot → Moment
 enters_procedure None m = (over Fuel, m)
 enters_procedure (Some q) m =
     let start = length m.arguments - q.params in
-    goes_on q.body (record m { waits = back_to (length m.frame) q.gives ∷ m.waits; arguments = take start m.arguments; under = m.under ++ m.frame; frame = drop start m.arguments })
+    goes_on q.body (record m {
+      waits = back_to (length m.frame) q.gives ∷ m.waits;
+      arguments = take start m.arguments;
+      under = m.under ++ m.frame;
+      frame = drop start m.arguments;
+    })
 
 abbrev pub enters : PureProgram → ℕ → Snapshot → Moment
 enters P p m = enters_procedure (slice_get P.procedures p) m
@@ -118,7 +128,10 @@ goes_through P p (expression e es) m = (begins e, with_wait (next_argument p es)
 
 abbrev pub next_input : Snapshot → Moment
 next_input m =
-    cond (nat_lt m.used (length m.inputs)) (gives_value (get_or m.inputs m.used (pos 0)), record m { used = m.used + 1 }) (over Starved, m)
+    cond (nat_lt m.used (length m.inputs)) (
+      gives_value (get_or m.inputs m.used (pos 0)),
+      record m { used = m.used + 1 },
+    ) (over Starved, m)
 
 -- an expression begins, after its step is counted
 abbrev pub begun : PureProgram → Expression → Snapshot → Moment
@@ -163,15 +176,18 @@ given P v to_negate m = (value_or_stop (exact (neg_ℤ v)), m)
 given P v to_invert m = (gives_value (bit (is_zero v)), m)
 given P v (left_of op b) m = decides (decided op (is_zero v)) op v b m
 given P v (right_of op x) m = (value_or_stop (applied op x v), m)
-given P v (next_argument p es) m = goes_through P p es (record m { arguments = m.arguments ++ v ∷ [] })
+given P v (next_argument p es) m = goes_through P p es
+    (record m { arguments = m.arguments ++ v ∷ [] })
 given P v (to_set x) m = (leaves normally, record m { frame = stored m.frame x v })
 given P v to_ignore m = (leaves normally, m)
 given P v to_assume m = (unless_zero (Comes Stopped) v, m)
 given P v (to_assert id) m = (unless_zero (Comes (Failed id)) v, m)
 given P v to_return m = (leaves (by_return v), m)
 given P v (to_choose a b) m = (runs (cond (is_zero v) b a), m)
-given P v (to_test t s b) m = cond (is_zero v) (leaves normally, m) (runs b, with_wait (body_of t s b) m)
-given P v (to_test_again b t) m = cond (is_zero v) (leaves normally, m) (runs b, with_wait (turn_of b t) m)
+given P v (to_test t s b) m = cond (is_zero v) (leaves normally, m)
+    (runs b, with_wait (body_of t s b) m)
+given P v (to_test_again b t) m = cond (is_zero v) (leaves normally, m)
+    (runs b, with_wait (turn_of b t) m)
 given P v _ m = (over Fuel, m)
 
 abbrev pub valued : PureProgram → ℤ → List Waiting → Snapshot → Moment
@@ -203,14 +219,16 @@ value_of (by_return v) = v
 
 -- the caller goes on
 abbrev pub back : ℕ → Snapshot → Snapshot
-back size m = let start = length m.under - size in record m { under = take start m.under; frame = drop start m.under }
+back size m = let start = length m.under - size in
+    record m { under = take start m.under; frame = drop start m.under }
 
 -- what waited sees a statement end
 abbrev pub left : Exit → Waiting → Snapshot → Moment
 left f (rest_of ss) m = after_normal f (goes_on ss) m
 left f (body_of t s b) m = after_body (loop_exit f) (λ n. (runs s, with_wait (step_of t s b) n)) m
 left f (step_of t s b) m = after_body (loop_exit f) (turned t s b) m
-left f (turn_of b t) m = after_body (loop_exit f) (λ n. counted n (λ l. (begins t, with_wait (to_test_again b t) l))) m
+left f (turn_of b t) m = after_body (loop_exit f)
+    (λ n. counted n (λ l. (begins t, with_wait (to_test_again b t) l))) m
 left f (back_to size gives) m = (gives_value (cond gives (value_of f) (pos 0)), back size m)
 left f _ m = (over Fuel, m)
 

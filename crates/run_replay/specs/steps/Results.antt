@@ -32,11 +32,13 @@ module _ (P : PureProgram) where
 
   -- the turns of a loop from its test on
   abbrev pub Loops : Expression → Statement → Statement → State → Relation Flow
-  Loops t a b s w o = (n : ℕ) × Turns true AnyRun n (Eval true AnyRun t) (Exec true AnyRun a) (Exec true AnyRun b) s w o
+  Loops t a b s w o = (n : ℕ) × Turns true AnyRun n (Eval true AnyRun t) (Exec true AnyRun a)
+      (Exec true AnyRun b) s w o
 
   -- the turns of a loop that tests behind its body
   abbrev pub LoopsAgain : Statement → Expression → State → Relation Flow
-  LoopsAgain b t s w o = (n : ℕ) × DoTurns true AnyRun n (Exec true AnyRun b) (Eval true AnyRun t) s w o
+  LoopsAgain b t s w o = (n : ℕ) × DoTurns true AnyRun n (Exec true AnyRun b) (Eval true AnyRun t) s
+      w o
 
   abbrev pub AfterStep : Expression → Statement → Statement → Flow → Relation Flow
   AfterStep t a b g = AfterBody g (Loops t a b)
@@ -45,7 +47,8 @@ module _ (P : PureProgram) where
   AfterTurn t a b f = AfterBody f (λ s. Then (Exec true AnyRun a s) (AfterStep t a b))
 
   abbrev pub AfterTest : Expression → Statement → Statement → State → ℤ → Relation Flow
-  AfterTest t a b s v = Choice (is_zero v) (Gives (normal s)) (Then (Exec true AnyRun b s) (AfterTurn t a b))
+  AfterTest t a b s v = Choice (is_zero v) (Gives (normal s))
+      (Then (Exec true AnyRun b s) (AfterTurn t a b))
 
   abbrev pub AfterTestAgain : Statement → Expression → State → ℤ → Relation Flow
   AfterTestAgain b t s v = Choice (is_zero v) (Gives (normal s)) (LoopsAgain b t s)
@@ -55,24 +58,32 @@ module _ (P : PureProgram) where
   TestsAgain b t s = Counted true (Then (Eval true AnyRun t s) (AfterTestAgain b t s))
 
   abbrev mutual
-    -- The results that a value leads to, where these wait, the next first, in this state, with these arguments evaluated and these slots of the callers. Nothing that waits for a statement gets a value.
+    -- The results that a value leads to, where these wait, the next first, in this state, with
+    -- these arguments evaluated and these slots of the callers. Nothing that waits for a statement
+    -- gets a value.
     pub Resume : List Waiting → List ℤ → List ℤ → State → ℤ → Relation ℤ
     Resume [] args under s v = Gives v
     Resume (to_negate ∷ k) args under s v = Then (ExactOrStopped (neg_ℤ v)) (Resume k args under s)
     Resume (to_invert ∷ k) args under s v = Resume k args under s (bit (is_zero v))
-    Resume (left_of op b ∷ k) args under s v = Then (RightSide (decided op (is_zero v)) (Applied op v) (Eval true AnyRun b s)) (Resume k args under s)
+    Resume (left_of op b ∷ k) args under s v = Then
+        (RightSide (decided op (is_zero v)) (Applied op v) (Eval true AnyRun b s))
+        (Resume k args under s)
     Resume (right_of op x ∷ k) args under s v = Then (Applied op x v) (Resume k args under s)
     Resume (next_argument p es ∷ k) args under s v =
         let start = length args - (arity (slice_get P.procedures p) - (1 + count es)) in
-        Then (Evals true AnyRun es s) (λ vs. Then (AnyRun p (drop start args ++ v ∷ vs)) (Resume k (take start args) under s))
+        Then (Evals true AnyRun es s) (λ vs. Then (AnyRun p (drop start args ++ v ∷ vs))
+        (Resume k (take start args) under s))
     Resume (to_set x ∷ k) args under s v = Leave k args under (normal (with_slot s x v))
     Resume (to_ignore ∷ k) args under s v = Leave k args under (normal s)
     Resume (to_assume ∷ k) args under s v = Then (UnlessZero stopped s v) (Leave k args under)
-    Resume (to_assert id ∷ k) args under s v = Then (UnlessZero (failed id) s v) (Leave k args under)
+    Resume (to_assert id ∷ k) args under s v = Then (UnlessZero (failed id) s v)
+        (Leave k args under)
     Resume (to_return ∷ k) args under s v = Leave k args under (returned v)
-    Resume (to_choose a b ∷ k) args under s v = Then (Choice (is_zero v) (Exec true AnyRun b s) (Exec true AnyRun a s)) (Leave k args under)
+    Resume (to_choose a b ∷ k) args under s v = Then
+        (Choice (is_zero v) (Exec true AnyRun b s) (Exec true AnyRun a s)) (Leave k args under)
     Resume (to_test t a b ∷ k) args under s v = Then (AfterTest t a b s v) (Leave k args under)
-    Resume (to_test_again b t ∷ k) args under s v = Then (AfterTestAgain b t s v) (Leave k args under)
+    Resume (to_test_again b t ∷ k) args under s v = Then (AfterTestAgain b t s v)
+        (Leave k args under)
     Resume (rest_of ss ∷ k) args under s v = λ w o. ⊥
     Resume (body_of t a b ∷ k) args under s v = λ w o. ⊥
     Resume (step_of t a b ∷ k) args under s v = λ w o. ⊥
@@ -81,18 +92,22 @@ module _ (P : PureProgram) where
 
     -- the same where a statement ends
     pub Leave : List Waiting → List ℤ → List ℤ → Flow → Relation ℤ
-    Leave (rest_of ss ∷ k) args under f = Then (AfterNormal f (Execs true AnyRun ss)) (Leave k args under)
+    Leave (rest_of ss ∷ k) args under f = Then (AfterNormal f (Execs true AnyRun ss))
+        (Leave k args under)
     Leave (body_of t a b ∷ k) args under f = Then (AfterTurn t a b f) (Leave k args under)
     Leave (step_of t a b ∷ k) args under f = Then (AfterStep t a b f) (Leave k args under)
     Leave (turn_of b t ∷ k) args under f = Then (AfterBody f (TestsAgain b t)) (Leave k args under)
     Leave (back_to size gives ∷ k) args under f =
-        let start = length under - size in Resume k args (take start under) (entered (drop start under)) (returned_value gives f)
+        let start = length under - size in Resume k args (take start under)
+        (entered (drop start under)) (returned_value gives f)
     Leave _ args under f = λ w o. ⊥
 
   -- the results of what comes next
   abbrev pub Results : Control → Snapshot → Relation ℤ
-  Results (begins e) m = Then (Eval true AnyRun e (entered m.frame)) (Resume m.waits m.arguments m.under (entered m.frame))
+  Results (begins e) m = Then (Eval true AnyRun e (entered m.frame))
+      (Resume m.waits m.arguments m.under (entered m.frame))
   Results (gives_value v) m = Resume m.waits m.arguments m.under (entered m.frame) v
-  Results (runs a) m = Then (Exec true AnyRun a (entered m.frame)) (Leave m.waits m.arguments m.under)
+  Results (runs a) m = Then (Exec true AnyRun a (entered m.frame))
+      (Leave m.waits m.arguments m.under)
   Results (leaves f) m = Leave m.waits m.arguments m.under (flow_of f (entered m.frame))
   Results (over r) m = λ w o. o ≡ result_of r w

@@ -1,4 +1,5 @@
--- What comes next fits what waits: what waits for a value gets one, and calls name procedures that exist.
+-- What comes next fits what waits: what waits for a value gets one, and calls name procedures that
+-- exist.
 use Rattle.std.specs.Prelude.{◌≡◌, ℕ, ◌+◌, ◌≤◌, List, [], ◌∷◌, Bool, Some, pos, ◌<◌, length, get_or, slice_get, IsTrue}
 use Rattle.c_tree.specs.Syntax.{Expression, literal, read, input, call, negate, not, binary, Expressions, Statement, Statements, PureProcedure, PureProgram}
 use Rattle.c_tree.specs.WellFormed.{count, is_well_scoped, are_well_scoped, runs_well_scoped, all_well_scoped}
@@ -38,14 +39,16 @@ module _ (P : PureProgram) where
     TakesValue (to_invert ∷ k) = TakesValue k
     TakesValue (left_of op b ∷ k) = IsSound b × TakesValue k
     TakesValue (right_of op x ∷ k) = TakesValue k
-    TakesValue (next_argument p es ∷ k) = HasParameters p (1 + count es) × AreSound es × TakesValue k
+    TakesValue (next_argument p es ∷ k) = HasParameters p (1 + count es) × AreSound es
+        × TakesValue k
     TakesValue (to_set x ∷ k) = TakesExit k
     TakesValue (to_ignore ∷ k) = TakesExit k
     TakesValue (to_assume ∷ k) = TakesExit k
     TakesValue (to_assert id ∷ k) = TakesExit k
     TakesValue (to_return ∷ k) = TakesExit k
     TakesValue (to_choose a b ∷ k) = IsSoundStatement a × IsSoundStatement b × TakesExit k
-    TakesValue (to_test t s b ∷ k) = IsSound t × IsSoundStatement s × IsSoundStatement b × TakesExit k
+    TakesValue (to_test t s b ∷ k) = IsSound t × IsSoundStatement s × IsSoundStatement b
+        × TakesExit k
     TakesValue (to_test_again b t ∷ k) = IsSoundStatement b × IsSound t × TakesExit k
     TakesValue (rest_of ss ∷ k) = ⊥
     TakesValue (body_of t s b ∷ k) = ⊥
@@ -55,8 +58,10 @@ module _ (P : PureProgram) where
 
     pub TakesExit : List Waiting → Type 0
     TakesExit (rest_of ss ∷ k) = AreSoundStatements ss × TakesExit k
-    TakesExit (body_of t s b ∷ k) = IsSound t × IsSoundStatement s × IsSoundStatement b × TakesExit k
-    TakesExit (step_of t s b ∷ k) = IsSound t × IsSoundStatement s × IsSoundStatement b × TakesExit k
+    TakesExit (body_of t s b ∷ k) = IsSound t × IsSoundStatement s × IsSoundStatement b
+        × TakesExit k
+    TakesExit (step_of t s b ∷ k) = IsSound t × IsSoundStatement s × IsSoundStatement b
+        × TakesExit k
     TakesExit (turn_of b t ∷ k) = IsSoundStatement b × IsSound t × TakesExit k
     TakesExit (back_to size gives ∷ k) = TakesValue k
     TakesExit _ = ⊥

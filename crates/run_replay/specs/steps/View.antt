@@ -59,7 +59,15 @@ top_slots f = drop f.base f.slots.items
 
 abbrev pub snapshot_of : Machine → Snapshot
 snapshot_of m =
-    record { waits = all_waiting m.waits.items; arguments = m.arguments.items; under = slots_under m.frames; frame = top_slots m.frames; inputs = m.inputs.now; used = m.used; steps_left = m.steps_left }
+    record {
+      waits = all_waiting m.waits.items;
+      arguments = m.arguments.items;
+      under = slots_under m.frames;
+      frame = top_slots m.frames;
+      inputs = m.inputs.now;
+      used = m.used;
+      steps_left = m.steps_left;
+    }
 
 -- what comes next and what is kept are these
 abbrev pub Arrives : Next → Machine → Moment → Type 0

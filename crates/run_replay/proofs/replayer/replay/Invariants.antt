@@ -16,5 +16,7 @@ abbrev pub invariant-steps : goal.invariant-steps
 invariant-steps l = record {
   fits : Stands (program_of l.program) (control_of l.next) (snapshot_of l.machine).waits;
   fed : Fed l.inputs (control_of l.next) (snapshot_of l.machine);
-  results : (o : Progress ℤ) → Results (program_of l.program) (control_of l.next) (snapshot_of l.machine) (world (snapshot_of l.machine)) o → AnyRun (program_of l.program) (program_of l.program).main [] (record { inputs = l.inputs; steps_left = l.fuel }) o;
+  results : (o : Progress ℤ) → Results (program_of l.program) (control_of l.next) (snapshot_of l.machine) (world (snapshot_of l.machine))
+      o →
+      AnyRun (program_of l.program) (program_of l.program).main [] (record { inputs = l.inputs; steps_left = l.fuel }) o;
 }
