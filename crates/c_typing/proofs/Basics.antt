@@ -51,12 +51,25 @@ added true slot s i o e = inl cc
 added false slot s i o e = inr e
 
 below-variable : (ss : List Scope) (n : ℕ) (x : List ℕ) (slot : ℕ) → Below ss n → slot < n → Below (with_variable ss x slot) n
-below-variable [] n x slot h less = record { below = λ y s e. elim (added (bytes_eq x y) slot s None None e) [ inl same ↦ omega arith | inr old ↦ absurd cc ] }
-below-variable (t ∷ ts) n x slot h less = record { below = λ y s e. elim (added (bytes_eq x y) slot s (slot_in t y) (slot_of ts y) e) [ inl same ↦ omega arith | inr old ↦ h.below y s old ] }
+below-variable [] n x slot h less = record {
+  below = λ y s e. elim (added (bytes_eq x y) slot s None None e) [
+    | inl same ↦ omega arith
+    | inr old ↦ absurd cc
+  ];
+}
+below-variable (t ∷ ts) n x slot h less = record {
+  below = λ y s e. elim (added (bytes_eq x y) slot s (slot_in t y) (slot_of ts y) e) [
+    | inl
+        same ↦ omega arith
+    | inr old ↦ h.below y s old
+  ];
+}
 
-pub below-names : (ss : List Scope) (n slot : ℕ) (ns : List Identifier) → Below ss n → slot + length ns ≤ n → Below (with_names ss slot ns) n
+pub below-names : (ss : List Scope) (n slot : ℕ) (ns : List Identifier) → Below ss n → slot + length ns ≤ n → Below (with_names ss slot ns)
+    n
 below-names ss n slot [] h room = h
-below-names ss n slot (x ∷ ns) h room = below-names (with_variable ss x.name slot) n (slot + 1) ns (below-variable ss n x.name slot h (omega arith)) (omega arith)
+below-names ss n slot (x ∷ ns) h room = below-names (with_variable ss x.name slot) n (slot + 1) ns
+    (below-variable ss n x.name slot h (omega arith)) (omega arith)
 
 pub below-one : (ss : List Scope) (n slot : ℕ) (x : List ℕ) → Below ss n → slot < n → Below (with_variable ss x slot) n
 below-one ss n slot x h less = below-variable ss n x slot h less
@@ -72,7 +85,8 @@ from_defined : (i : ℕ) (ps : List ProcedureTree) (n : Identifier) → asserts_
 from_defined i [] n = refl
 from_defined i (p ∷ ps) n = go (bytes_eq p.named.name n.name) (from_defined (i + 1) ps n)
   where
-    go : (b : Bool) → asserts_at (defined_from (i + 1) ps n.name) n ≡ [] → asserts_at (if b then defined i (length p.params) p.void else defined_from (i + 1) ps n.name) n ≡ []
+    go : (b : Bool) → asserts_at (defined_from (i + 1) ps n.name) n ≡ [] →
+        asserts_at (if b then defined i (length p.params) p.void else defined_from (i + 1) ps n.name) n ≡ []
     go true h = refl
     go false h = h
 
@@ -87,7 +101,9 @@ pub asserts_at-callee : (ps : List ProcedureTree) (n : Identifier) → if_assert
 asserts_at-callee ps n = go (is_input n.name) (is_assume n.name) (is_assert n.name) (input-no_assert n.name) (assume-no_assert n.name) refl
   where
     go : (a b d : Bool) → (a ≡ true → is_assert n.name ≡ false) → (b ≡ true → is_assert n.name ≡ false) → is_assert n.name ≡ d →
-        (if d then (n.at ∷ []) else []) ≡ asserts_at (if a then input else (if b then assume else (if d then assert else defined_from 0 ps n.name))) n
+        (if d then (n.at ∷ []) else [])
+        ≡ asserts_at (if a then input else (if b then assume else (if d then assert else defined_from 0 ps n.name)))
+        n
     go true b d p q e = ap (λ c. if c then (n.at ∷ []) else []) (sym e ∙ p refl)
     go false true d p q e = ap (λ c. if c then (n.at ∷ []) else []) (sym e ∙ q refl)
     go false false true p q e = refl

@@ -19,10 +19,13 @@ no_least : (is : List FileItem) → all_faults is ≡ [] → least_from None (al
 no_least is e = ap (least_from None) e
 
 -- a fault is there: it is the first, no other is, and there is no program
-pub fault_told : (is : List FileItem) (f : TypeFault) (p : Pos) → least_from None (all_faults is) ≡ Some (record { fault = f; at = p }) → IsFirstFault is f p
+pub fault_told : (is : List FileItem) (f : TypeFault) (p : Pos) → least_from None (all_faults is) ≡ Some (record { fault = f; at = p }) →
+    IsFirstFault is f p
 fault_told is f p e = inl (least-is_first is (record { fault = f; at = p }) e)
 
-pub fault_only : (is : List FileItem) (f g : TypeFault) (p q : Pos) → least_from None (all_faults is) ≡ Some (record { fault = f; at = p }) → IsFirstFault is g q → Refused f p ≡ Refused g q
+pub fault_only : (is : List FileItem) (f g : TypeFault) (p q : Pos) → least_from None (all_faults is)
+    ≡ Some (record { fault = f; at = p }) →
+    IsFirstFault is g q → Refused f p ≡ Refused g q
 fault_only is f g p q e (inl first) =
     let one : Fault = record { fault = f; at = p } in
     let other : Fault = record { fault = g; at = q } in
@@ -35,7 +38,8 @@ fault_no_program is f P e program = let none = no_least is program.faultless in 
 
 -- no fault is there
 
-pub none_first : (is : List FileItem) (g : TypeFault) (q : Pos) → least_from None (all_faults is) ≡ None → IsFirstFault is g q → LacksMain is (record { fault = g; at = q })
+pub none_first : (is : List FileItem) (g : TypeFault) (q : Pos) → least_from None (all_faults is) ≡ None → IsFirstFault is g q →
+    LacksMain is (record { fault = g; at = q })
 none_first is g q e (inl first) = absurd (let some = first-is_least is (record { fault = g; at = q }) first in cc)
 none_first is g q e (inr lacks) = lacks
 
@@ -45,18 +49,23 @@ not_main is e main = let same = defined-is 0 (procedures_of is) (codes "main") i
 pub defines_main : (is : List FileItem) → is_defined (defined_from 0 (procedures_of is) (codes "main")) ≡ true → DefinesMain is
 defines_main is e = sym (defined-is 0 (procedures_of is) (codes "main")) ∙ e
 
-pub lacks_main : (is : List FileItem) → least_from None (all_faults is) ≡ None → is_defined (defined_from 0 (procedures_of is) (codes "main")) ≡ false → IsFirstFault is NoMain start
+pub lacks_main : (is : List FileItem) → least_from None (all_faults is) ≡ None →
+    is_defined (defined_from 0 (procedures_of is) (codes "main"))
+    ≡ false → IsFirstFault is NoMain start
 lacks_main is e none = inr (record { faultless = least-none (all_faults is) e; no_main = not_main is none; told = refl })
 
-pub lacks_only : (is : List FileItem) (g : TypeFault) (q : Pos) → least_from None (all_faults is) ≡ None → IsFirstFault is g q → Refused NoMain start ≡ Refused g q
+pub lacks_only : (is : List FileItem) (g : TypeFault) (q : Pos) → least_from None (all_faults is) ≡ None → IsFirstFault is g q →
+    Refused NoMain start ≡ Refused g q
 lacks_only is g q e first =
     let told = (none_first is g q e first).told in
     sym (ap (λ (x : Fault). Refused x.fault x.at) told)
 
-pub lacks_program : (is : List FileItem) (P : PureProgram) → is_defined (defined_from 0 (procedures_of is) (codes "main")) ≡ false → IsProgram is P → ⊥
+pub lacks_program : (is : List FileItem) (P : PureProgram) → is_defined (defined_from 0 (procedures_of is) (codes "main")) ≡ false →
+    IsProgram is P → ⊥
 lacks_program is P none program = not_main is none program.main
 
-pub main_first : (is : List FileItem) (g : TypeFault) (q : Pos) → least_from None (all_faults is) ≡ None → DefinesMain is → IsFirstFault is g q → ⊥
+pub main_first : (is : List FileItem) (g : TypeFault) (q : Pos) → least_from None (all_faults is) ≡ None → DefinesMain is →
+    IsFirstFault is g q → ⊥
 main_first is g q e main first = (none_first is g q e first).no_main main
 
 abbrev IsTold : List FileItem → TypeError → Type 0

@@ -19,7 +19,8 @@ some_in : (s : Scope) (x : List ℕ) → is_some (slot_in s x) ≡ is_some (slot
 some_in [] x = refl
 some_in (v ∷ vs) x = go (bytes_eq v.name x) (some_in vs x)
   where
-    go : (b : Bool) → is_some (slot_in vs x) ≡ is_some (slot_in (erased_scope vs) x) → is_some (if b then Some v.slot else slot_in vs x) ≡ is_some (if b then Some 0 else slot_in (erased_scope vs) x)
+    go : (b : Bool) → is_some (slot_in vs x) ≡ is_some (slot_in (erased_scope vs) x) → is_some (if b then Some v.slot else slot_in vs x)
+        ≡ is_some (if b then Some 0 else slot_in (erased_scope vs) x)
     go true h = refl
     go false h = h
 
@@ -30,7 +31,8 @@ outer-some (Some s) b = refl
 some_of : (ss : List Scope) (x : List ℕ) → is_some (slot_of ss x) ≡ is_some (slot_of (erased ss) x)
 some_of [] x = refl
 some_of (s ∷ ss) x =
-    outer-some (slot_in s x) (slot_of ss x) ∙ ap (λ b. b || is_some (slot_of ss x)) (some_in s x) ∙ ap (λ b. is_some (slot_in (erased_scope s) x) || b) (some_of ss x)
+    outer-some (slot_in s x) (slot_of ss x) ∙ ap (λ b. b || is_some (slot_of ss x)) (some_in s x)
+    ∙ ap (λ b. is_some (slot_in (erased_scope s) x) || b) (some_of ss x)
     ∙ sym (outer-some (slot_in (erased_scope s) x) (slot_of (erased ss) x))
 
 declared_here : (ss : List Scope) (x : List ℕ) → is_declared_here ss x ≡ is_declared_here (erased ss) x
@@ -41,71 +43,88 @@ pub erased-with_variable : (ss : List Scope) (x : List ℕ) (slot : ℕ) → era
 erased-with_variable [] x slot = refl
 erased-with_variable (s ∷ ss) x slot = refl
 
-pub erased-variable : (ss ts : List Scope) (x : List ℕ) (a b : ℕ) → erased ss ≡ erased ts → erased (with_variable ss x a) ≡ erased (with_variable ts x b)
+pub erased-variable : (ss ts : List Scope) (x : List ℕ) (a b : ℕ) → erased ss ≡ erased ts → erased (with_variable ss x a)
+    ≡ erased (with_variable ts x b)
 erased-variable ss ts x a b e = erased-with_variable ss x a ∙ ap (λ u. with_variable u x 0) e ∙ sym (erased-with_variable ts x b)
 
-pub erased-with_names : (ss ts : List Scope) (a b : ℕ) (ns : List Identifier) → erased ss ≡ erased ts → erased (with_names ss a ns) ≡ erased (with_names ts b ns)
+pub erased-with_names : (ss ts : List Scope) (a b : ℕ) (ns : List Identifier) → erased ss ≡ erased ts → erased (with_names ss a ns)
+    ≡ erased (with_names ts b ns)
 erased-with_names ss ts a b [] e = e
-erased-with_names ss ts a b (n ∷ ns) e = erased-with_names (with_variable ss n.name a) (with_variable ts n.name b) (a + 1) (b + 1) ns (erased-variable ss ts n.name a b e)
+erased-with_names ss ts a b (n ∷ ns) e = erased-with_names (with_variable ss n.name a) (with_variable ts n.name b) (a + 1) (b + 1) ns
+    (erased-variable ss ts n.name a b e)
 
 pub erased-push : (ss ts : List Scope) → erased ss ≡ erased ts → erased ([] ∷ ss) ≡ erased ([] ∷ ts)
 erased-push ss ts e = ap (λ u. [] ∷ u) e
 
 name-same : (ss ts : List Scope) (n : Identifier) → erased ss ≡ erased ts → name_faults ss n ≡ name_faults ts n
-name-same ss ts n e = ap (λ b. fault_if (not_bool b) UnknownName n.at) (some_of ss n.name ∙ ap (λ u. is_some (slot_of u n.name)) e ∙ sym (some_of ts n.name))
+name-same ss ts n e = ap (λ b. fault_if (not_bool b) UnknownName n.at) (some_of ss n.name ∙ ap (λ u. is_some (slot_of u n.name)) e
+    ∙ sym (some_of ts n.name))
 
-pub declared-same : (ps : List ProcedureTree) (ss ts : List Scope) (n : Identifier) → erased ss ≡ erased ts → declared_faults ps ss n ≡ declared_faults ps ts n
-declared-same ps ss ts n e = ap (λ b. fault_if (b || is_built_in n.name) Duplicate n.at) (declared_here ss n.name ∙ ap (λ u. is_declared_here u n.name) e ∙ sym (declared_here ts n.name))
+pub declared-same : (ps : List ProcedureTree) (ss ts : List Scope) (n : Identifier) → erased ss ≡ erased ts → declared_faults ps ss n
+    ≡ declared_faults ps ts n
+declared-same ps ss ts n e = ap (λ b. fault_if (b || is_built_in n.name) Duplicate n.at)
+    (declared_here ss n.name ∙ ap (λ u. is_declared_here u n.name) e ∙ sym (declared_here ts n.name))
 
 two : {a b c d : List Fault} → a ≡ c → b ≡ d → a ++ b ≡ c ++ d
 two {b = b} {c = c} p q = ap (λ x. x ++ b) p ∙ ap (λ y. c ++ y) q
 
 module _ (ps : List ProcedureTree) where
   mutual
-    pub expression-same : (ss ts : List Scope) (e : ExpressionTree) → erased ss ≡ erased ts → expression_faults ps ss e ≡ expression_faults ps ts e
+    pub expression-same : (ss ts : List Scope) (e : ExpressionTree) → erased ss ≡ erased ts → expression_faults ps ss e ≡ expression_faults
+        ps ts e
     expression-same ss ts (literal n) h = refl
     expression-same ss ts (name n) h = name-same ss ts n h
-    expression-same ss ts (call n es) h = ap (λ r. callee_faults (callee_of ps n.name) n (argument_count es) true ++ r) (arguments-same ss ts es h)
+    expression-same ss ts (call n es) h = ap (λ r. callee_faults (callee_of ps n.name) n (argument_count es) true ++ r)
+        (arguments-same ss ts es h)
     expression-same ss ts (not e) h = expression-same ss ts e h
     expression-same ss ts (negate e) h = expression-same ss ts e h
     expression-same ss ts (plus e) h = expression-same ss ts e h
     expression-same ss ts (binary o at a b) h =
-        ap (λ r. fault_if (is_product o && not_bool (is_constant a || is_constant b)) NotLinear at ++ r) (two (expression-same ss ts a h) (expression-same ss ts b h))
+        ap (λ r. fault_if (is_product o && not_bool (is_constant a || is_constant b)) NotLinear at ++ r)
+        (two (expression-same ss ts a h) (expression-same ss ts b h))
 
-    pub arguments-same : (ss ts : List Scope) (es : ExpressionTrees) → erased ss ≡ erased ts → arguments_faults ps ss es ≡ arguments_faults ps ts es
+    pub arguments-same : (ss ts : List Scope) (es : ExpressionTrees) → erased ss ≡ erased ts → arguments_faults ps ss es ≡ arguments_faults
+        ps ts es
     arguments-same ss ts no_arguments h = refl
     arguments-same ss ts (argument e es) h = two (expression-same ss ts e h) (arguments-same ss ts es h)
 
-  pub optional-same : (ss ts : List Scope) (o : Option ExpressionTree) → erased ss ≡ erased ts → optional_faults ps ss o ≡ optional_faults ps ts o
+  pub optional-same : (ss ts : List Scope) (o : Option ExpressionTree) → erased ss ≡ erased ts → optional_faults ps ss o ≡ optional_faults
+      ps ts o
   optional-same ss ts None h = refl
   optional-same ss ts (Some e) h = expression-same ss ts e h
 
   pub simple-same : (ss ts : List Scope) (s : SimpleStatement) → erased ss ≡ erased ts → simple_faults ps ss s ≡ simple_faults ps ts s
   simple-same ss ts (set n e) h = two (name-same ss ts n h) (expression-same ss ts e h)
   simple-same ss ts (change o at n e) h =
-      two (name-same ss ts n h) (ap (λ r. fault_if (is_product o && not_bool (is_constant e)) NotLinear at ++ r) (expression-same ss ts e h))
+      two (name-same ss ts n h) (ap (λ r. fault_if (is_product o && not_bool (is_constant e)) NotLinear at ++ r)
+      (expression-same ss ts e h))
   simple-same ss ts (add_one n) h = name-same ss ts n h
   simple-same ss ts (subtract_one n) h = name-same ss ts n h
-  simple-same ss ts (call_statement n es) h = ap (λ r. callee_faults (callee_of ps n.name) n (argument_count es) false ++ r) (arguments-same ss ts es h)
+  simple-same ss ts (call_statement n es) h = ap (λ r. callee_faults (callee_of ps n.name) n (argument_count es) false ++ r)
+      (arguments-same ss ts es h)
 
   pub step-same : (ss ts : List Scope) (s : Option SimpleStatement) → erased ss ≡ erased ts → step_faults ps ss s ≡ step_faults ps ts s
   step-same ss ts None h = refl
   step-same ss ts (Some s) h = simple-same ss ts s h
 
-  pub declarators-same : (ss ts : List Scope) (ds : List Declarator) → erased ss ≡ erased ts → declarators_faults ps ss ds ≡ declarators_faults ps ts ds
+  pub declarators-same : (ss ts : List Scope) (ds : List Declarator) → erased ss ≡ erased ts → declarators_faults ps ss ds
+      ≡ declarators_faults ps ts ds
   declarators-same ss ts [] h = refl
   declarators-same ss ts (d ∷ ds) h =
-      two (optional-same ss ts d.value h) (two (declared-same ps ss ts d.named h) (declarators-same (with_variable ss d.named.name 0) (with_variable ts d.named.name 0) ds (erased-variable ss ts d.named.name 0 0 h)))
+      two (optional-same ss ts d.value h) (two (declared-same ps ss ts d.named h) (declarators-same (with_variable ss d.named.name 0)
+      (with_variable ts d.named.name 0) ds (erased-variable ss ts d.named.name 0 0 h)))
 
   pub init-same : (ss ts : List Scope) (f : ForInit) → erased ss ≡ erased ts → init_faults ps ss f ≡ init_faults ps ts f
   init-same ss ts no_init h = refl
   init-same ss ts (declaring ds) h = declarators-same ss ts ds h
   init-same ss ts (starting s) h = simple-same ss ts s h
 
-  pub erased-init_scopes : (ss ts : List Scope) (f : ForInit) → erased ss ≡ erased ts → erased (init_scopes ps ss f) ≡ erased (init_scopes ps ts f)
+  pub erased-init_scopes : (ss ts : List Scope) (f : ForInit) → erased ss ≡ erased ts → erased (init_scopes ps ss f)
+      ≡ erased (init_scopes ps ts f)
   erased-init_scopes ss ts f h = erased-with_names ([] ∷ ss) ([] ∷ ts) 0 0 (declared_by_init f) (erased-push ss ts h)
 
-  pub erased-scopes_after : (ss ts : List Scope) (s : StatementTree) → erased ss ≡ erased ts → erased (scopes_after ps ss s) ≡ erased (scopes_after ps ts s)
+  pub erased-scopes_after : (ss ts : List Scope) (s : StatementTree) → erased ss ≡ erased ts → erased (scopes_after ps ss s)
+      ≡ erased (scopes_after ps ts s)
   erased-scopes_after ss ts (declare ds) h = erased-with_names ss ts 0 0 (names_of ds) h
   erased-scopes_after ss ts (block a) h = h
   erased-scopes_after ss ts empty h = h
@@ -136,24 +155,30 @@ module _ (ps : List ProcedureTree) where
 
   module _ (void : Bool) where
     mutual
-      pub statement-same : (l : Bool) (ss ts : List Scope) (s : StatementTree) → erased ss ≡ erased ts → statement_faults ps void l ss s ≡ statement_faults ps void l ts s
+      pub statement-same : (l : Bool) (ss ts : List Scope) (s : StatementTree) → erased ss ≡ erased ts → statement_faults ps void l ss s
+          ≡ statement_faults ps void l ts s
       statement-same l ss ts (block a) h = statements-same l ([] ∷ ss) ([] ∷ ts) a (erased-push ss ts h)
       statement-same l ss ts empty h = refl
       statement-same l ss ts (declare ds) h = declarators-same ss ts ds h
       statement-same l ss ts (simple s) h = simple-same ss ts s h
       statement-same l ss ts (if_then e a) h = two (expression-same ss ts e h) (statement-same l ss ts a h)
-      statement-same l ss ts (if_else e a b) h = two (expression-same ss ts e h) (two (statement-same l ss ts a h) (statement-same l ss ts b h))
+      statement-same l ss ts (if_else e a b) h = two (expression-same ss ts e h)
+          (two (statement-same l ss ts a h) (statement-same l ss ts b h))
       statement-same l ss ts (while_loop e a) h = two (expression-same ss ts e h) (statement-same true ss ts a h)
       statement-same l ss ts (do_while a e) h = two (statement-same true ss ts a h) (expression-same ss ts e h)
       statement-same l ss ts (for_loop f t s a) h =
           let inside = erased-init_scopes ss ts f h in
           two (init-same ([] ∷ ss) ([] ∷ ts) f (erased-push ss ts h))
-          (two (optional-same (init_scopes ps ss f) (init_scopes ps ts f) t inside) (two (step-same (init_scopes ps ss f) (init_scopes ps ts f) s inside) (statement-same true (init_scopes ps ss f) (init_scopes ps ts f) a inside)))
+          (two (optional-same (init_scopes ps ss f) (init_scopes ps ts f) t inside)
+          (two (step-same (init_scopes ps ss f) (init_scopes ps ts f) s inside)
+          (statement-same true (init_scopes ps ss f) (init_scopes ps ts f) a inside)))
       statement-same l ss ts (break at) h = refl
       statement-same l ss ts (continue at) h = refl
       statement-same l ss ts (return at e) h = ap (λ r. return_faults ps void at e ++ r) (optional-same ss ts e h)
 
-      pub statements-same : (l : Bool) (ss ts : List Scope) (a : StatementTrees) → erased ss ≡ erased ts → statements_faults ps void l ss a ≡ statements_faults ps void l ts a
+      pub statements-same : (l : Bool) (ss ts : List Scope) (a : StatementTrees) → erased ss ≡ erased ts → statements_faults ps void l ss a
+          ≡ statements_faults ps void l ts a
       statements-same l ss ts no_statements h = refl
       statements-same l ss ts (statement s rest) h =
-          two (statement-same l ss ts s h) (statements-same l (scopes_after ps ss s) (scopes_after ps ts s) rest (erased-scopes_after ss ts s h))
+          two (statement-same l ss ts s h) (statements-same l (scopes_after ps ss s) (scopes_after ps ts s) rest
+          (erased-scopes_after ss ts s h))

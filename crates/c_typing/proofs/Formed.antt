@@ -48,11 +48,15 @@ no_procedure_place (Some n) e = absurd cc
 pub few : {X : Type 0} (xs : List X) (n : ℕ) → slice_get xs n ≡ None → length xs ≤ n
 few xs n e = elim (slice_get_cases xs n).1 [ inl there ↦ absurd (let f = there.2 in cc) | inr past ↦ past.0 ]
 
-main-shape : (p : ProcedureTree) → (is_main p.named.name && (p.void || not_bool (length p.params == 0))) ≡ false → is_main p.named.name ≡ true → length p.params ≡ 0
-main-shape p e m = let q = or_false p.void (not_bool (length p.params == 0)) (and_false (is_main p.named.name) (p.void || not_bool (length p.params == 0)) e m) in eqb-same (length p.params) 0 (not_false (length p.params == 0) q.1)
+main-shape : (p : ProcedureTree) → (is_main p.named.name && (p.void || not_bool (length p.params == 0))) ≡ false → is_main p.named.name
+    ≡ true → length p.params ≡ 0
+main-shape p e m = let q = or_false p.void (not_bool (length p.params == 0))
+    (and_false (is_main p.named.name) (p.void || not_bool (length p.params == 0)) e m) in eqb-same (length p.params) 0
+    (not_false (length p.params == 0) q.1)
 
 -- a procedure's faults in parts
-procedure-parts : (all earlier : List ProcedureTree) (p : ProcedureTree) → procedure_faults all earlier p ≡ [] → ((is_built_in p.named.name || is_some (number_of earlier p.named.name)) ≡ false) × IsFaultless all p
+procedure-parts : (all earlier : List ProcedureTree) (p : ProcedureTree) → procedure_faults all earlier p ≡ [] →
+    ((is_built_in p.named.name || is_some (number_of earlier p.named.name)) ≡ false) × IsFaultless all p
 procedure-parts all earlier p e =
     let body = statements_faults all p.void false (parameter_scope p) p.body in
     let tokens = limit_fault Tokens p.past in
@@ -71,54 +75,68 @@ procedure-parts all earlier p e =
       record {
         main_shape = main-shape p (no_fault shape MainShape p.named.at h.1);
         few_params = few p.params 8 (no_place (slice_get p.params 8) (no_limit Parameters (place_of (slice_get p.params 8)) c.0));
-        few_variables = few (variables_of p) 24 (no_place (slice_get (variables_of p) 24) (no_limit Variables (place_of (slice_get (variables_of p) 24)) d.0));
+        few_variables = few (variables_of p) 24
+            (no_place (slice_get (variables_of p) 24) (no_limit Variables (place_of (slice_get (variables_of p) 24)) d.0));
         short = no_limit Tokens p.past f.0;
         body = f.1;
       },
     )
 
-pub faultless-at : (all earlier qs : List ProcedureTree) → procedures_faults all earlier qs ≡ [] → (i : ℕ) (q : ProcedureTree) → slice_get qs i ≡ Some q → IsFaultless all q
+pub faultless-at : (all earlier qs : List ProcedureTree) → procedures_faults all earlier qs ≡ [] → (i : ℕ) (q : ProcedureTree) →
+    slice_get qs i ≡ Some q → IsFaultless all q
 faultless-at all earlier [] e i q at = absurd cc
 faultless-at all earlier (p ∷ ps) e zero q at =
-    let h = (procedure-parts all earlier p (nil_both (procedure_faults all earlier p) (procedures_faults all (earlier ++ p ∷ []) ps) e).0).1 in
+    let h = (procedure-parts all earlier p (nil_both (procedure_faults all earlier p) (procedures_faults all (earlier ++ p ∷ []) ps) e).0).1
+    in
     let same : p ≡ q = cc in subst (IsFaultless all) same h
-faultless-at all earlier (p ∷ ps) e (suc i) q at = faultless-at all (earlier ++ p ∷ []) ps (nil_both (procedure_faults all earlier p) (procedures_faults all (earlier ++ p ∷ []) ps) e).1 i q at
+faultless-at all earlier (p ∷ ps) e (suc i) q at = faultless-at all (earlier ++ p ∷ []) ps
+    (nil_both (procedure_faults all earlier p) (procedures_faults all (earlier ++ p ∷ []) ps) e).1 i q at
 
 -- Names are apart
 
-number-append : (n : ℕ) (xs : List ProcedureTree) (y : ProcedureTree) (x : List ℕ) → is_some (number_from n (xs ++ y ∷ []) x) ≡ (is_some (number_from n xs x) || bytes_eq y.named.name x)
+number-append : (n : ℕ) (xs : List ProcedureTree) (y : ProcedureTree) (x : List ℕ) → is_some (number_from n (xs ++ y ∷ []) x)
+    ≡ (is_some (number_from n xs x) || bytes_eq y.named.name x)
 number-append n [] y x = elim (bytes_eq y.named.name x) as (λ b. is_some (if b then Some n else None) ≡ b) [ true ↦ refl | false ↦ refl ]
 number-append n (p ∷ ps) y x = go (bytes_eq p.named.name x) (number-append (n + 1) ps y x)
   where
     go : (b : Bool) → is_some (number_from (n + 1) (ps ++ y ∷ []) x) ≡ (is_some (number_from (n + 1) ps x) || bytes_eq y.named.name x) →
-        is_some (if b then Some n else number_from (n + 1) (ps ++ y ∷ []) x) ≡ (is_some (if b then Some n else number_from (n + 1) ps x) || bytes_eq y.named.name x)
+        is_some (if b then Some n else number_from (n + 1) (ps ++ y ∷ []) x) ≡ (is_some (if b then Some n else number_from (n + 1) ps x) ||
+        bytes_eq y.named.name x)
     go true h = refl
     go false h = h
 
 -- no earlier procedure has the name of one behind
-fresh : (all earlier qs : List ProcedureTree) → procedures_faults all earlier qs ≡ [] → (j : ℕ) (q : ProcedureTree) → slice_get qs j ≡ Some q → is_some (number_of earlier q.named.name) ≡ false
+fresh : (all earlier qs : List ProcedureTree) → procedures_faults all earlier qs ≡ [] → (j : ℕ) (q : ProcedureTree) → slice_get qs j
+    ≡ Some q → is_some (number_of earlier q.named.name) ≡ false
 fresh all earlier [] e j q at = absurd cc
 fresh all earlier (p ∷ ps) e zero q at =
-    let h = (procedure-parts all earlier p (nil_both (procedure_faults all earlier p) (procedures_faults all (earlier ++ p ∷ []) ps) e).0).0 in
+    let h = (procedure-parts all earlier p (nil_both (procedure_faults all earlier p) (procedures_faults all (earlier ++ p ∷ []) ps) e).0).0
+    in
     let same : p ≡ q = cc in
-    subst (λ (r : ProcedureTree). is_some (number_of earlier r.named.name) ≡ false) same (or_false (is_built_in p.named.name) (is_some (number_of earlier p.named.name)) h).1
+    subst (λ (r : ProcedureTree). is_some (number_of earlier r.named.name) ≡ false) same
+    (or_false (is_built_in p.named.name) (is_some (number_of earlier p.named.name)) h).1
 fresh all earlier (p ∷ ps) e (suc j) q at =
-    let ih = fresh all (earlier ++ p ∷ []) ps (nil_both (procedure_faults all earlier p) (procedures_faults all (earlier ++ p ∷ []) ps) e).1 j q at in
-    (or_false (is_some (number_of earlier q.named.name)) (bytes_eq p.named.name q.named.name) (sym (number-append 0 earlier p q.named.name) ∙ ih)).0
+    let ih = fresh all (earlier ++ p ∷ []) ps (nil_both (procedure_faults all earlier p) (procedures_faults all (earlier ++ p ∷ []) ps) e).1
+    j q at in
+    (or_false (is_some (number_of earlier q.named.name)) (bytes_eq p.named.name q.named.name) (sym (number-append 0 earlier p q.named.name)
+    ∙ ih)).0
 
-apart : (all earlier qs : List ProcedureTree) → procedures_faults all earlier qs ≡ [] → (i j : ℕ) (p q : ProcedureTree) → i < j → slice_get qs i ≡ Some p → slice_get qs j ≡ Some q → p.named.name ≡ q.named.name → ⊥
+apart : (all earlier qs : List ProcedureTree) → procedures_faults all earlier qs ≡ [] → (i j : ℕ) (p q : ProcedureTree) → i < j →
+    slice_get qs i ≡ Some p → slice_get qs j ≡ Some q → p.named.name ≡ q.named.name → ⊥
 apart all earlier [] e i j p q less at_i at_j same = cc
 apart all earlier (r ∷ rs) e zero zero p q less at_i at_j same = omega arith
 apart all earlier (r ∷ rs) e (suc i) zero p q less at_i at_j same = omega arith
 apart all earlier (r ∷ rs) e zero (suc j) p q less at_i at_j same =
     let rest = (nil_both (procedure_faults all earlier r) (procedures_faults all (earlier ++ r ∷ []) rs) e).1 in
     let new = fresh all (earlier ++ r ∷ []) rs rest j q at_j in
-    let other = (or_false (is_some (number_of earlier q.named.name)) (bytes_eq r.named.name q.named.name) (sym (number-append 0 earlier r q.named.name) ∙ new)).1 in
+    let other = (or_false (is_some (number_of earlier q.named.name)) (bytes_eq r.named.name q.named.name)
+    (sym (number-append 0 earlier r q.named.name) ∙ new)).1 in
     let first : r ≡ p = cc in
     let equal = (bytes_eq-Decides r.named.name q.named.name).1 (ap (λ (t : ProcedureTree). t.named.name) first ∙ same) in
     cc
 apart all earlier (r ∷ rs) e (suc i) (suc j) p q less at_i at_j same =
-    apart all (earlier ++ r ∷ []) rs (nil_both (procedure_faults all earlier r) (procedures_faults all (earlier ++ r ∷ []) rs) e).1 i j p q (omega arith) at_i at_j same
+    apart all (earlier ++ r ∷ []) rs (nil_both (procedure_faults all earlier r) (procedures_faults all (earlier ++ r ∷ []) rs) e).1 i j p q
+    (omega arith) at_i at_j same
 
 -- The procedures of the program
 
@@ -141,7 +159,8 @@ record IsLoweredAt (all : List ProcedureTree) (id : ℕ) (qs : List ProcedureTre
   high : first + length (asserts_in tree.body) ≤ id + length (asserts_in_file qs)
   made : p ≡ lowered_procedure all first tree
 
-lowered-at : (all : List ProcedureTree) (id : ℕ) (qs : List ProcedureTree) (i : ℕ) (p : PureProcedure) → slice_get (lowered_procedures all id qs) i ≡ Some p → IsLoweredAt all id qs i p
+lowered-at : (all : List ProcedureTree) (id : ℕ) (qs : List ProcedureTree) (i : ℕ) (p : PureProcedure) →
+    slice_get (lowered_procedures all id qs) i ≡ Some p → IsLoweredAt all id qs i p
 lowered-at all id [] i p at = absurd cc
 lowered-at all id (q ∷ qs) zero p at = record {
   tree = q;
@@ -163,9 +182,12 @@ lowered-at all id (q ∷ qs) (suc i) p at =
     }
 
 -- what a tree's procedure takes, its program's takes
-takes-lowered : (all : List ProcedureTree) (id : ℕ) (qs : List ProcedureTree) (i : ℕ) (q : ProcedureTree) → slice_get qs i ≡ Some q → takes (slice_get (lowered_procedures all id qs) i) (length q.params) ≡ true
+takes-lowered : (all : List ProcedureTree) (id : ℕ) (qs : List ProcedureTree) (i : ℕ) (q : ProcedureTree) → slice_get qs i ≡ Some q →
+    takes (slice_get (lowered_procedures all id qs) i) (length q.params) ≡ true
 takes-lowered all id [] i q at = absurd cc
-takes-lowered all id (p ∷ ps) zero q at = let same : p ≡ q = cc in subst (λ (r : ProcedureTree). (length p.params == length r.params) ≡ true) same (grind (arith, nat_tests))
+takes-lowered all id (p ∷ ps) zero q at = let same : p ≡ q = cc in subst (λ (r : ProcedureTree). (length p.params == length r.params)
+    ≡ true)
+    same (grind (arith, nat_tests))
 takes-lowered all id (p ∷ ps) (suc i) q at = takes-lowered all (id + length (asserts_in p.body)) ps i q at
 
 -- a procedure found by its name
@@ -176,17 +198,26 @@ record IsFound (qs : List ProcedureTree) (x : List ℕ) (from n : ℕ) : Type 0 
   there : slice_get qs place ≡ Some tree
   named : bytes_eq tree.named.name x ≡ true
 
-found-later : (p : ProcedureTree) (qs : List ProcedureTree) (x : List ℕ) (from n : ℕ) → IsFound qs x (from + 1) n → IsFound (p ∷ qs) x from n
-found-later p qs x from n h = record { tree = h.tree; place = suc h.place; number = (let m = h.number in omega arith); there = h.there; named = h.named }
+found-later : (p : ProcedureTree) (qs : List ProcedureTree) (x : List ℕ) (from n : ℕ) → IsFound qs x (from + 1) n →
+    IsFound (p ∷ qs) x from n
+found-later p qs x from n h = record {
+  tree = h.tree;
+  place = suc h.place;
+  number = (let m = h.number in omega arith);
+  there = h.there;
+  named = h.named;
+}
 
-found-here : (p : ProcedureTree) (qs : List ProcedureTree) (x : List ℕ) (from n : ℕ) → bytes_eq p.named.name x ≡ true → from ≡ n → IsFound (p ∷ qs) x from n
+found-here : (p : ProcedureTree) (qs : List ProcedureTree) (x : List ℕ) (from n : ℕ) → bytes_eq p.named.name x ≡ true → from ≡ n →
+    IsFound (p ∷ qs) x from n
 found-here p qs x from n named e = record { tree = p; place = zero; number = omega arith; there = refl; named = named }
 
 number-found : (from : ℕ) (qs : List ProcedureTree) (x : List ℕ) (n : ℕ) → number_from from qs x ≡ Some n → IsFound qs x from n
 number-found from [] x n e = absurd cc
 number-found from (p ∷ ps) x n e = go (bytes_eq p.named.name x) refl e (number-found (from + 1) ps x n)
   where
-    go : (b : Bool) → bytes_eq p.named.name x ≡ b → (if b then Some from else number_from (from + 1) ps x) ≡ Some n → (number_from (from + 1) ps x ≡ Some n → IsFound ps x (from + 1) n) → IsFound (p ∷ ps) x from n
+    go : (b : Bool) → bytes_eq p.named.name x ≡ b → (if b then Some from else number_from (from + 1) ps x) ≡ Some n →
+        (number_from (from + 1) ps x ≡ Some n → IsFound ps x (from + 1) n) → IsFound (p ∷ ps) x from n
     go true named e h = found-here p ps x from n named cc
     go false named e h = found-later p ps x from n (h e)
 
@@ -194,29 +225,36 @@ record IsCallee (qs : List ProcedureTree) (x : List ℕ) (from n params : ℕ) :
   found : IsFound qs x from n
   takes_so_many : length found.tree.params ≡ params
 
-callee-found : (from : ℕ) (qs : List ProcedureTree) (x : List ℕ) (n params : ℕ) (void : Bool) → defined_from from qs x ≡ defined n params void → IsCallee qs x from n params
+callee-found : (from : ℕ) (qs : List ProcedureTree) (x : List ℕ) (n params : ℕ) (void : Bool) → defined_from from qs x ≡ defined n params
+    void → IsCallee qs x from n params
 unfolding found-later found-here
 callee-found from [] x n params void e = absurd cc
 callee-found from (p ∷ ps) x n params void e = go (bytes_eq p.named.name x) refl e (callee-found (from + 1) ps x n params void)
   where
-    go : (b : Bool) → bytes_eq p.named.name x ≡ b → (if b then defined from (length p.params) p.void else defined_from (from + 1) ps x) ≡ defined n params void →
+    go : (b : Bool) → bytes_eq p.named.name x ≡ b → (if b then defined from (length p.params) p.void else defined_from (from + 1) ps x)
+        ≡ defined n params void →
         (defined_from (from + 1) ps x ≡ defined n params void → IsCallee ps x (from + 1) n params) → IsCallee (p ∷ ps) x from n params
     go true named e h = record { found = found-here p ps x from n named cc; takes_so_many = cc }
     go false named e h = let later = h e in record { found = found-later p ps x from n later.found; takes_so_many = later.takes_so_many }
 
-defined-callee : (ps : List ProcedureTree) (x : List ℕ) (n params : ℕ) (void : Bool) → callee_of ps x ≡ defined n params void → defined_from 0 ps x ≡ defined n params void
+defined-callee : (ps : List ProcedureTree) (x : List ℕ) (n params : ℕ) (void : Bool) → callee_of ps x ≡ defined n params void →
+    defined_from 0 ps x ≡ defined n params void
 defined-callee ps x n params void e = go (is_input x) (is_assume x) (is_assert x) e
   where
-    go : (a b c : Bool) → (if a then input else (if b then assume else (if c then assert else defined_from 0 ps x))) ≡ defined n params void → defined_from 0 ps x ≡ defined n params void
+    go : (a b c : Bool) → (if a then input else (if b then assume else (if c then assert else defined_from 0 ps x))) ≡ defined n params
+        void →
+        defined_from 0 ps x ≡ defined n params void
     go true b c e = absurd cc
     go false true c e = absurd cc
     go false false true e = absurd cc
     go false false false e = e
 
-main-found : (is : List FileItem) → DefinesMain is → IsFound (procedures_of is) (codes "main") 0 (unwrap_or (number_of (procedures_of is) (codes "main")) 0)
+main-found : (is : List FileItem) → DefinesMain is → IsFound (procedures_of is) (codes "main") 0
+    (unwrap_or (number_of (procedures_of is) (codes "main")) 0)
 main-found is h = go (number_of (procedures_of is) (codes "main")) refl h
   where
-    go : (o : Option ℕ) → number_of (procedures_of is) (codes "main") ≡ o → IsSome o → IsFound (procedures_of is) (codes "main") 0 (unwrap_or o 0)
+    go : (o : Option ℕ) → number_of (procedures_of is) (codes "main") ≡ o → IsSome o → IsFound (procedures_of is) (codes "main") 0
+        (unwrap_or o 0)
     go None e s = absurd cc
     go (Some n) e s = number-found 0 (procedures_of is) (codes "main") n e
 
@@ -227,7 +265,8 @@ calls-fit is main = record {
       let c = callee-found 0 ps x n params void (defined-callee ps x n params void e) in
       let at : c.found.place ≡ n = let m = c.found.number in omega arith in
       let t = takes-lowered ps 0 ps c.found.place c.found.tree c.found.there in
-      subst (λ k. takes (slice_get (lowered_procedures ps 0 ps) k) params ≡ true) at (subst (λ k. takes (slice_get (lowered_procedures ps 0 ps) c.found.place) k ≡ true) c.takes_so_many t);
+      subst (λ k. takes (slice_get (lowered_procedures ps 0 ps) k) params ≡ true) at
+      (subst (λ k. takes (slice_get (lowered_procedures ps 0 ps) c.found.place) k ≡ true) c.takes_so_many t);
   not_main = λ x n params void e other.
       let ps = procedures_of is in
       let m = unwrap_or (number_of ps (codes "main")) 0 in
@@ -238,8 +277,10 @@ calls-fit is main = record {
         | true ↦ λ same. absurd (
             let equal : n ≡ m = eqb-same n m same in
             let place : c.found.place ≡ f.place = let a = c.found.number in let b = f.number in omega arith in
-            let tree : c.found.tree ≡ f.tree = let some : Some c.found.tree ≡ Some f.tree = sym c.found.there ∙ ap (slice_get ps) place ∙ f.there in cc in
-            let name : x ≡ codes "main" = sym ((bytes_eq-Decides c.found.tree.named.name x).0 c.found.named) ∙ ap (λ (t : ProcedureTree). t.named.name) tree ∙ (bytes_eq-Decides f.tree.named.name (codes "main")).0 f.named in
+            let tree : c.found.tree ≡ f.tree = let some : Some c.found.tree ≡ Some f.tree = sym c.found.there ∙ ap (slice_get ps) place
+            ∙ f.there in cc in
+            let name : x ≡ codes "main" = sym ((bytes_eq-Decides c.found.tree.named.name x).0 c.found.named)
+            ∙ ap (λ (t : ProcedureTree). t.named.name) tree ∙ (bytes_eq-Decides f.tree.named.name (codes "main")).0 f.named in
             let yes_main : is_main x ≡ true = (bytes_eq-Decides x (codes "main")).1 name in
             cc)
       ] refl;
@@ -254,7 +295,8 @@ pub record AreSmall (ps : List ProcedureTree) : Type 0 where
 none-below : (n : ℕ) → Below ([] ∷ []) n
 none-below n = record { below = λ x s e. absurd cc }
 
-procedure-sound : (is : List FileItem) → DefinesMain is → (p : ProcedureTree) (first : ℕ) → IsFaultless (procedures_of is) p → first + length (asserts_in p.body) ≤ length (assert_places 0 (procedures_of is)) →
+procedure-sound : (is : List FileItem) → DefinesMain is → (p : ProcedureTree) (first : ℕ) → IsFaultless (procedures_of is) p →
+    first + length (asserts_in p.body) ≤ length (assert_places 0 (procedures_of is)) →
     statement_trees_nodes p.body ≤ 8000 → is_well_formed_procedure (lowered_file is) (lowered_procedure (procedures_of is) first p) ≡ true
 procedure-sound is main p first h few small =
     let ps = procedures_of is in
@@ -264,14 +306,18 @@ procedure-sound is main p first h few small =
     let parts = length-append p.params (declared_in p.body) in
     let b_few : length (variables_of p) ≤ 24 = h.few_variables in
     let low : Below (parameter_scope p) slots = below-names ([] ∷ []) slots 0 p.params (none-below slots) (omega arith) in
-    let sound = statements-sound P ps slots (calls-fit is main) p.void false (parameter_scope p) (length p.params) first p.body low (omega arith) few h.body in
-    let size : statements_nodes body ≤ 8000 = omega (arith, lowered_statements-nodes ps (parameter_scope p) (length p.params) first p.body) in
+    let sound = statements-sound P ps slots (calls-fit is main) p.void false (parameter_scope p) (length p.params) first p.body low
+    (omega arith) few h.body in
+    let size : statements_nodes body ≤ 8000 = omega (arith, lowered_statements-nodes ps (parameter_scope p) (length p.params) first p.body)
+    in
     let a = nat_le (length p.params) 8 in
     let b = nat_le (length p.params) slots in
     let c = nat_le slots 24 in
     let d = all_well_scoped P slots false body in
     both (a && b && c && d) (nat_le (statements_nodes body) 8000)
-    (both (a && b && c) d (both (a && b) c (both a b (le-leb (length p.params) 8 h.few_params) (le-leb (length p.params) slots (omega arith))) (le-leb slots 24 b_few)) sound)
+    (both (a && b && c) d
+    (both (a && b) c (both a b (le-leb (length p.params) 8 h.few_params) (le-leb (length p.params) slots (omega arith)))
+    (le-leb slots 24 b_few)) sound)
     (le-leb (statements_nodes body) 8000 size)
 
 -- Each assertion stands once
@@ -279,7 +325,9 @@ procedure-sound is main p first h few small =
 pub length-places : (proc : ℕ) (ps : List ProcedureTree) → length (assert_places proc ps) ≡ length (asserts_in_file ps)
 length-places proc [] = refl
 length-places proc (p ∷ ps) =
-    length-append (map (λ at. record { at = at; proc = proc }) (asserts_in p.body)) (assert_places (proc + 1) ps) ∙ ap (λ n. n + length (assert_places (proc + 1) ps)) (length-mapped (asserts_in p.body)) ∙ ap (λ n. length (asserts_in p.body) + n) (length-places (proc + 1) ps)
+    length-append (map (λ at. record { at = at; proc = proc }) (asserts_in p.body)) (assert_places (proc + 1) ps)
+    ∙ ap (λ n. n + length (assert_places (proc + 1) ps)) (length-mapped (asserts_in p.body)) ∙ ap (λ n. length (asserts_in p.body) + n)
+    (length-places (proc + 1) ps)
     ∙ sym (length-append (asserts_in p.body) (asserts_in_file ps))
   where
     length-mapped : (xs : List Pos) → length (map (λ (at : Pos). let a : AssertPlace = record { at = at; proc = proc } in a) xs) ≡ length xs
@@ -293,13 +341,16 @@ count-numbered : (id : ℕ) (xs : List Pos) (k : ℕ) → ((k < id) ⊎ (id + le
 count-numbered id [] k h = refl
 count-numbered id (x ∷ xs) k h =
     let off : (id == k) ≡ false = grind (arith, nat_tests) in
-    count-cons k id (numbered (id + 1) xs) ∙ ap (λ b. cond b 1 0 + count_by (λ i. i == k) (numbered (id + 1) xs)) off ∙ zero-add (count_by (λ i. i == k) (numbered (id + 1) xs)) ∙ count-numbered (id + 1) xs k (elim h [ inl l ↦ inl (omega arith) | inr g ↦ inr (omega arith) ])
+    count-cons k id (numbered (id + 1) xs) ∙ ap (λ b. cond b 1 0 + count_by (λ i. i == k) (numbered (id + 1) xs)) off
+    ∙ zero-add (count_by (λ i. i == k) (numbered (id + 1) xs)) ∙ count-numbered (id + 1) xs k
+    (elim h [ inl l ↦ inl (omega arith) | inr g ↦ inr (omega arith) ])
 
 count-once : (id : ℕ) (xs : List Pos) (k : ℕ) → id ≤ k → k < id + length xs → count_by (λ i. i == k) (numbered id xs) ≡ 1
 count-once id [] k low high = absurd (omega arith)
 count-once id (x ∷ xs) k low high = count-cons k id (numbered (id + 1) xs) ∙ go (id == k) refl (count-once (id + 1) xs k)
   where
-    go : (b : Bool) → (id == k) ≡ b → (id + 1 ≤ k → k < id + 1 + length xs → count_by (λ i. i == k) (numbered (id + 1) xs) ≡ 1) → cond b 1 0 + count_by (λ i. i == k) (numbered (id + 1) xs) ≡ 1
+    go : (b : Bool) → (id == k) ≡ b → (id + 1 ≤ k → k < id + 1 + length xs → count_by (λ i. i == k) (numbered (id + 1) xs) ≡ 1) → cond b 1 0
+        + count_by (λ i. i == k) (numbered (id + 1) xs) ≡ 1
     go true e h = let same : id ≡ k = eqb-same id k e in omega (arith, count-numbered (id + 1) xs k (inl (omega arith)))
     go false e h = let apart : id < k = grind (arith, nat_tests) in omega (arith, h (omega arith) (omega arith))
 
@@ -315,9 +366,14 @@ record IsPlaced (proc : ℕ) (qs : List ProcedureTree) (j : ℕ) (a : AssertPlac
 abbrev places : ℕ → List Pos → List AssertPlace
 places proc xs = map (λ (at : Pos). record { at = at; proc = proc }) xs
 
-split-places : (proc : ℕ) (xs : List Pos) (ys : List AssertPlace) (j : ℕ) (a : AssertPlace) → slice_get (places proc xs ++ ys) j ≡ Some a → ((j < length xs) × (a.proc ≡ proc)) ⊎ ((k : ℕ) × (j ≡ length xs + k) × (slice_get ys k ≡ Some a))
+split-places : (proc : ℕ) (xs : List Pos) (ys : List AssertPlace) (j : ℕ) (a : AssertPlace) → slice_get (places proc xs ++ ys) j ≡ Some a →
+    ((j < length xs) × (a.proc ≡ proc)) ⊎ ((k : ℕ) × (j ≡ length xs + k) × (slice_get ys k ≡ Some a))
 split-places proc [] ys j a e = inr (j, omega arith, e)
-split-places proc (x ∷ xs) ys zero a e = inl (omega arith, let here : Some (let p : AssertPlace = record { at = x; proc = proc } in p) ≡ Some a = e in proc_same x a here)
+split-places proc (x ∷ xs) ys zero a e = inl (
+  omega arith,
+  let here : Some (let p : AssertPlace = record { at = x; proc = proc } in p)
+      ≡ Some a = e in proc_same x a here,
+)
   where
     proc_same : (x : Pos) (a : AssertPlace) → Some (let p : AssertPlace = record { at = x; proc = proc } in p) ≡ Some a → a.proc ≡ proc
     proc_same x a e = sym (ap (λ (o : Option AssertPlace). elim o as (λ _. ℕ) [ None ↦ 0 | Some p ↦ p.proc ]) e)
@@ -326,10 +382,19 @@ split-places proc (x ∷ xs) ys (suc j) a e = elim (split-places proc xs ys j a 
   | inr later ↦ inr (later.0, let l = later.1 in omega arith, later.2)
 ]
 
-placed-at : (proc : ℕ) (qs : List ProcedureTree) (j : ℕ) (a : AssertPlace) → slice_get (assert_places proc qs) j ≡ Some a → IsPlaced proc qs j a
+placed-at : (proc : ℕ) (qs : List ProcedureTree) (j : ℕ) (a : AssertPlace) → slice_get (assert_places proc qs) j ≡ Some a →
+    IsPlaced proc qs j a
 placed-at proc [] j a e = absurd cc
 placed-at proc (q ∷ qs) j a e = elim (split-places proc (asserts_in q.body) (assert_places (proc + 1) qs) j a e) [
-  | inl here ↦ record { tree = q; at = 0; there = refl; proc_is = here.1 ∙ omega arith; low = omega arith; high = let l = here.0 in omega arith }
+  | inl here ↦ record {
+    tree = q;
+    at = 0;
+    there = refl;
+    proc_is = here.1 ∙ omega arith;
+    low = omega arith;
+    high = let l = here.0 in
+        omega arith;
+  }
   | inr later ↦ next later.0 later.1 (placed-at (proc + 1) qs later.0 a later.2)
 ]
   where
@@ -343,7 +408,8 @@ placed-at proc (q ∷ qs) j a e = elim (split-places proc (asserts_in q.body) (a
       high = let l = h.high in omega arith;
     }
 
-offset-below : (qs : List ProcedureTree) (i k : ℕ) (q r : ProcedureTree) → i < k → slice_get qs i ≡ Some q → slice_get qs k ≡ Some r → offset qs i + length (asserts_in q.body) ≤ offset qs k
+offset-below : (qs : List ProcedureTree) (i k : ℕ) (q r : ProcedureTree) → i < k → slice_get qs i ≡ Some q → slice_get qs k ≡ Some r →
+    offset qs i + length (asserts_in q.body) ≤ offset qs k
 offset-below [] i k q r less at_i at_k = absurd cc
 offset-below (p ∷ ps) zero zero q r less at_i at_k = omega arith
 offset-below (p ∷ ps) (suc i) zero q r less at_i at_k = omega arith
@@ -353,20 +419,26 @@ offset-below (p ∷ ps) zero (suc k) q r less at_i at_k =
     omega arith
 offset-below (p ∷ ps) (suc i) (suc k) q r less at_i at_k = let ih = offset-below ps i k q r (omega arith) at_i at_k in omega arith
 
-once : (all qs : List ProcedureTree) → ((i : ℕ) (q : ProcedureTree) → slice_get qs i ≡ Some q → IsFaultless all q) → (k i : ℕ) (a : AssertPlace) (p : PureProcedure) → slice_get (assert_places 0 qs) k ≡ Some a →
+once : (all qs : List ProcedureTree) → ((i : ℕ) (q : ProcedureTree) → slice_get qs i ≡ Some q → IsFaultless all q) →
+    (k i : ℕ) (a : AssertPlace) (p : PureProcedure) → slice_get (assert_places 0 qs) k ≡ Some a →
     slice_get (lowered_procedures all 0 qs) i ≡ Some p → count_by (λ id. id == k) (asserted_in p.body) ≡ (if i == a.proc then 1 else 0)
 once all qs sound k i a p at_k at_i =
     let l = lowered-at all 0 qs i p at_i in
     let w = placed-at 0 qs k a at_k in
-    let numbers = statements-numbers all l.tree.void false (parameter_scope l.tree) (length l.tree.params) l.first l.tree.body (sound i l.tree l.there).body in
-    ap (λ (t : PureProcedure). count_by (λ id. id == k) (asserted_in t.body)) l.made ∙ ap (λ is. count_by (λ id. id == k) is) numbers ∙ go l w (i == a.proc) refl
+    let numbers = statements-numbers all l.tree.void false (parameter_scope l.tree) (length l.tree.params) l.first l.tree.body
+    (sound i l.tree l.there).body in
+    ap (λ (t : PureProcedure). count_by (λ id. id == k) (asserted_in t.body)) l.made ∙ ap (λ is. count_by (λ id. id == k) is) numbers
+    ∙ go l w (i == a.proc) refl
   where
-    go : (l : IsLoweredAt all 0 qs i p) (w : IsPlaced 0 qs k a) (b : Bool) → (i == a.proc) ≡ b → count_by (λ id. id == k) (numbered l.first (asserts_in l.tree.body)) ≡ (if b then 1 else 0)
+    go : (l : IsLoweredAt all 0 qs i p) (w : IsPlaced 0 qs k a) (b : Bool) → (i == a.proc) ≡ b →
+        count_by (λ id. id == k) (numbered l.first (asserts_in l.tree.body)) ≡ (if b then 1 else 0)
     go l w true e =
         let same : i ≡ w.at = let s = eqb-same i a.proc e in let t = w.proc_is in omega arith in
         let some : Some l.tree ≡ Some w.tree = sym l.there ∙ ap (slice_get qs) same ∙ w.there in
         let tree : l.tree ≡ w.tree = cc in
-        let lengths : length (asserts_in l.tree.body) ≡ length (asserts_in w.tree.body) = ap (λ (t : ProcedureTree). length (asserts_in t.body)) tree in
+        let lengths : length (asserts_in l.tree.body) ≡ length (asserts_in w.tree.body) =
+        ap (λ (t : ProcedureTree). length (asserts_in t.body))
+        tree in
         let offsets : offset qs i ≡ offset qs w.at = ap (offset qs) same in
         let a = l.place in
         let b = w.low in
@@ -395,8 +467,12 @@ well_formed is e main small =
     let a = nil_both (prototypes_faults ps is) (procedures_faults ps [] ps ++ (procs ++ asserts)) e in
     let b = nil_both (procedures_faults ps [] ps) (procs ++ asserts) a.1 in
     let c = nil_both procs asserts b.1 in
-    let few_ps : length ps ≤ 64 = few ps 64 (no_procedure_place (slice_get ps 64) (no_limit Procedures (procedure_place (slice_get ps 64)) c.0)) in
-    let few_as : length (asserts_in_file ps) ≤ 64 = few (asserts_in_file ps) 64 (no_limit Assertions (slice_get (asserts_in_file ps) 64) c.1) in
+    let few_ps : length ps ≤ 64 = few ps 64 (no_procedure_place (slice_get ps 64) (no_limit Procedures (procedure_place (slice_get ps 64))
+    c.0))
+    in
+    let few_as : length (asserts_in_file ps) ≤ 64 = few (asserts_in_file ps) 64 (no_limit Assertions (slice_get (asserts_in_file ps) 64)
+    c.1)
+    in
     let f = main-found is main in
     let m = unwrap_or (number_of ps (codes "main")) 0 in
     let at : f.place ≡ m = let n = f.number in omega arith in
@@ -404,20 +480,24 @@ well_formed is e main small =
     let none : length f.tree.params ≡ 0 = (sound f.place f.tree f.there).main_shape f.named in
     record {
       few_procedures = omega (arith, length-lowered ps 0 ps);
-      main_takes_none = subst (λ k. takes (slice_get P.procedures k) 0 ≡ true) at (subst (λ k. takes (slice_get P.procedures f.place) k ≡ true) none (takes-lowered ps 0 ps f.place f.tree f.there));
+      main_takes_none = subst (λ k. takes (slice_get P.procedures k) 0 ≡ true) at
+          (subst (λ k. takes (slice_get P.procedures f.place) k ≡ true) none (takes-lowered ps 0 ps f.place f.tree f.there));
       names_apart = λ i j p q less at_i at_j same.
           let x = lowered-at ps 0 ps i p at_i in
           let y = lowered-at ps 0 ps j q at_j in
-          apart ps [] ps b.0 i j x.tree y.tree less x.there y.there (sym (ap (λ (r : PureProcedure). r.name) x.made) ∙ same ∙ ap (λ (r : PureProcedure). r.name) y.made);
+          apart ps [] ps b.0 i j x.tree y.tree less x.there y.there (sym (ap (λ (r : PureProcedure). r.name) x.made) ∙ same
+          ∙ ap (λ (r : PureProcedure). r.name) y.made);
       procedures_well_formed = λ i p at_i.
           let x = lowered-at ps 0 ps i p at_i in
           let h = sound i x.tree x.there in
           subst (λ (r : PureProcedure). is_well_formed_procedure P r ≡ true) (sym x.made)
-          (procedure-sound is main x.tree x.first h (let up = x.high in omega (arith, length-places 0 ps)) (small.small i x.tree x.there h.short));
+          (procedure-sound is main x.tree x.first h (let up = x.high in omega (arith, length-places 0 ps))
+          (small.small i x.tree x.there h.short));
       products_linear = λ i p at_i.
           let x = lowered-at ps 0 ps i p at_i in
           let h = sound i x.tree x.there in
-          subst (λ (r : PureProcedure). all_linear r.body ≡ true) (sym x.made) (statements-linear ps x.tree.void false (parameter_scope x.tree) (length x.tree.params) x.first x.tree.body h.body);
+          subst (λ (r : PureProcedure). all_linear r.body ≡ true) (sym x.made)
+          (statements-linear ps x.tree.void false (parameter_scope x.tree) (length x.tree.params) x.first x.tree.body h.body);
       few_asserts = omega (arith, length-places 0 ps);
       asserts_placed = λ k a at_k.
           let w = placed-at 0 ps k a at_k in

@@ -52,9 +52,13 @@ not_before-two (Some g) x f h = go (is_before x g) refl h
     go false e h = (h, λ x_first. before-between x f g x_first (is_before-false x g e) h)
 
 -- and none of the others is before it
-pub least-first : (best : Option Fault) (xs : List Fault) (f : Fault) → least_from best xs ≡ Some f → NotBefore best f × ((g : Fault) → Contains xs g → IsBefore g f → ⊥)
+pub least-first : (best : Option Fault) (xs : List Fault) (f : Fault) → least_from best xs ≡ Some f → NotBefore best f
+    × ((g : Fault) → Contains xs g → IsBefore g f → ⊥)
 least-first None [] f e = absurd cc
-least-first (Some b) [] f e = (let same : b ≡ f = cc in subst (λ y. IsBefore b y → ⊥) same (before-irrefl b), λ g h. absurd (let w = h.1 in omega arith))
+least-first (Some b) [] f e = (
+  let same : b ≡ f = cc in subst (λ y. IsBefore b y → ⊥) same (before-irrefl b),
+  λ g h. absurd (let w = h.1 in omega arith),
+)
 least-first best (x ∷ xs) f e =
     let ih = least-first (Some (first_of_two best x)) xs f e in
     let two = not_before-two best x f ih.0 in
@@ -81,7 +85,8 @@ least-is_first is f e = record {
 }
 
 -- what is in a list and behind none of it is the least
-pub least-only : (xs : List Fault) (f : Fault) → Contains xs f → ((g : Fault) → Contains xs g → IsBefore g f → ⊥) → least_from None xs ≡ Some f
+pub least-only : (xs : List Fault) (f : Fault) → Contains xs f → ((g : Fault) → Contains xs g → IsBefore g f → ⊥) → least_from None xs
+    ≡ Some f
 least-only xs f there first = go (least_from None xs) refl
   where
     go : (o : Option Fault) → least_from None xs ≡ o → least_from None xs ≡ Some f
@@ -94,17 +99,28 @@ pub first-is_least : (is : List FileItem) (f : Fault) → IsFirstOf is f → lea
 first-is_least is f h = least-only (all_faults is) f h.there h.first
 
 -- the order in which two lists are told doesn't matter
-pub least-same : (xs ys : List Fault) → ((f : Fault) → Contains xs f → Contains ys f) → ((f : Fault) → Contains ys f → Contains xs f) → least_from None xs ≡ least_from None ys
+pub least-same : (xs ys : List Fault) → ((f : Fault) → Contains xs f → Contains ys f) → ((f : Fault) → Contains ys f → Contains xs f) →
+    least_from None xs ≡ least_from None ys
 least-same xs ys there back = go (least_from None xs) refl
   where
     go : (o : Option Fault) → least_from None xs ≡ o → least_from None xs ≡ least_from None ys
-    go None e = e ∙ sym (ap (least_from None) (elim ys as (λ zs. ((f : Fault) → Contains zs f → Contains xs f) → zs ≡ []) [ [] ↦ λ _. refl | z ∷ zs ↦ λ b. absurd (let h = b z (contains-here z zs) in let none : length xs ≡ 0 = ap length (least-none xs e) in let within = h.1 in omega arith) ] back))
+    go None e = e ∙ sym
+        (ap (least_from None) (elim ys as (λ zs. ((f : Fault) → Contains zs f → Contains xs f) → zs ≡ []) [
+          | [] ↦ λ _. refl
+          | z ∷ zs ↦
+              λ b. absurd (let h = b z (contains-here z zs) in let none : length xs ≡ 0 = ap length (least-none xs e) in let within = h.1 in
+              omega arith)
+        ] back))
     go (Some f) e =
         let in_list : Contains xs f = elim (least-there None xs f e) [ inl h ↦ absurd cc | inr h ↦ h ] in
         e ∙ sym (least-only ys f (there f in_list) (λ g h. (least-first None xs f e).1 g (back g h)))
 
 swap-contains : (xs ys : List Fault) (f : Fault) → Contains (xs ++ ys) f → Contains (ys ++ xs) f
-swap-contains xs ys f h = elim (Contains-append_cases xs ys f h) [ inl l ↦ Contains-append_right ys xs f l | inr r ↦ Contains-append_left ys xs f r ]
+swap-contains xs ys f h = elim (Contains-append_cases xs ys f h) [
+  | inl l ↦ Contains-append_right ys xs f l
+  | inr r ↦
+      Contains-append_left ys xs f r
+]
 
 swap-behind : (g : Fault) (xs ys : List Fault) (f : Fault) → Contains (g ∷ (xs ++ ys)) f → Contains (g ∷ (ys ++ xs)) f
 swap-behind g xs ys f h = elim (contains-cases g f (xs ++ ys) h) [

@@ -21,7 +21,8 @@ or_right true b e = refl
 or_right false b e = e
 
 -- a product with a constant side still has one where what was constant is so
-constant_side : (p a b x y : Bool) → (p && not_bool (a || b)) ≡ false → (a ≡ true → x ≡ true) → (b ≡ true → y ≡ true) → (not_bool p || x || y) ≡ true
+constant_side : (p a b x y : Bool) → (p && not_bool (a || b)) ≡ false → (a ≡ true → x ≡ true) → (b ≡ true → y ≡ true) →
+    (not_bool p || x || y) ≡ true
 constant_side false a b x y e left right = refl
 constant_side true true b x y e left right = ap (λ z. z || y) (left refl)
 constant_side true false true x y e left right = or_right x y (right refl)
@@ -29,7 +30,8 @@ constant_side true false false x y e left right = absurd cc
 
 all_linear-joined : (xs ys : Statements) → all_linear xs ≡ true → all_linear ys ≡ true → all_linear (joined xs ys) ≡ true
 all_linear-joined program.no_statements ys p q = q
-all_linear-joined (program.statement x xs) ys p q = let h = both_true (runs_linear x) (all_linear xs) p in both (runs_linear x) (all_linear (joined xs ys)) h.0 (all_linear-joined xs ys h.1 q)
+all_linear-joined (program.statement x xs) ys p q = let h = both_true (runs_linear x) (all_linear xs) p in
+    both (runs_linear x) (all_linear (joined xs ys)) h.0 (all_linear-joined xs ys h.1 q)
 
 call-linear : (c : Callee) (es : Expressions) → are_linear es ≡ true → is_linear (lowered_call c es) ≡ true
 call-linear input es h = refl
@@ -60,7 +62,8 @@ module _ (ps : List ProcedureTree) where
   constant-lowered ss (binary o at a b) h =
       let p = both_true (is_arithmetic o && is_constant_tree a) (is_constant_tree b) h in
       let q = both_true (is_arithmetic o) (is_constant_tree a) p.0 in
-      both (is_arithmetic o && is_constant (lowered ps ss a)) (is_constant (lowered ps ss b)) (both (is_arithmetic o) (is_constant (lowered ps ss a)) q.0 (constant-lowered ss a q.1)) (constant-lowered ss b p.1)
+      both (is_arithmetic o && is_constant (lowered ps ss a)) (is_constant (lowered ps ss b))
+      (both (is_arithmetic o) (is_constant (lowered ps ss a)) q.0 (constant-lowered ss a q.1)) (constant-lowered ss b p.1)
 
   mutual
     expression-linear : (ss : List Scope) (e : ExpressionTree) → expression_faults ps ss e ≡ [] → is_linear (lowered ps ss e) ≡ true
@@ -78,7 +81,8 @@ module _ (ps : List ProcedureTree) where
         let q = nil_both (expression_faults ps ss a) (expression_faults ps ss b) p.1 in
         let x = lowered ps ss a in
         let y = lowered ps ss b in
-        let side = constant_side (is_product o) (is_constant_tree a) (is_constant_tree b) (is_constant x) (is_constant y) (no_fault wrong NotLinear at p.0) (constant-lowered ss a) (constant-lowered ss b) in
+        let side = constant_side (is_product o) (is_constant_tree a) (is_constant_tree b) (is_constant x) (is_constant y)
+        (no_fault wrong NotLinear at p.0) (constant-lowered ss a) (constant-lowered ss b) in
         let one = not_bool (is_product o) || is_constant x || is_constant y in
         both (one && is_linear x) (is_linear y) (both one (is_linear x) side (expression-linear ss a q.0)) (expression-linear ss b q.1)
 
@@ -96,18 +100,21 @@ module _ (ps : List ProcedureTree) where
   test-linear ss None h = refl
   test-linear ss (Some e) h = expression-linear ss e h
 
-  result-linear : (ss : List Scope) (o : Option ExpressionTree) → optional_faults ps ss o ≡ [] → returns_linear (lowered_result ps ss o) ≡ true
+  result-linear : (ss : List Scope) (o : Option ExpressionTree) → optional_faults ps ss o ≡ [] → returns_linear (lowered_result ps ss o)
+      ≡ true
   result-linear ss None h = refl
   result-linear ss (Some e) h = expression-linear ss e h
 
-  simple-linear : (ss : List Scope) (id : ℕ) (s : SimpleStatement) → simple_faults ps ss s ≡ [] → runs_linear (lowered_simple ps ss id s) ≡ true
+  simple-linear : (ss : List Scope) (id : ℕ) (s : SimpleStatement) → simple_faults ps ss s ≡ [] → runs_linear (lowered_simple ps ss id s)
+      ≡ true
   simple-linear ss id (set n e) h = expression-linear ss e (nil_both (name_faults ss n) (expression_faults ps ss e) h).1
   simple-linear ss id (change o at n e) h =
       let wrong = is_product o && not_bool (is_constant_tree e) in
       let q = nil_both (name_faults ss n) (fault_if wrong NotLinear at ++ expression_faults ps ss e) h in
       let r = nil_both (fault_if wrong NotLinear at) (expression_faults ps ss e) q.1 in
       let x = lowered ps ss e in
-      let side = constant_side (is_product o) false (is_constant_tree e) false (is_constant x) (no_fault wrong NotLinear at r.0) (λ never. never) (constant-lowered ss e) in
+      let side = constant_side (is_product o) false (is_constant_tree e) false (is_constant x) (no_fault wrong NotLinear at r.0)
+      (λ never. never) (constant-lowered ss e) in
       let one = not_bool (is_product o) || false || is_constant x in
       both (one && true) (is_linear x) (both one true side refl) (expression-linear ss e r.1)
   simple-linear ss id (add_one n) h = refl
@@ -116,28 +123,39 @@ module _ (ps : List ProcedureTree) where
       let p = nil_both (callee_faults (callee_of ps n.name) n (argument_count es) false) (arguments_faults ps ss es) h in
       called-linear (callee_of ps n.name) id (lowered_all ps ss es) (arguments-linear ss es p.1)
 
-  step-linear : (ss : List Scope) (id : ℕ) (s : Option SimpleStatement) → step_faults ps ss s ≡ [] → runs_linear (lowered_step ps ss id s) ≡ true
+  step-linear : (ss : List Scope) (id : ℕ) (s : Option SimpleStatement) → step_faults ps ss s ≡ [] → runs_linear (lowered_step ps ss id s)
+      ≡ true
   step-linear ss id None h = refl
   step-linear ss id (Some s) h = simple-linear ss id s h
 
-  declarators-linear : (ss : List Scope) (next : ℕ) (ds : List Declarator) → declarators_faults ps ss ds ≡ [] → all_linear (lowered_declarators ps ss next ds) ≡ true
+  declarators-linear : (ss : List Scope) (next : ℕ) (ds : List Declarator) → declarators_faults ps ss ds ≡ [] →
+      all_linear (lowered_declarators ps ss next ds) ≡ true
   declarators-linear ss next [] h = refl
   declarators-linear ss next (d ∷ ds) h =
-      let p = nil_both (optional_faults ps ss d.value) (declared_faults ps ss d.named ++ declarators_faults ps (with_variable ss d.named.name 0) ds) h in
+      let p = nil_both (optional_faults ps ss d.value) (declared_faults ps ss d.named ++ declarators_faults ps
+      (with_variable ss d.named.name 0) ds)
+      h in
       let q = nil_both (declared_faults ps ss d.named) (declarators_faults ps (with_variable ss d.named.name 0) ds) p.1 in
-      let rest = declarators-same ps (with_variable ss d.named.name next) (with_variable ss d.named.name 0) ds (erased-variable ss ss d.named.name next 0 refl) ∙ q.1 in
-      both (is_linear (lowered_value ps ss d.value)) (all_linear (lowered_declarators ps (with_variable ss d.named.name next) (next + 1) ds))
+      let rest = declarators-same ps (with_variable ss d.named.name next) (with_variable ss d.named.name 0) ds
+      (erased-variable ss ss d.named.name next 0 refl) ∙ q.1 in
+      both (is_linear (lowered_value ps ss d.value))
+      (all_linear (lowered_declarators ps (with_variable ss d.named.name next) (next + 1) ds))
       (value-linear ss d.value p.0) (declarators-linear (with_variable ss d.named.name next) (next + 1) ds rest)
 
-  with_init-linear : (ss : List Scope) (next id : ℕ) (f : ForInit) (whole : Statement) → init_faults ps ([] ∷ ss) f ≡ [] → runs_linear whole ≡ true → runs_linear (with_init ps ss next id f whole) ≡ true
+  with_init-linear : (ss : List Scope) (next id : ℕ) (f : ForInit) (whole : Statement) → init_faults ps ([] ∷ ss) f ≡ [] → runs_linear whole
+      ≡ true → runs_linear (with_init ps ss next id f whole) ≡ true
   with_init-linear ss next id no_init whole h w = w
   with_init-linear ss next id (declaring ds) whole h w =
-      all_linear-joined (lowered_declarators ps ([] ∷ ss) next ds) (program.statement whole program.no_statements) (declarators-linear ([] ∷ ss) next ds h) (both (runs_linear whole) true w refl)
+      all_linear-joined (lowered_declarators ps ([] ∷ ss) next ds) (program.statement whole program.no_statements)
+      (declarators-linear ([] ∷ ss) next ds h) (both (runs_linear whole) true w refl)
   with_init-linear ss next id (starting s) whole h w =
-      both (runs_linear (lowered_simple ps ([] ∷ ss) id s)) (runs_linear whole && true) (simple-linear ([] ∷ ss) id s h) (both (runs_linear whole) true w refl)
+      both (runs_linear (lowered_simple ps ([] ∷ ss) id s)) (runs_linear whole && true) (simple-linear ([] ∷ ss) id s h)
+      (both (runs_linear whole) true w refl)
 
   module _ (void : Bool) where
-    spliced-linear : (l : Bool) (ss : List Scope) (next : ℕ) (s : StatementTree) (whole : Statement) → statement_faults ps void l ss s ≡ [] → runs_linear whole ≡ true → all_linear (spliced ps ss next s whole) ≡ true
+    spliced-linear : (l : Bool) (ss : List Scope) (next : ℕ) (s : StatementTree) (whole : Statement) → statement_faults ps void l ss s
+        ≡ [] →
+        runs_linear whole ≡ true → all_linear (spliced ps ss next s whole) ≡ true
     spliced-linear l ss next (declare ds) whole h w = declarators-linear ss next ds h
     spliced-linear l ss next (block a) whole h w = both (runs_linear whole) true w refl
     spliced-linear l ss next empty whole h w = both (runs_linear whole) true w refl
@@ -152,7 +170,8 @@ module _ (ps : List ProcedureTree) where
     spliced-linear l ss next (return at e) whole h w = both (runs_linear whole) true w refl
 
     mutual
-      statement-linear : (l : Bool) (ss : List Scope) (next id : ℕ) (s : StatementTree) → statement_faults ps void l ss s ≡ [] → runs_linear (lowered_statement ps ss next id s) ≡ true
+      statement-linear : (l : Bool) (ss : List Scope) (next id : ℕ) (s : StatementTree) → statement_faults ps void l ss s ≡ [] →
+          runs_linear (lowered_statement ps ss next id s) ≡ true
       statement-linear l ss next id (block a) h = statements-linear l ([] ∷ ss) next id a h
       statement-linear l ss next id empty h = refl
       statement-linear l ss next id (declare ds) h = declarators-linear ss next ds h
@@ -169,19 +188,23 @@ module _ (ps : List ProcedureTree) where
           let id_other = id + length (asserts_by a) in
           let x = is_linear (lowered ps ss e) in
           let y = runs_linear (lowered_statement ps ss next id a) in
-          both (x && y) (runs_linear (lowered_statement ps ss next_other id_other c)) (both x y (expression-linear ss e p.0) (statement-linear l ss next id a q.0)) (statement-linear l ss next_other id_other c q.1)
+          both (x && y) (runs_linear (lowered_statement ps ss next_other id_other c))
+          (both x y (expression-linear ss e p.0) (statement-linear l ss next id a q.0)) (statement-linear l ss next_other id_other c q.1)
       statement-linear l ss next id (while_loop e a) h =
           let p = nil_both (expression_faults ps ss e) (statement_faults ps void true ss a) h in
           let x = is_linear (lowered ps ss e) in
-          both (x && true) (runs_linear (lowered_statement ps ss next id a)) (both x true (expression-linear ss e p.0) refl) (statement-linear true ss next id a p.1)
+          both (x && true) (runs_linear (lowered_statement ps ss next id a)) (both x true (expression-linear ss e p.0) refl)
+          (statement-linear true ss next id a p.1)
       statement-linear l ss next id (do_while a e) h =
           let p = nil_both (statement_faults ps void true ss a) (expression_faults ps ss e) h in
-          both (runs_linear (lowered_statement ps ss next id a)) (is_linear (lowered ps ss e)) (statement-linear true ss next id a p.0) (expression-linear ss e p.1)
+          both (runs_linear (lowered_statement ps ss next id a)) (is_linear (lowered ps ss e)) (statement-linear true ss next id a p.0)
+          (expression-linear ss e p.1)
       statement-linear l ss next id (for_loop f t s a) h =
           let inside = init_scopes ps ss next f in
           let plain = plain_scopes ps ss f in
           let same : erased inside ≡ erased plain = erased-with_names ([] ∷ ss) ([] ∷ ss) next 0 (declared_by_init f) refl in
-          let p = nil_both (init_faults ps ([] ∷ ss) f) (optional_faults ps plain t ++ (step_faults ps plain s ++ statement_faults ps void true plain a)) h in
+          let p = nil_both (init_faults ps ([] ∷ ss) f)
+          (optional_faults ps plain t ++ (step_faults ps plain s ++ statement_faults ps void true plain a)) h in
           let q = nil_both (optional_faults ps plain t) (step_faults ps plain s ++ statement_faults ps void true plain a) p.1 in
           let r = nil_both (step_faults ps plain s) (statement_faults ps void true plain a) q.1 in
           let next_body = next + length (declared_by_init f) in
@@ -192,13 +215,17 @@ module _ (ps : List ProcedureTree) where
           let body = lowered_statement ps inside next_body id_body a in
           let test_linear : is_linear test ≡ true = test-linear inside t (optional-same ps inside plain t same ∙ q.0) in
           let step_linear : runs_linear step ≡ true = step-linear inside id_step s (step-same ps inside plain s same ∙ r.0) in
-          let body_linear : runs_linear body ≡ true = statement-linear true inside next_body id_body a (statement-same ps void true inside plain a same ∙ r.1) in
-          with_init-linear ss next id f (program.loop test step body) p.0 (both (is_linear test && runs_linear step) (runs_linear body) (both (is_linear test) (runs_linear step) test_linear step_linear) body_linear)
+          let body_linear : runs_linear body ≡ true = statement-linear true inside next_body id_body a
+          (statement-same ps void true inside plain a same ∙ r.1) in
+          with_init-linear ss next id f (program.loop test step body) p.0 (both (is_linear test && runs_linear step) (runs_linear body)
+          (both (is_linear test) (runs_linear step) test_linear step_linear) body_linear)
       statement-linear l ss next id (break at) h = refl
       statement-linear l ss next id (continue at) h = refl
-      statement-linear l ss next id (return at e) h = result-linear ss e (nil_both (return_faults ps void at e) (optional_faults ps ss e) h).1
+      statement-linear l ss next id (return at e) h = result-linear ss e (nil_both (return_faults ps void at e) (optional_faults ps ss e)
+          h).1
 
-      pub statements-linear : (l : Bool) (ss : List Scope) (next id : ℕ) (a : StatementTrees) → statements_faults ps void l ss a ≡ [] → all_linear (lowered_statements ps ss next id a) ≡ true
+      pub statements-linear : (l : Bool) (ss : List Scope) (next id : ℕ) (a : StatementTrees) → statements_faults ps void l ss a ≡ [] →
+          all_linear (lowered_statements ps ss next id a) ≡ true
       statements-linear l ss next id no_statements h = refl
       statements-linear l ss next id (statement s rest) h =
           let p = nil_both (statement_faults ps void l ss s) (statements_faults ps void l (plain_after ps ss s) rest) h in
@@ -208,4 +235,5 @@ module _ (ps : List ProcedureTree) where
           let whole = lowered_statement ps ss next id s in
           all_linear-joined (spliced ps ss next s whole) (lowered_statements ps scopes next_rest id_rest rest)
           (spliced-linear l ss next s whole p.0 (statement-linear l ss next id s p.0))
-          (statements-linear l scopes next_rest id_rest rest (statements-same ps void l scopes (plain_after ps ss s) rest (after-same ps ss next s) ∙ p.1))
+          (statements-linear l scopes next_rest id_rest rest (statements-same ps void l scopes (plain_after ps ss s) rest
+          (after-same ps ss next s) ∙ p.1))

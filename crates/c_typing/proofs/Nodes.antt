@@ -62,22 +62,40 @@ module _ (ps : List ProcedureTree) where
   lowered_simple-nodes ss id (change o at n e) = omega (arith, expression-nodes ss e)
   lowered_simple-nodes ss id (add_one n) = omega arith
   lowered_simple-nodes ss id (subtract_one n) = omega arith
-  lowered_simple-nodes ss id (call_statement n es) = omega (arith, called-nodes (callee_of ps n.name) id (lowered_all ps ss es), arguments-nodes ss es)
+  lowered_simple-nodes ss id (call_statement n es) = omega (
+    arith,
+    called-nodes (callee_of ps n.name) id (lowered_all ps ss es),
+    arguments-nodes ss es,
+  )
 
   lowered_step-nodes : (ss : List Scope) (id : ℕ) (s : Option SimpleStatement) → statement_nodes (lowered_step ps ss id s) ≤ step_nodes s
   lowered_step-nodes ss id None = omega arith
   lowered_step-nodes ss id (Some s) = lowered_simple-nodes ss id s
 
-  declarators-nodes : (ss : List Scope) (next : ℕ) (ds : List Declarator) → statements_nodes (lowered_declarators ps ss next ds) ≤ declared_nodes ds
+  declarators-nodes : (ss : List Scope) (next : ℕ) (ds : List Declarator) → statements_nodes (lowered_declarators ps ss next ds) ≤
+      declared_nodes ds
   declarators-nodes ss next [] = omega arith
-  declarators-nodes ss next (d ∷ ds) = omega (arith, value-nodes ss d.value, declarators-nodes (with_variable ss d.named.name next) (next + 1) ds)
+  declarators-nodes ss next (d ∷ ds) = omega (
+    arith,
+    value-nodes ss d.value,
+    declarators-nodes (with_variable ss d.named.name next)
+        (next + 1) ds,
+  )
 
-  with_init-nodes : (ss : List Scope) (next id : ℕ) (f : ForInit) (whole : Statement) → statement_nodes (with_init ps ss next id f whole) ≤ 1 + init_nodes f + statement_nodes whole
+  with_init-nodes : (ss : List Scope) (next id : ℕ) (f : ForInit) (whole : Statement) → statement_nodes (with_init ps ss next id f whole) ≤
+      1
+      + init_nodes f + statement_nodes whole
   with_init-nodes ss next id no_init whole = omega arith
-  with_init-nodes ss next id (declaring ds) whole = omega (arith, nodes-joined (lowered_declarators ps ([] ∷ ss) next ds) (program.statement whole program.no_statements), declarators-nodes ([] ∷ ss) next ds)
+  with_init-nodes ss next id (declaring ds) whole = omega (
+    arith,
+    nodes-joined (lowered_declarators ps ([] ∷ ss) next ds)
+        (program.statement whole program.no_statements),
+    declarators-nodes ([] ∷ ss) next ds,
+  )
   with_init-nodes ss next id (starting s) whole = omega (arith, lowered_simple-nodes ([] ∷ ss) id s)
 
-  spliced-nodes : (ss : List Scope) (next : ℕ) (s : StatementTree) (whole : Statement) → statement_nodes whole ≤ statement_tree_nodes s → statements_nodes (spliced ps ss next s whole) ≤ statement_tree_nodes s
+  spliced-nodes : (ss : List Scope) (next : ℕ) (s : StatementTree) (whole : Statement) → statement_nodes whole ≤ statement_tree_nodes s →
+      statements_nodes (spliced ps ss next s whole) ≤ statement_tree_nodes s
   spliced-nodes ss next (declare ds) whole h = omega (arith, declarators-nodes ss next ds)
   spliced-nodes ss next (block a) whole h = omega arith
   spliced-nodes ss next empty whole h = omega arith
@@ -92,14 +110,21 @@ module _ (ps : List ProcedureTree) where
   spliced-nodes ss next (return at e) whole h = omega arith
 
   mutual
-    lowered_statement-nodes : (ss : List Scope) (next id : ℕ) (s : StatementTree) → statement_nodes (lowered_statement ps ss next id s) ≤ statement_tree_nodes s
+    lowered_statement-nodes : (ss : List Scope) (next id : ℕ) (s : StatementTree) → statement_nodes (lowered_statement ps ss next id s) ≤
+        statement_tree_nodes s
     lowered_statement-nodes ss next id (block a) = omega (arith, lowered_statements-nodes ([] ∷ ss) next id a)
     lowered_statement-nodes ss next id empty = omega arith
     lowered_statement-nodes ss next id (declare ds) = omega (arith, declarators-nodes ss next ds)
     lowered_statement-nodes ss next id (simple s) = lowered_simple-nodes ss id s
     lowered_statement-nodes ss next id (if_then e a) = omega (arith, expression-nodes ss e, lowered_statement-nodes ss next id a)
     lowered_statement-nodes ss next id (if_else e a c) =
-        omega (arith, expression-nodes ss e, lowered_statement-nodes ss next id a, lowered_statement-nodes ss (next + length (declared_by a)) (id + length (asserts_by a)) c)
+        omega (
+          arith,
+          expression-nodes ss e,
+          lowered_statement-nodes ss next id a,
+          lowered_statement-nodes ss (next + length (declared_by a))
+              (id + length (asserts_by a)) c,
+        )
     lowered_statement-nodes ss next id (while_loop e a) = omega (arith, expression-nodes ss e, lowered_statement-nodes ss next id a)
     lowered_statement-nodes ss next id (do_while a e) = omega (arith, expression-nodes ss e, lowered_statement-nodes ss next id a)
     lowered_statement-nodes ss next id (for_loop f t s a) =
@@ -109,14 +134,29 @@ module _ (ps : List ProcedureTree) where
         let test = test-nodes inside t in
         let step = lowered_step-nodes inside id_step s in
         let body = lowered_statement-nodes inside (next + length (declared_by_init f)) id_body a in
-        omega (arith, with_init-nodes ss next id f (program.loop (lowered_test ps inside t) (lowered_step ps inside id_step s) (lowered_statement ps inside (next + length (declared_by_init f)) id_body a)), test, step, body)
+        omega (
+          arith,
+          with_init-nodes ss next id f (program.loop (lowered_test ps inside t) (lowered_step ps inside id_step s)
+              (lowered_statement ps inside (next + length (declared_by_init f)) id_body a)),
+          test,
+          step,
+          body,
+        )
     lowered_statement-nodes ss next id (break at) = omega arith
     lowered_statement-nodes ss next id (continue at) = omega arith
     lowered_statement-nodes ss next id (return at e) = omega (arith, result-nodes ss e)
 
-    pub lowered_statements-nodes : (ss : List Scope) (next id : ℕ) (a : StatementTrees) → statements_nodes (lowered_statements ps ss next id a) ≤ statement_trees_nodes a
+    pub lowered_statements-nodes : (ss : List Scope) (next id : ℕ) (a : StatementTrees) →
+        statements_nodes (lowered_statements ps ss next id a)
+        ≤ statement_trees_nodes a
     lowered_statements-nodes ss next id no_statements = omega arith
     lowered_statements-nodes ss next id (statement s rest) =
         let here = spliced-nodes ss next s (lowered_statement ps ss next id s) (lowered_statement-nodes ss next id s) in
         let more = lowered_statements-nodes (scopes_after ps ss next s) (next + length (declared_by s)) (id + length (asserts_by s)) rest in
-        omega (arith, nodes-joined (spliced ps ss next s (lowered_statement ps ss next id s)) (lowered_statements ps (scopes_after ps ss next s) (next + length (declared_by s)) (id + length (asserts_by s)) rest), here, more)
+        omega (
+          arith,
+          nodes-joined (spliced ps ss next s (lowered_statement ps ss next id s))
+              (lowered_statements ps (scopes_after ps ss next s) (next + length (declared_by s)) (id + length (asserts_by s)) rest),
+          here,
+          more,
+        )

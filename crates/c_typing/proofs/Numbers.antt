@@ -20,9 +20,11 @@ two_numbers {b = b} {c = c} p q = ap (λ x. x ++ b) p ∙ ap (λ y. c ++ y) q
 
 asserted-joined : (xs ys : Statements) → asserted_in (joined xs ys) ≡ asserted_in xs ++ asserted_in ys
 asserted-joined program.no_statements ys = refl
-asserted-joined (program.statement x xs) ys = ap (λ r. asserted_by x ++ r) (asserted-joined xs ys) ∙ sym (append_assoc (asserted_by x) (asserted_in xs) (asserted_in ys))
+asserted-joined (program.statement x xs) ys = ap (λ r. asserted_by x ++ r) (asserted-joined xs ys)
+    ∙ sym (append_assoc (asserted_by x) (asserted_in xs) (asserted_in ys))
 
-called-numbers : (c : Callee) (n : Identifier) (id : ℕ) (es : Expressions) → asserted_by (called_statement c id es) ≡ numbered id (asserts_at c n)
+called-numbers : (c : Callee) (n : Identifier) (id : ℕ) (es : Expressions) → asserted_by (called_statement c id es)
+    ≡ numbered id (asserts_at c n)
 called-numbers input n id es = refl
 called-numbers assume n id es = refl
 called-numbers assert n id es = refl
@@ -30,18 +32,27 @@ called-numbers (defined number params void) n id es = refl
 called-numbers unknown n id es = refl
 
 module _ (ps : List ProcedureTree) where
-  pub simple-numbers : (ss : List Scope) (id : ℕ) (s : SimpleStatement) → simple_faults ps ss s ≡ [] → asserted_by (lowered_simple ps ss id s) ≡ numbered id (asserts_by_simple s)
-  simple-numbers ss id (set n e) h = ap (numbered id) (sym (no_asserts ps ss e (nil_both (name_faults ss n) (expression_faults ps ss e) h).1))
+  pub simple-numbers : (ss : List Scope) (id : ℕ) (s : SimpleStatement) → simple_faults ps ss s ≡ [] →
+      asserted_by (lowered_simple ps ss id s)
+      ≡ numbered id (asserts_by_simple s)
+  simple-numbers ss id (set n e) h = ap (numbered id)
+      (sym (no_asserts ps ss e (nil_both (name_faults ss n) (expression_faults ps ss e) h).1))
   simple-numbers ss id (change o at n e) h =
-      let q = nil_both (name_faults ss n) (fault_if (is_product o && not_bool (is_constant e)) NotLinear at ++ expression_faults ps ss e) h in
-      ap (numbered id) (sym (no_asserts ps ss e (nil_both (fault_if (is_product o && not_bool (is_constant e)) NotLinear at) (expression_faults ps ss e) q.1).1))
+      let q = nil_both (name_faults ss n) (fault_if (is_product o && not_bool (is_constant e)) NotLinear at ++ expression_faults ps ss e) h
+      in
+      ap (numbered id)
+      (sym (no_asserts ps ss e (nil_both (fault_if (is_product o && not_bool (is_constant e)) NotLinear at) (expression_faults ps ss e)
+      q.1).1))
   simple-numbers ss id (add_one n) h = refl
   simple-numbers ss id (subtract_one n) h = refl
   simple-numbers ss id (call_statement n es) h =
       let p = nil_both (callee_faults (callee_of ps n.name) n (argument_count es) false) (arguments_faults ps ss es) h in
-      called-numbers (callee_of ps n.name) n id (lowered_all ps ss es) ∙ ap (numbered id) (sym (append-nil (asserts_at (callee_of ps n.name) n)) ∙ ap (λ r. asserts_at (callee_of ps n.name) n ++ r) (sym (no_asserts_all ps ss es p.1)) ∙ ap (λ r. r ++ asserts_of_all es) (sym (asserts_at-callee ps n)))
+      called-numbers (callee_of ps n.name) n id (lowered_all ps ss es) ∙ ap (numbered id)
+      (sym (append-nil (asserts_at (callee_of ps n.name) n)) ∙ ap (λ r. asserts_at (callee_of ps n.name) n ++ r)
+      (sym (no_asserts_all ps ss es p.1)) ∙ ap (λ r. r ++ asserts_of_all es) (sym (asserts_at-callee ps n)))
 
-  step-numbers : (ss : List Scope) (id : ℕ) (s : Option SimpleStatement) → step_faults ps ss s ≡ [] → asserted_by (lowered_step ps ss id s) ≡ numbered id (asserts_by_step s)
+  step-numbers : (ss : List Scope) (id : ℕ) (s : Option SimpleStatement) → step_faults ps ss s ≡ [] → asserted_by (lowered_step ps ss id s)
+      ≡ numbered id (asserts_by_step s)
   step-numbers ss id None h = refl
   step-numbers ss id (Some s) h = simple-numbers ss id s h
 
@@ -49,21 +60,26 @@ module _ (ps : List ProcedureTree) where
   declared-numbers ss next [] = refl
   declared-numbers ss next (d ∷ ds) = declared-numbers (with_variable ss d.named.name next) (next + 1) ds
 
-  init-numbers : (ss : List Scope) (next id : ℕ) (f : ForInit) (whole : Statement) (rest : List Pos) → init_faults ps ([] ∷ ss) f ≡ [] → asserted_by whole ≡ numbered (id + length (asserts_by_init f)) rest →
+  init-numbers : (ss : List Scope) (next id : ℕ) (f : ForInit) (whole : Statement) (rest : List Pos) → init_faults ps ([] ∷ ss) f ≡ [] →
+      asserted_by whole ≡ numbered (id + length (asserts_by_init f)) rest →
       asserted_by (with_init ps ss next id f whole) ≡ numbered id (asserts_by_init f ++ rest)
   init-numbers ss next id no_init whole rest h w = w ∙ ap (λ i. numbered i rest) (omega arith)
   init-numbers ss next id (declaring ds) whole rest h w =
       let none = no_asserts_declared ps ([] ∷ ss) ds h in
       let at : id + length (asserts_by_declarators ds) ≡ id = omega (arith, ap (λ r. length r) none) in
-      asserted-joined (lowered_declarators ps ([] ∷ ss) next ds) (program.statement whole program.no_statements) ∙ two_numbers (declared-numbers ([] ∷ ss) next ds) (append-nil (asserted_by whole) ∙ w ∙ ap (λ i. numbered i rest) at)
+      asserted-joined (lowered_declarators ps ([] ∷ ss) next ds) (program.statement whole program.no_statements)
+      ∙ two_numbers (declared-numbers ([] ∷ ss) next ds) (append-nil (asserted_by whole) ∙ w ∙ ap (λ i. numbered i rest) at)
       ∙ ap (λ r. numbered id (r ++ rest)) (sym none)
   init-numbers ss next id (starting s) whole rest h w =
-      two_numbers (simple-numbers ([] ∷ ss) id s h) (append-nil (asserted_by whole) ∙ w) ∙ sym (numbered-append id (asserts_by_simple s) rest)
+      two_numbers (simple-numbers ([] ∷ ss) id s h) (append-nil (asserted_by whole) ∙ w)
+      ∙ sym (numbered-append id (asserts_by_simple s) rest)
 
   module _ (void : Bool) where
-    spliced-numbers : (ss : List Scope) (next : ℕ) (s : StatementTree) (whole : Statement) (l : Bool) → statement_faults ps void l ss s ≡ [] → (id : ℕ) → asserted_by whole ≡ numbered id (asserts_by s) →
+    spliced-numbers : (ss : List Scope) (next : ℕ) (s : StatementTree) (whole : Statement) (l : Bool) → statement_faults ps void l ss s
+        ≡ [] → (id : ℕ) → asserted_by whole ≡ numbered id (asserts_by s) →
         asserted_in (spliced ps ss next s whole) ≡ numbered id (asserts_by s)
-    spliced-numbers ss next (declare ds) whole l h id w = declared-numbers ss next ds ∙ ap (numbered id) (sym (no_asserts_declared ps ss ds h))
+    spliced-numbers ss next (declare ds) whole l h id w = declared-numbers ss next ds ∙ ap (numbered id)
+        (sym (no_asserts_declared ps ss ds h))
     spliced-numbers ss next (block a) whole l h id w = append-nil (asserted_by whole) ∙ w
     spliced-numbers ss next empty whole l h id w = append-nil (asserted_by whole) ∙ w
     spliced-numbers ss next (simple s) whole l h id w = append-nil (asserted_by whole) ∙ w
@@ -77,47 +93,59 @@ module _ (ps : List ProcedureTree) where
     spliced-numbers ss next (return at e) whole l h id w = append-nil (asserted_by whole) ∙ w
 
     mutual
-      pub statement-numbers : (l : Bool) (ss : List Scope) (next id : ℕ) (s : StatementTree) → statement_faults ps void l ss s ≡ [] → asserted_by (lowered_statement ps ss next id s) ≡ numbered id (asserts_by s)
+      pub statement-numbers : (l : Bool) (ss : List Scope) (next id : ℕ) (s : StatementTree) → statement_faults ps void l ss s ≡ [] →
+          asserted_by (lowered_statement ps ss next id s) ≡ numbered id (asserts_by s)
       statement-numbers l ss next id (block a) h = statements-numbers l ([] ∷ ss) next id a h
       statement-numbers l ss next id empty h = refl
       statement-numbers l ss next id (declare ds) h = declared-numbers ss next ds ∙ ap (numbered id) (sym (no_asserts_declared ps ss ds h))
       statement-numbers l ss next id (simple s) h = simple-numbers ss id s h
       statement-numbers l ss next id (if_then e a) h =
           let p = nil_both (expression_faults ps ss e) (statement_faults ps void l ss a) h in
-          append-nil (asserted_by (lowered_statement ps ss next id a)) ∙ statement-numbers l ss next id a p.1 ∙ ap (λ r. numbered id (r ++ asserts_by a)) (sym (no_asserts ps ss e p.0))
+          append-nil (asserted_by (lowered_statement ps ss next id a)) ∙ statement-numbers l ss next id a p.1
+          ∙ ap (λ r. numbered id (r ++ asserts_by a)) (sym (no_asserts ps ss e p.0))
       statement-numbers l ss next id (if_else e a c) h =
           let p = nil_both (expression_faults ps ss e) (statement_faults ps void l ss a ++ statement_faults ps void l ss c) h in
           let q = nil_both (statement_faults ps void l ss a) (statement_faults ps void l ss c) p.1 in
-          two_numbers (statement-numbers l ss next id a q.0) (statement-numbers l ss (next + length (declared_by a)) (id + length (asserts_by a)) c q.1) ∙ sym (numbered-append id (asserts_by a) (asserts_by c))
+          two_numbers (statement-numbers l ss next id a q.0) (statement-numbers l ss (next + length (declared_by a))
+          (id + length (asserts_by a)) c q.1) ∙ sym (numbered-append id (asserts_by a) (asserts_by c))
           ∙ ap (λ r. numbered id (r ++ (asserts_by a ++ asserts_by c))) (sym (no_asserts ps ss e p.0))
       statement-numbers l ss next id (while_loop e a) h =
           let p = nil_both (expression_faults ps ss e) (statement_faults ps void true ss a) h in
           statement-numbers true ss next id a p.1 ∙ ap (λ r. numbered id (r ++ asserts_by a)) (sym (no_asserts ps ss e p.0))
       statement-numbers l ss next id (do_while a e) h =
           let p = nil_both (statement_faults ps void true ss a) (expression_faults ps ss e) h in
-          statement-numbers true ss next id a p.0 ∙ ap (numbered id) (sym (append-nil (asserts_by a)) ∙ ap (λ r. asserts_by a ++ r) (sym (no_asserts ps ss e p.1)))
+          statement-numbers true ss next id a p.0 ∙ ap (numbered id) (sym (append-nil (asserts_by a)) ∙ ap (λ r. asserts_by a ++ r)
+          (sym (no_asserts ps ss e p.1)))
       statement-numbers l ss next id (for_loop f t s a) h =
           let inside = init_scopes ps ss next f in
           let plain = plain_scopes ps ss f in
           let same : erased inside ≡ erased plain = erased-with_names ([] ∷ ss) ([] ∷ ss) next 0 (declared_by_init f) refl in
-          let p = nil_both (init_faults ps ([] ∷ ss) f) (optional_faults ps plain t ++ (step_faults ps plain s ++ statement_faults ps void true plain a)) h in
+          let p = nil_both (init_faults ps ([] ∷ ss) f)
+          (optional_faults ps plain t ++ (step_faults ps plain s ++ statement_faults ps void true plain a)) h in
           let q = nil_both (optional_faults ps plain t) (step_faults ps plain s ++ statement_faults ps void true plain a) p.1 in
           let r = nil_both (step_faults ps plain s) (statement_faults ps void true plain a) q.1 in
           let id_step = id + length (asserts_by_init f) in
           let next_body = next + length (declared_by_init f) in
           let step = step-numbers inside id_step s (step-same ps inside plain s same ∙ r.0) in
-          let body = statement-numbers true inside next_body (id_step + length (asserts_by_step s)) a (statement-same ps void true inside plain a same ∙ r.1) in
+          let body = statement-numbers true inside next_body (id_step + length (asserts_by_step s)) a
+          (statement-same ps void true inside plain a same ∙ r.1) in
           let whole = two_numbers step body ∙ sym (numbered-append id_step (asserts_by_step s) (asserts_by a)) in
-          init-numbers ss next id f (program.loop _ _ _) (asserts_by_step s ++ asserts_by a) p.0 whole ∙ ap (λ r. numbered id (asserts_by_init f ++ (r ++ (asserts_by_step s ++ asserts_by a)))) (sym (no_asserts_optional ps plain t q.0))
+          init-numbers ss next id f (program.loop _ _ _) (asserts_by_step s ++ asserts_by a) p.0 whole
+          ∙ ap (λ r. numbered id (asserts_by_init f ++ (r ++ (asserts_by_step s ++ asserts_by a))))
+          (sym (no_asserts_optional ps plain t q.0))
       statement-numbers l ss next id (break at) h = refl
       statement-numbers l ss next id (continue at) h = refl
-      statement-numbers l ss next id (return at e) h = ap (numbered id) (sym (no_asserts_optional ps ss e (nil_both (return_faults ps void at e) (optional_faults ps ss e) h).1))
+      statement-numbers l ss next id (return at e) h = ap (numbered id)
+          (sym (no_asserts_optional ps ss e (nil_both (return_faults ps void at e) (optional_faults ps ss e) h).1))
 
-      pub statements-numbers : (l : Bool) (ss : List Scope) (next id : ℕ) (a : StatementTrees) → statements_faults ps void l ss a ≡ [] → asserted_in (lowered_statements ps ss next id a) ≡ numbered id (asserts_in a)
+      pub statements-numbers : (l : Bool) (ss : List Scope) (next id : ℕ) (a : StatementTrees) → statements_faults ps void l ss a ≡ [] →
+          asserted_in (lowered_statements ps ss next id a) ≡ numbered id (asserts_in a)
       statements-numbers l ss next id no_statements h = refl
       statements-numbers l ss next id (statement s rest) h =
           let p = nil_both (statement_faults ps void l ss s) (statements_faults ps void l (plain_after ps ss s) rest) h in
-          asserted-joined (spliced ps ss next s (lowered_statement ps ss next id s)) (lowered_statements ps (scopes_after ps ss next s) (next + length (declared_by s)) (id + length (asserts_by s)) rest)
+          asserted-joined (spliced ps ss next s (lowered_statement ps ss next id s)) (lowered_statements ps (scopes_after ps ss next s)
+          (next + length (declared_by s)) (id + length (asserts_by s)) rest)
           ∙ two_numbers (spliced-numbers ss next s (lowered_statement ps ss next id s) l p.0 id (statement-numbers l ss next id s p.0))
-          (statements-numbers l (scopes_after ps ss next s) (next + length (declared_by s)) (id + length (asserts_by s)) rest (statements-same ps void l (scopes_after ps ss next s) (plain_after ps ss s) rest (after-same ps ss next s) ∙ p.1))
+          (statements-numbers l (scopes_after ps ss next s) (next + length (declared_by s)) (id + length (asserts_by s)) rest
+          (statements-same ps void l (scopes_after ps ss next s) (plain_after ps ss s) rest (after-same ps ss next s) ∙ p.1))
           ∙ sym (numbered-append id (asserts_by s) (asserts_in rest))

@@ -32,8 +32,14 @@ lex-same a b c x y z h n = (grind arith, grind arith, grind arith)
 -- a fault by its rank
 abbrev fault_by : ℕ → TypeFault
 fault_by n =
-    if n == 1 then UnknownName else (if n == 2 then Duplicate else (if n == 3 then WrongCount else (if n == 4 then VoidValue else (if n == 5 then NotLinear else (if n == 6 then NoMain else
-    (if n == 7 then MainShape else (if n == 8 then OutsideLoop else (if n == 9 then OverLimit Procedures else (if n == 10 then OverLimit Parameters else (if n == 11 then OverLimit Variables else (if n == 12 then OverLimit Tokens else OverLimit Assertions)))))))))))
+    if n == 1 then UnknownName else
+    (if n == 2 then Duplicate else
+    (if n == 3 then WrongCount else (if n == 4 then VoidValue else (if n == 5 then NotLinear else (if n == 6 then NoMain else
+    (if n == 7 then MainShape else
+    (if n == 8 then OutsideLoop else
+    (if n == 9 then OverLimit Procedures else
+    (if n == 10 then OverLimit Parameters else (if n == 11 then OverLimit Variables else (if n == 12 then OverLimit Tokens else OverLimit
+    Assertions)))))))))))
 
 fault_by-rank : (f : TypeFault) → fault_by (rank f) ≡ f
 fault_by-rank UnknownName = refl
@@ -64,10 +70,12 @@ before-irrefl f h = lex-irrefl f.at.line f.at.column (rank f.fault) h
 
 -- where one is before another, a third is behind the one or before the other
 pub before-between : (f g h : Fault) → IsBefore f g → (IsBefore f h → ⊥) → (IsBefore h g → ⊥) → ⊥
-before-between f g h b n m = lex-between f.at.line f.at.column (rank f.fault) g.at.line g.at.column (rank g.fault) h.at.line h.at.column (rank h.fault) b n m
+before-between f g h b n m = lex-between f.at.line f.at.column (rank f.fault) g.at.line g.at.column (rank g.fault) h.at.line h.at.column
+    (rank h.fault) b n m
 
 pub before-trans : (f g h : Fault) → IsBefore f g → IsBefore g h → IsBefore f h
-before-trans f g h b n = lex-trans f.at.line f.at.column (rank f.fault) g.at.line g.at.column (rank g.fault) h.at.line h.at.column (rank h.fault) b n
+before-trans f g h b n = lex-trans f.at.line f.at.column (rank f.fault) g.at.line g.at.column (rank g.fault) h.at.line h.at.column
+    (rank h.fault) b n
 
 fault_at : TypeFault → ℕ → ℕ → Fault
 fault_at f line column = record { fault = f; at = record { line = line; column = column } }
@@ -76,4 +84,5 @@ pub before-same : (f g : Fault) → (IsBefore f g → ⊥) → (IsBefore g f →
 unfolding fault_at
 before-same f g h n =
     let s = lex-same f.at.line f.at.column (rank f.fault) g.at.line g.at.column (rank g.fault) h n in
-    ap (λ k. fault_at k f.at.line f.at.column) (rank-apart f.fault g.fault s.2) ∙ ap (λ l. fault_at g.fault l f.at.column) s.0 ∙ ap (λ c. fault_at g.fault g.at.line c) s.1
+    ap (λ k. fault_at k f.at.line f.at.column) (rank-apart f.fault g.fault s.2) ∙ ap (λ l. fault_at g.fault l f.at.column) s.0
+    ∙ ap (λ c. fault_at g.fault g.at.line c) s.1

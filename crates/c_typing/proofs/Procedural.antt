@@ -17,11 +17,16 @@ use Rattle.c_typing.proofs.Noting.{noted_two}
 use Rattle.c_typing.proofs.Declaring.{erased-zeros}
 use Rattle.c_typing.proofs.Filed.{places-get, procedures-same}
 
-pub body_said : (all : List ProcedureTree) (void : Bool) (opened z : List Scope) (n n1 n2 n3 : Noted) (params p1 p2 : List Named) (b b1 : List StmtTree) (place : Option Pos) → opened ≡ [] ∷ [] → p1 ≡ params → p2 ≡ params → b1 ≡ b →
-    z ≡ with_zeros opened (map identifier_of p1) → n1 ≡ noted n (parameters_faults opened (map identifier_of p1)) (map identifier_of p1) [] → place ≡ place_of (slice_get (map identifier_of p2) 8) → n2 ≡ noted n1 (limit_fault Parameters place) [] [] →
-    n3 ≡ noted n2 (statements_faults all void false z (statement_trees_of b1)) (declared_in (statement_trees_of b1)) (asserts_in (statement_trees_of b1)) →
+pub body_said : (all : List ProcedureTree) (void : Bool) (opened z : List Scope) (n n1 n2 n3 : Noted) (params p1 p2 : List Named)
+    (b b1 : List StmtTree) (place : Option Pos) → opened ≡ [] ∷ [] → p1 ≡ params → p2 ≡ params → b1 ≡ b →
+    z ≡ with_zeros opened (map identifier_of p1) → n1 ≡ noted n (parameters_faults opened (map identifier_of p1)) (map identifier_of p1)
+    [] →
+    place ≡ place_of (slice_get (map identifier_of p2) 8) → n2 ≡ noted n1 (limit_fault Parameters place) [] [] →
+    n3 ≡ noted n2 (statements_faults all void false z (statement_trees_of b1)) (declared_in (statement_trees_of b1))
+    (asserts_in (statement_trees_of b1)) →
     (let names = map identifier_of params in let body = statement_trees_of b in
-    n3 ≡ noted n (parameters_faults ([] ∷ []) names ++ (limit_fault Parameters (place_of (slice_get names 8)) ++ statements_faults all void false (with_names ([] ∷ []) 0 names) body)) (names ++ declared_in body) (asserts_in body))
+    n3 ≡ noted n (parameters_faults ([] ∷ []) names ++ (limit_fault Parameters (place_of (slice_get names 8)) ++ statements_faults all void
+    false (with_names ([] ∷ []) 0 names) body)) (names ++ declared_in body) (asserts_in body))
 body_said all void opened z n n1 n2 n3 params p1 p2 b b1 place o e1 e2 eb ez h1 hp h2 h3 =
     let names = map identifier_of params in
     let body = statement_trees_of b in
@@ -29,15 +34,22 @@ body_said all void opened z n n1 n2 n3 params p1 p2 b b1 place o e1 e2 eb ez h1 
     let scope = with_names ([] ∷ []) 0 names in
     let z_is : z ≡ zeros = ez ∙ ap (λ u. with_zeros u (map identifier_of p1)) o ∙ ap (λ r. with_zeros ([] ∷ []) (map identifier_of r)) e1 in
     let alike : erased zeros ≡ erased scope = erased-zeros ([] ∷ []) ([] ∷ []) 0 names refl in
-    let first = h1 ∙ ap (λ u. noted n (parameters_faults u (map identifier_of p1)) (map identifier_of p1) []) o ∙ ap (λ r. noted n (parameters_faults ([] ∷ []) (map identifier_of r)) (map identifier_of r) []) e1 in
+    let first = h1 ∙ ap (λ u. noted n (parameters_faults u (map identifier_of p1)) (map identifier_of p1) []) o
+    ∙ ap (λ r. noted n (parameters_faults ([] ∷ []) (map identifier_of r)) (map identifier_of r) []) e1 in
     let limit = h2 ∙ ap (λ p. noted n1 (limit_fault Parameters p) [] []) (hp ∙ ap (λ r. place_of (slice_get (map identifier_of r) 8)) e2) in
-    let last = h3 ∙ ap (λ r. noted n2 (statements_faults all void false z (statement_trees_of r)) (declared_in (statement_trees_of r)) (asserts_in (statement_trees_of r))) eb
-    ∙ ap (λ u. noted n2 (statements_faults all void false u body) (declared_in body) (asserts_in body)) z_is ∙ ap (λ f. noted n2 f (declared_in body) (asserts_in body)) (statements-same all void false zeros scope body alike) in
-    let rest = noted_two n1 n2 n3 (limit_fault Parameters (place_of (slice_get names 8))) (statements_faults all void false scope body) [] (declared_in body) [] (asserts_in body) limit last in
-    noted_two n n1 n3 (parameters_faults ([] ∷ []) names) (limit_fault Parameters (place_of (slice_get names 8)) ++ statements_faults all void false scope body) names (declared_in body) [] (asserts_in body) first rest
+    let last = h3 ∙ ap (λ r. noted n2 (statements_faults all void false z (statement_trees_of r)) (declared_in (statement_trees_of r))
+    (asserts_in (statement_trees_of r))) eb
+    ∙ ap (λ u. noted n2 (statements_faults all void false u body) (declared_in body) (asserts_in body)) z_is
+    ∙ ap (λ f. noted n2 f (declared_in body) (asserts_in body)) (statements-same all void false zeros scope body alike) in
+    let rest = noted_two n1 n2 n3 (limit_fault Parameters (place_of (slice_get names 8))) (statements_faults all void false scope body) []
+    (declared_in body) [] (asserts_in body) limit last in
+    noted_two n n1 n3 (parameters_faults ([] ∷ []) names) (limit_fault Parameters (place_of (slice_get names 8)) ++ statements_faults all
+    void false scope body) names (declared_in body) [] (asserts_in body) first rest
 
-pub procedure_said : (all : List ProcedureTree) (again : Bool) (p : ProcedureTree) (best : Option Fault) (f h b l1 l2 : Noted) (places : List Pos) (past : Option Pos) → f.best ≡ best → f.declared ≡ [] → h ≡ noted f (heading_found again p) [] [] →
-    b ≡ noted h (body_found all p) (variables_of p) (asserts_in p.body) → places ≡ b.declared → past ≡ slice_get places 24 → l1 ≡ noted b (limit_fault Variables past) [] [] → l2 ≡ noted l1 (limit_fault Tokens p.past) [] [] →
+pub procedure_said : (all : List ProcedureTree) (again : Bool) (p : ProcedureTree) (best : Option Fault) (f h b l1 l2 : Noted)
+    (places : List Pos) (past : Option Pos) → f.best ≡ best → f.declared ≡ [] → h ≡ noted f (heading_found again p) [] [] →
+    b ≡ noted h (body_found all p) (variables_of p) (asserts_in p.body) → places ≡ b.declared → past ≡ slice_get places 24 →
+    l1 ≡ noted b (limit_fault Variables past) [] [] → l2 ≡ noted l1 (limit_fault Tokens p.past) [] [] →
     l2.best ≡ least_from best (procedure_found all again p)
 procedure_said all again p best f h b l1 l2 places past same none eh eb ep at e1 e2 =
     let hf = heading_found again p in
@@ -45,16 +57,23 @@ procedure_said all again p best f h b l1 l2 places past same none eh eb ep at e1
     let vf = limit_fault Variables (place_of (slice_get (variables_of p) 24)) in
     let tf = limit_fault Tokens p.past in
     let names : b.declared ≡ places_of (variables_of p) =
-    ap (λ (x : Noted). x.declared) eb ∙ ap (λ d. d ++ places_of (variables_of p)) (ap (λ (x : Noted). x.declared) eh ∙ append-nil f.declared ∙ none) in
-    let limit : past ≡ place_of (slice_get (variables_of p) 24) = at ∙ ap (λ r. slice_get r 24) (ep ∙ names) ∙ places-get (variables_of p) 24 in
+    ap (λ (x : Noted). x.declared) eb ∙ ap (λ d. d ++ places_of (variables_of p)) (ap (λ (x : Noted). x.declared) eh ∙ append-nil f.declared
+    ∙ none) in
+    let limit : past ≡ place_of (slice_get (variables_of p) 24) = at ∙ ap (λ r. slice_get r 24) (ep ∙ names) ∙ places-get (variables_of p)
+    24
+    in
     ap (λ (x : Noted). x.best) e2 ∙ ap (λ o. least_from o tf)
     (ap (λ (x : Noted). x.best) e1 ∙ ap (λ o. least_from b.best (limit_fault Variables o)) limit ∙ ap (λ o. least_from o vf)
     (ap (λ (x : Noted). x.best) eb ∙ ap (λ o. least_from o bf) (ap (λ (x : Noted). x.best) eh ∙ ap (λ o. least_from o hf) same)))
-    ∙ sym (least-append (least_from (least_from best hf) bf) vf tf) ∙ sym (least-append (least_from best hf) bf (vf ++ tf)) ∙ sym (least-append best hf (bf ++ (vf ++ tf)))
+    ∙ sym (least-append (least_from (least_from best hf) bf) vf tf) ∙ sym (least-append (least_from best hf) bf (vf ++ tf))
+    ∙ sym (least-append best hf (bf ++ (vf ++ tf)))
 
-pub all_said : (is : List FileItem) (n p b l1 l2 : Noted) (places : List Pos) (place past : Option Pos) → n ≡ record { best = None; declared = []; asserts = [] } → p ≡ noted n (prototypes_faults (procedures_of is) is) [] [] →
-    b.best ≡ least_from p.best (procedures_found (procedures_of is) 0 (procedures_of is)) → b.asserts ≡ p.asserts ++ asserts_in_file (procedures_of is) → place ≡ procedure_place (slice_get (procedures_of is) 64) →
-    l1 ≡ noted b (limit_fault Procedures place) [] [] → places ≡ l1.asserts → past ≡ slice_get places 64 → l2 ≡ noted l1 (limit_fault Assertions past) [] [] → l2.best ≡ least_from None (all_faults is)
+pub all_said : (is : List FileItem) (n p b l1 l2 : Noted) (places : List Pos) (place past : Option Pos) →
+    n ≡ record { best = None; declared = []; asserts = [] } → p ≡ noted n (prototypes_faults (procedures_of is) is) [] [] →
+    b.best ≡ least_from p.best (procedures_found (procedures_of is) 0 (procedures_of is)) → b.asserts ≡ p.asserts ++ asserts_in_file
+    (procedures_of is) → place ≡ procedure_place (slice_get (procedures_of is) 64) →
+    l1 ≡ noted b (limit_fault Procedures place) [] [] → places ≡ l1.asserts → past ≡ slice_get places 64 →
+    l2 ≡ noted l1 (limit_fault Assertions past) [] [] → l2.best ≡ least_from None (all_faults is)
 all_said is n p b l1 l2 places place past en ep eb ea at e1 el past_is e2 =
     let ps = procedures_of is in
     let pf = prototypes_faults ps is in
@@ -63,7 +82,12 @@ all_said is n p b l1 l2 places place past en ep eb ea at e1 el past_is e2 =
     let af = limit_fault Assertions (slice_get (asserts_in_file ps) 64) in
     let first : p.best ≡ least_from None pf = ap (λ (x : Noted). x.best) ep ∙ ap (λ (x : Noted). least_from x.best pf) en in
     let empty : p.asserts ≡ [] = ap (λ (x : Noted). x.asserts) ep ∙ append-nil n.asserts ∙ ap (λ (x : Noted). x.asserts) en in
-    let asserted : l1.asserts ≡ asserts_in_file ps = ap (λ (x : Noted). x.asserts) e1 ∙ append-nil b.asserts ∙ ea ∙ ap (λ r. r ++ asserts_in_file ps) empty in
-    ap (λ (x : Noted). x.best) e2 ∙ ap (λ o. least_from l1.best (limit_fault Assertions o)) (past_is ∙ ap (λ r. slice_get r 64) (el ∙ asserted)) ∙ ap (λ o. least_from o af)
-    (ap (λ (x : Noted). x.best) e1 ∙ ap (λ o. least_from b.best (limit_fault Procedures o)) at ∙ ap (λ o. least_from o rf) (eb ∙ procedures-same ps [] ps 0 p.best refl refl ∙ ap (λ o. least_from o qf) first))
-    ∙ sym (least-append (least_from (least_from None pf) qf) rf af) ∙ sym (least-append (least_from None pf) qf (rf ++ af)) ∙ sym (least-append None pf (qf ++ (rf ++ af)))
+    let asserted : l1.asserts ≡ asserts_in_file ps = ap (λ (x : Noted). x.asserts) e1 ∙ append-nil b.asserts ∙ ea
+    ∙ ap (λ r. r ++ asserts_in_file ps) empty in
+    ap (λ (x : Noted). x.best) e2 ∙ ap (λ o. least_from l1.best (limit_fault Assertions o))
+    (past_is ∙ ap (λ r. slice_get r 64) (el ∙ asserted))
+    ∙ ap (λ o. least_from o af)
+    (ap (λ (x : Noted). x.best) e1 ∙ ap (λ o. least_from b.best (limit_fault Procedures o)) at ∙ ap (λ o. least_from o rf)
+    (eb ∙ procedures-same ps [] ps 0 p.best refl refl ∙ ap (λ o. least_from o qf) first))
+    ∙ sym (least-append (least_from (least_from None pf) qf) rf af) ∙ sym (least-append (least_from None pf) qf (rf ++ af))
+    ∙ sym (least-append None pf (qf ++ (rf ++ af)))

@@ -14,11 +14,14 @@ module _ (ps : List ProcedureTree) where
   quiet_simple : (ss : List Scope) (s : SimpleStatement) → simple_faults ps ss s ≡ [] → IsQuietSimple s
   quiet_simple ss (set n e) h = no_asserts ps ss e (nil_both (name_faults ss n) (expression_faults ps ss e) h).1
   quiet_simple ss (change o at n e) h =
-      let q = nil_both (name_faults ss n) (fault_if (is_product o && not_bool (is_constant e)) NotLinear at ++ expression_faults ps ss e) h in
+      let q = nil_both (name_faults ss n) (fault_if (is_product o && not_bool (is_constant e)) NotLinear at ++ expression_faults ps ss e) h
+      in
       no_asserts ps ss e (nil_both (fault_if (is_product o && not_bool (is_constant e)) NotLinear at) (expression_faults ps ss e) q.1).1
   quiet_simple ss (add_one n) h = tt
   quiet_simple ss (subtract_one n) h = tt
-  quiet_simple ss (call_statement n es) h = no_asserts_all ps ss es (nil_both (callee_faults (callee_of ps n.name) n (argument_count es) false) (arguments_faults ps ss es) h).1
+  quiet_simple ss (call_statement n es) h = no_asserts_all ps ss es
+      (nil_both (callee_faults (callee_of ps n.name) n (argument_count es) false)
+      (arguments_faults ps ss es) h).1
 
   quiet_step : (ss : List Scope) (s : Option SimpleStatement) → step_faults ps ss s ≡ [] → IsQuietStep s
   quiet_step ss None h = tt
@@ -36,22 +39,27 @@ module _ (ps : List ProcedureTree) where
       quiet_statement l ss empty h = tt
       quiet_statement l ss (declare ds) h = no_asserts_declared ps ss ds h
       quiet_statement l ss (simple s) h = quiet_simple ss s h
-      quiet_statement l ss (if_then e a) h = let p = nil_both (expression_faults ps ss e) (statement_faults ps void l ss a) h in (no_asserts ps ss e p.0, quiet_statement l ss a p.1)
+      quiet_statement l ss (if_then e a) h = let p = nil_both (expression_faults ps ss e) (statement_faults ps void l ss a) h in
+          (no_asserts ps ss e p.0, quiet_statement l ss a p.1)
       quiet_statement l ss (if_else e a b) h =
           let p = nil_both (expression_faults ps ss e) (statement_faults ps void l ss a ++ statement_faults ps void l ss b) h in
           let q = nil_both (statement_faults ps void l ss a) (statement_faults ps void l ss b) p.1 in
           (no_asserts ps ss e p.0, quiet_statement l ss a q.0, quiet_statement l ss b q.1)
-      quiet_statement l ss (while_loop e a) h = let p = nil_both (expression_faults ps ss e) (statement_faults ps void true ss a) h in (no_asserts ps ss e p.0, quiet_statement true ss a p.1)
-      quiet_statement l ss (do_while a e) h = let p = nil_both (statement_faults ps void true ss a) (expression_faults ps ss e) h in (no_asserts ps ss e p.1, quiet_statement true ss a p.0)
+      quiet_statement l ss (while_loop e a) h = let p = nil_both (expression_faults ps ss e) (statement_faults ps void true ss a) h in
+          (no_asserts ps ss e p.0, quiet_statement true ss a p.1)
+      quiet_statement l ss (do_while a e) h = let p = nil_both (statement_faults ps void true ss a) (expression_faults ps ss e) h in
+          (no_asserts ps ss e p.1, quiet_statement true ss a p.0)
       quiet_statement l ss (for_loop f t s a) h =
           let inside = init_scopes ps ss f in
-          let p = nil_both (init_faults ps ([] ∷ ss) f) (optional_faults ps inside t ++ (step_faults ps inside s ++ statement_faults ps void true inside a)) h in
+          let p = nil_both (init_faults ps ([] ∷ ss) f)
+          (optional_faults ps inside t ++ (step_faults ps inside s ++ statement_faults ps void true inside a)) h in
           let q = nil_both (optional_faults ps inside t) (step_faults ps inside s ++ statement_faults ps void true inside a) p.1 in
           let r = nil_both (step_faults ps inside s) (statement_faults ps void true inside a) q.1 in
           (quiet_init ([] ∷ ss) f p.0, no_asserts_optional ps inside t q.0, quiet_step inside s r.0, quiet_statement true inside a r.1)
       quiet_statement l ss (break at) h = tt
       quiet_statement l ss (continue at) h = tt
-      quiet_statement l ss (return at e) h = no_asserts_optional ps ss e (nil_both (return_faults ps void at e) (optional_faults ps ss e) h).1
+      quiet_statement l ss (return at e) h = no_asserts_optional ps ss e (nil_both (return_faults ps void at e) (optional_faults ps ss e)
+          h).1
 
       quiet_statements : (l : Bool) (ss : List Scope) (a : StatementTrees) → statements_faults ps void l ss a ≡ [] → AreQuiet a
       quiet_statements l ss no_statements h = tt
@@ -59,7 +67,8 @@ module _ (ps : List ProcedureTree) where
           let p = nil_both (statement_faults ps void l ss s) (statements_faults ps void l (scopes_after ps ss s) rest) h in
           (quiet_statement l ss s p.0, quiet_statements l (scopes_after ps ss s) rest p.1)
 
-pub procedures_fit : (all qs : List ProcedureTree) (id : ℕ) → ((i : ℕ) (q : ProcedureTree) → slice_get qs i ≡ Some q → IsFaultless all q) → id + length (asserts_in_file qs) ≤ 64 → ProceduresFit id qs
+pub procedures_fit : (all qs : List ProcedureTree) (id : ℕ) → ((i : ℕ) (q : ProcedureTree) → slice_get qs i ≡ Some q → IsFaultless all q) →
+    id + length (asserts_in_file qs) ≤ 64 → ProceduresFit id qs
 procedures_fit all [] id sound room = tt
 procedures_fit all (q ∷ qs) id sound room =
     let h = sound zero q refl in

@@ -3,7 +3,7 @@ use Rattle.std.proofs.Common.{◌≡◌, ℕ, ◌+◌, ◌<◌, ◌≤◌, Bool,
 use Rattle.std.proofs.lemmas.Bool.{lt-ltb}
 use Rattle.c_tree.specs.declared.tree.Pos.{Pos}
 use Rattle.c_tree.specs.Syntax as program
-use Rattle.c_tree.specs.Syntax.{Expression, Expressions, no_expressions, expression, Statement, Statements, PureProgram}
+use Rattle.c_tree.specs.Syntax.{Expressions, no_expressions, expression, Statement, Statements, PureProgram}
 use Rattle.c_tree.specs.WellFormed.{takes, count, is_well_scoped, are_well_scoped, returns_well_scoped, runs_well_scoped, all_well_scoped}
 use Rattle.c_tree.specs.Operators.{is_product}
 use Rattle.c_tree.specs.SourceTree.{Identifier, ExpressionTree, literal, name, call, not, negate, plus, binary, ExpressionTrees, no_arguments, argument, SimpleStatement, set, change, add_one, subtract_one, call_statement, Declarator, ForInit, no_init, declaring, starting, StatementTree, block, empty, declare, simple, if_then, if_else, while_loop, do_while, for_loop, break, continue, return, StatementTrees, no_statements, statement, ProcedureTree}
@@ -16,8 +16,10 @@ use Rattle.c_typing.proofs.Erased.{erased, erased-with_names, erased-variable, o
 
 -- what is called by a name exists in the program, and isn't `main`
 pub record CallsFit (P : PureProgram) (ps : List ProcedureTree) : Type 0 where
-  pub fits : (x : List ℕ) (n params : ℕ) (void : Bool) → callee_of ps x ≡ defined n params void → takes (slice_get P.procedures n) params ≡ true
-  pub not_main : (x : List ℕ) (n params : ℕ) (void : Bool) → callee_of ps x ≡ defined n params void → is_main x ≡ false → (n == P.main) ≡ false
+  pub fits : (x : List ℕ) (n params : ℕ) (void : Bool) → callee_of ps x ≡ defined n params void → takes (slice_get P.procedures n) params
+      ≡ true
+  pub not_main : (x : List ℕ) (n params : ℕ) (void : Bool) → callee_of ps x ≡ defined n params void → is_main x ≡ false → (n == P.main)
+      ≡ false
 
 -- assertions numbered from a number on
 abbrev pub numbered : ℕ → List Pos → List ℕ
@@ -26,7 +28,8 @@ numbered id (p ∷ ps) = id ∷ numbered (id + 1) ps
 
 pub numbered-append : (id : ℕ) (ps qs : List Pos) → numbered id (ps ++ qs) ≡ numbered id ps ++ numbered (id + length ps) qs
 numbered-append id [] qs = ap (λ i. numbered i qs) (omega arith)
-numbered-append id (p ∷ ps) qs = ap (λ r. id ∷ r) (numbered-append (id + 1) ps qs ∙ ap (λ i. numbered (id + 1) ps ++ numbered i qs) (omega arith))
+numbered-append id (p ∷ ps) qs = ap (λ r. id ∷ r) (numbered-append (id + 1) ps qs ∙ ap (λ i. numbered (id + 1) ps ++ numbered i qs)
+    (omega arith))
 
 count-lowered_all : (ps : List ProcedureTree) (ss : List Scope) (es : ExpressionTrees) → count (lowered_all ps ss es) ≡ argument_count es
 count-lowered_all ps ss no_arguments = refl
@@ -47,12 +50,14 @@ module _ (ps : List ProcedureTree) where
     no_asserts ss (name n) h = refl
     no_asserts ss (call n es) h =
         let p = nil_both (callee_faults (callee_of ps n.name) n (argument_count es) true) (arguments_faults ps ss es) h in
-        ap (λ r. r ++ asserts_of_all es) (asserts_at-callee ps n ∙ used_call (callee_of ps n.name) n (argument_count es) p.0) ∙ no_asserts_all ss es p.1
+        ap (λ r. r ++ asserts_of_all es) (asserts_at-callee ps n ∙ used_call (callee_of ps n.name) n (argument_count es) p.0)
+        ∙ no_asserts_all ss es p.1
     no_asserts ss (not e) h = no_asserts ss e h
     no_asserts ss (negate e) h = no_asserts ss e h
     no_asserts ss (plus e) h = no_asserts ss e h
     no_asserts ss (binary o at a b) h =
-        let p = (nil_both (fault_if (is_product o && not_bool (is_constant a || is_constant b)) NotLinear at) (expression_faults ps ss a ++ expression_faults ps ss b) h).1 in
+        let p = (nil_both (fault_if (is_product o && not_bool (is_constant a || is_constant b)) NotLinear at)
+        (expression_faults ps ss a ++ expression_faults ps ss b) h).1 in
         let q = nil_both (expression_faults ps ss a) (expression_faults ps ss b) p in
         ap (λ r. r ++ asserts_of b) (no_asserts ss a q.0) ∙ no_asserts ss b q.1
 
@@ -69,9 +74,12 @@ module _ (ps : List ProcedureTree) where
   pub no_asserts_declared : (ss : List Scope) (ds : List Declarator) → declarators_faults ps ss ds ≡ [] → asserts_by_declarators ds ≡ []
   no_asserts_declared ss [] h = refl
   no_asserts_declared ss (d ∷ ds) h =
-      let p = nil_both (optional_faults ps ss d.value) (declared_faults ps ss d.named ++ declarators_faults ps (with_variable ss d.named.name 0) ds) h in
+      let p = nil_both (optional_faults ps ss d.value) (declared_faults ps ss d.named ++ declarators_faults ps
+      (with_variable ss d.named.name 0) ds)
+      h in
       let q = nil_both (declared_faults ps ss d.named) (declarators_faults ps (with_variable ss d.named.name 0) ds) p.1 in
-      ap (λ r. r ++ asserts_by_declarators ds) (no_asserts_optional ss d.value p.0) ∙ no_asserts_declared (with_variable ss d.named.name 0) ds q.1
+      ap (λ r. r ++ asserts_by_declarators ds) (no_asserts_optional ss d.value p.0) ∙ no_asserts_declared (with_variable ss d.named.name 0)
+      ds q.1
 
 -- Names exist
 
@@ -83,120 +91,169 @@ module _ (P : PureProgram) (ps : List ProcedureTree) (slots : ℕ) (fit : CallsF
       go None below e = absurd cc
       go (Some s) below e = lt-ltb s slots (below s refl)
 
-  call-sound : (c : Callee) (n : Identifier) (k : ℕ) (es : Expressions) (used : Bool) → callee_of ps n.name ≡ c → callee_faults c n k used ≡ [] → count es ≡ k → are_well_scoped P slots es ≡ true →
+  call-sound : (c : Callee) (n : Identifier) (k : ℕ) (es : Expressions) (used : Bool) → callee_of ps n.name ≡ c → callee_faults c n k used
+      ≡ [] → count es ≡ k → are_well_scoped P slots es ≡ true →
       is_well_scoped P slots (lowered_call c es) ≡ true
   call-sound input n k es used e h same sound = refl
   call-sound assume n k es used e h same sound = refl
   call-sound assert n k es used e h same sound = refl
   call-sound unknown n k es used e h same sound = refl
   call-sound (defined number params void) n k es used e h same sound =
-      let p = nil_both (fault_if (not_bool (k == params)) WrongCount n.at) (fault_if (used && void) VoidValue n.at ++ fault_if (is_main n.name) MainShape n.at) h in
+      let p = nil_both (fault_if (not_bool (k == params)) WrongCount n.at) (fault_if (used && void) VoidValue n.at
+      ++ fault_if (is_main n.name) MainShape n.at) h in
       let q = nil_both (fault_if (used && void) VoidValue n.at) (fault_if (is_main n.name) MainShape n.at) p.1 in
-      let enough : count es ≡ params = same ∙ eqb-same k params (not_false (k == params) (no_fault (not_bool (k == params)) WrongCount n.at p.0)) in
-      let there : takes (slice_get P.procedures number) (count es) ≡ true = ap (takes (slice_get P.procedures number)) enough ∙ fit.fits n.name number params void e in
-      let other : not_bool (number == P.main) ≡ true = false_not (number == P.main) (fit.not_main n.name number params void e (no_fault (is_main n.name) MainShape n.at q.1)) in
-      both (takes (slice_get P.procedures number) (count es) && not_bool (number == P.main)) (are_well_scoped P slots es) (both (takes (slice_get P.procedures number) (count es)) (not_bool (number == P.main)) there other) sound
+      let enough : count es ≡ params = same ∙ eqb-same k params
+      (not_false (k == params) (no_fault (not_bool (k == params)) WrongCount n.at p.0))
+      in
+      let there : takes (slice_get P.procedures number) (count es) ≡ true = ap (takes (slice_get P.procedures number)) enough
+      ∙ fit.fits n.name number params void e in
+      let other : not_bool (number == P.main) ≡ true = false_not (number == P.main)
+      (fit.not_main n.name number params void e (no_fault (is_main n.name) MainShape n.at q.1)) in
+      both (takes (slice_get P.procedures number) (count es) && not_bool (number == P.main)) (are_well_scoped P slots es)
+      (both (takes (slice_get P.procedures number) (count es)) (not_bool (number == P.main)) there other) sound
 
   mutual
-    pub expression-sound : (ss : List Scope) (e : ExpressionTree) → Below ss slots → expression_faults ps ss e ≡ [] → is_well_scoped P slots (lowered ps ss e) ≡ true
+    pub expression-sound : (ss : List Scope) (e : ExpressionTree) → Below ss slots → expression_faults ps ss e ≡ [] →
+        is_well_scoped P slots (lowered ps ss e) ≡ true
     expression-sound ss (literal n) b h = refl
     expression-sound ss (name n) b h = name-sound ss n b h
     expression-sound ss (call n es) b h =
         let p = nil_both (callee_faults (callee_of ps n.name) n (argument_count es) true) (arguments_faults ps ss es) h in
-        call-sound (callee_of ps n.name) n (argument_count es) (lowered_all ps ss es) true refl p.0 (count-lowered_all ps ss es) (arguments-sound ss es b p.1)
+        call-sound (callee_of ps n.name) n (argument_count es) (lowered_all ps ss es) true refl p.0 (count-lowered_all ps ss es)
+        (arguments-sound ss es b p.1)
     expression-sound ss (not e) b h = expression-sound ss e b h
     expression-sound ss (negate e) b h = expression-sound ss e b h
     expression-sound ss (plus e) b h = expression-sound ss e b h
     expression-sound ss (binary o at x y) b h =
-        let p = (nil_both (fault_if (is_product o && not_bool (is_constant x || is_constant y)) NotLinear at) (expression_faults ps ss x ++ expression_faults ps ss y) h).1 in
+        let p = (nil_both (fault_if (is_product o && not_bool (is_constant x || is_constant y)) NotLinear at)
+        (expression_faults ps ss x ++ expression_faults ps ss y) h).1 in
         let q = nil_both (expression_faults ps ss x) (expression_faults ps ss y) p in
-        both (is_well_scoped P slots (lowered ps ss x)) (is_well_scoped P slots (lowered ps ss y)) (expression-sound ss x b q.0) (expression-sound ss y b q.1)
+        both (is_well_scoped P slots (lowered ps ss x)) (is_well_scoped P slots (lowered ps ss y)) (expression-sound ss x b q.0)
+        (expression-sound ss y b q.1)
 
-    pub arguments-sound : (ss : List Scope) (es : ExpressionTrees) → Below ss slots → arguments_faults ps ss es ≡ [] → are_well_scoped P slots (lowered_all ps ss es) ≡ true
+    pub arguments-sound : (ss : List Scope) (es : ExpressionTrees) → Below ss slots → arguments_faults ps ss es ≡ [] →
+        are_well_scoped P slots (lowered_all ps ss es) ≡ true
     arguments-sound ss no_arguments b h = refl
     arguments-sound ss (argument e es) b h =
         let q = nil_both (expression_faults ps ss e) (arguments_faults ps ss es) h in
-        both (is_well_scoped P slots (lowered ps ss e)) (are_well_scoped P slots (lowered_all ps ss es)) (expression-sound ss e b q.0) (arguments-sound ss es b q.1)
+        both (is_well_scoped P slots (lowered ps ss e)) (are_well_scoped P slots (lowered_all ps ss es)) (expression-sound ss e b q.0)
+        (arguments-sound ss es b q.1)
 
-  value-sound : (ss : List Scope) (o : Option ExpressionTree) → Below ss slots → optional_faults ps ss o ≡ [] → is_well_scoped P slots (lowered_value ps ss o) ≡ true
+  value-sound : (ss : List Scope) (o : Option ExpressionTree) → Below ss slots → optional_faults ps ss o ≡ [] →
+      is_well_scoped P slots (lowered_value ps ss o) ≡ true
   value-sound ss None b h = refl
   value-sound ss (Some e) b h = expression-sound ss e b h
 
-  test-sound : (ss : List Scope) (o : Option ExpressionTree) → Below ss slots → optional_faults ps ss o ≡ [] → is_well_scoped P slots (lowered_test ps ss o) ≡ true
+  test-sound : (ss : List Scope) (o : Option ExpressionTree) → Below ss slots → optional_faults ps ss o ≡ [] →
+      is_well_scoped P slots (lowered_test ps ss o) ≡ true
   test-sound ss None b h = refl
   test-sound ss (Some e) b h = expression-sound ss e b h
 
-  result-sound : (ss : List Scope) (o : Option ExpressionTree) → Below ss slots → optional_faults ps ss o ≡ [] → returns_well_scoped P slots (lowered_result ps ss o) ≡ true
+  result-sound : (ss : List Scope) (o : Option ExpressionTree) → Below ss slots → optional_faults ps ss o ≡ [] → returns_well_scoped P slots
+      (lowered_result ps ss o) ≡ true
   result-sound ss None b h = refl
   result-sound ss (Some e) b h = expression-sound ss e b h
 
   first-sound : (es : Expressions) → are_well_scoped P slots es ≡ true → is_well_scoped P slots (first_of es) ≡ true
   first-sound no_expressions h = refl
-  first-sound (expression e es) h = elim (is_well_scoped P slots e) as (λ b. (b && are_well_scoped P slots es) ≡ true → b ≡ true) [ true ↦ λ _. refl | false ↦ λ g. g ] h
+  first-sound (expression e es) h = elim (is_well_scoped P slots e) as (λ b. (b && are_well_scoped P slots es) ≡ true → b ≡ true) [
+    | true ↦
+        λ _. refl
+    | false ↦ λ g. g
+  ] h
 
-  called-sound : (l : Bool) (c : Callee) (n : Identifier) (k id : ℕ) (es : Expressions) → callee_of ps n.name ≡ c → callee_faults c n k false ≡ [] → count es ≡ k → are_well_scoped P slots es ≡ true →
+  called-sound : (l : Bool) (c : Callee) (n : Identifier) (k id : ℕ) (es : Expressions) → callee_of ps n.name ≡ c →
+      callee_faults c n k false
+      ≡ [] → count es ≡ k → are_well_scoped P slots es ≡ true →
       id + length (asserts_at c n) ≤ length P.asserts → runs_well_scoped P slots l (called_statement c id es) ≡ true
   called-sound l input n k id es e h same sound room = refl
   called-sound l assume n k id es e h same sound room = first-sound es sound
   called-sound l assert n k id es e h same sound room =
-      let low : id < length P.asserts = omega arith in both (nat_lt id (length P.asserts)) (is_well_scoped P slots (first_of es)) (lt-ltb id (length P.asserts) low) (first-sound es sound)
+      let low : id < length P.asserts = omega arith in both (nat_lt id (length P.asserts)) (is_well_scoped P slots (first_of es))
+      (lt-ltb id (length P.asserts) low) (first-sound es sound)
   called-sound l unknown n k id es e h same sound room = refl
-  called-sound l (defined number params void) n k id es e h same sound room = call-sound (defined number params void) n k es false e h same sound
+  called-sound l (defined number params void) n k id es e h same sound room = call-sound (defined number params void) n k es false e h same
+      sound
 
-  pub simple-sound : (l : Bool) (ss : List Scope) (id : ℕ) (s : SimpleStatement) → Below ss slots → id + length (asserts_by_simple s) ≤ length P.asserts → simple_faults ps ss s ≡ [] →
+  pub simple-sound : (l : Bool) (ss : List Scope) (id : ℕ) (s : SimpleStatement) → Below ss slots → id + length (asserts_by_simple s) ≤
+      length P.asserts → simple_faults ps ss s ≡ [] →
       runs_well_scoped P slots l (lowered_simple ps ss id s) ≡ true
   simple-sound l ss id (set n e) b room h =
-      let q = nil_both (name_faults ss n) (expression_faults ps ss e) h in both (nat_lt (slot ss n) slots) (is_well_scoped P slots (lowered ps ss e)) (name-sound ss n b q.0) (expression-sound ss e b q.1)
+      let q = nil_both (name_faults ss n) (expression_faults ps ss e) h in both (nat_lt (slot ss n) slots)
+      (is_well_scoped P slots (lowered ps ss e)) (name-sound ss n b q.0) (expression-sound ss e b q.1)
   simple-sound l ss id (change o at n e) b room h =
-      let q = nil_both (name_faults ss n) (fault_if (is_product o && not_bool (is_constant e)) NotLinear at ++ expression_faults ps ss e) h in
+      let q = nil_both (name_faults ss n) (fault_if (is_product o && not_bool (is_constant e)) NotLinear at ++ expression_faults ps ss e) h
+      in
       let r = nil_both (fault_if (is_product o && not_bool (is_constant e)) NotLinear at) (expression_faults ps ss e) q.1 in
       let here = name-sound ss n b q.0 in
-      both (nat_lt (slot ss n) slots) (nat_lt (slot ss n) slots && is_well_scoped P slots (lowered ps ss e)) here (both (nat_lt (slot ss n) slots) (is_well_scoped P slots (lowered ps ss e)) here (expression-sound ss e b r.1))
+      both (nat_lt (slot ss n) slots) (nat_lt (slot ss n) slots && is_well_scoped P slots (lowered ps ss e)) here
+      (both (nat_lt (slot ss n) slots) (is_well_scoped P slots (lowered ps ss e)) here (expression-sound ss e b r.1))
   simple-sound l ss id (add_one n) b room h =
-      let here = name-sound ss n b h in both (nat_lt (slot ss n) slots) (nat_lt (slot ss n) slots && true) here (both (nat_lt (slot ss n) slots) true here refl)
+      let here = name-sound ss n b h in both (nat_lt (slot ss n) slots) (nat_lt (slot ss n) slots && true) here
+      (both (nat_lt (slot ss n) slots) true here refl)
   simple-sound l ss id (subtract_one n) b room h =
-      let here = name-sound ss n b h in both (nat_lt (slot ss n) slots) (nat_lt (slot ss n) slots && true) here (both (nat_lt (slot ss n) slots) true here refl)
+      let here = name-sound ss n b h in both (nat_lt (slot ss n) slots) (nat_lt (slot ss n) slots && true) here
+      (both (nat_lt (slot ss n) slots) true here refl)
   simple-sound l ss id (call_statement n es) b room h =
       let p = nil_both (callee_faults (callee_of ps n.name) n (argument_count es) false) (arguments_faults ps ss es) h in
       let place : length (if_assert n ++ asserts_of_all es) ≡ length (asserts_at (callee_of ps n.name) n) + length (asserts_of_all es) =
       length-append (if_assert n) (asserts_of_all es) ∙ ap (λ r. length r + length (asserts_of_all es)) (asserts_at-callee ps n) in
-      called-sound l (callee_of ps n.name) n (argument_count es) id (lowered_all ps ss es) refl p.0 (count-lowered_all ps ss es) (arguments-sound ss es b p.1) (omega arith)
+      called-sound l (callee_of ps n.name) n (argument_count es) id (lowered_all ps ss es) refl p.0 (count-lowered_all ps ss es)
+      (arguments-sound ss es b p.1) (omega arith)
 
-  step-sound : (l : Bool) (ss : List Scope) (id : ℕ) (s : Option SimpleStatement) → Below ss slots → id + length (asserts_by_step s) ≤ length P.asserts → step_faults ps ss s ≡ [] →
+  step-sound : (l : Bool) (ss : List Scope) (id : ℕ) (s : Option SimpleStatement) → Below ss slots → id + length (asserts_by_step s) ≤
+      length P.asserts → step_faults ps ss s ≡ [] →
       runs_well_scoped P slots l (lowered_step ps ss id s) ≡ true
   step-sound l ss id None b room h = refl
   step-sound l ss id (Some s) b room h = simple-sound l ss id s b room h
 
-  all_sound-joined : (l : Bool) (xs ys : Statements) → all_well_scoped P slots l xs ≡ true → all_well_scoped P slots l ys ≡ true → all_well_scoped P slots l (joined xs ys) ≡ true
+  all_sound-joined : (l : Bool) (xs ys : Statements) → all_well_scoped P slots l xs ≡ true → all_well_scoped P slots l ys ≡ true →
+      all_well_scoped P slots l (joined xs ys) ≡ true
   all_sound-joined l program.no_statements ys p q = q
   all_sound-joined l (program.statement x xs) ys p q = go (runs_well_scoped P slots l x) p (λ h. all_sound-joined l xs ys h q)
     where
-      go : (b : Bool) → (b && all_well_scoped P slots l xs) ≡ true → (all_well_scoped P slots l xs ≡ true → all_well_scoped P slots l (joined xs ys) ≡ true) → (b && all_well_scoped P slots l (joined xs ys)) ≡ true
+      go : (b : Bool) → (b && all_well_scoped P slots l xs) ≡ true →
+          (all_well_scoped P slots l xs ≡ true → all_well_scoped P slots l (joined xs ys) ≡ true) →
+          (b && all_well_scoped P slots l (joined xs ys)) ≡ true
       go true p h = h p
       go false p h = p
 
-  declarators-sound : (l : Bool) (ss : List Scope) (next : ℕ) (ds : List Declarator) → Below ss slots → next + length (names_of ds) ≤ slots → declarators_faults ps ss ds ≡ [] →
+  declarators-sound : (l : Bool) (ss : List Scope) (next : ℕ) (ds : List Declarator) → Below ss slots → next + length (names_of ds) ≤
+      slots →
+      declarators_faults ps ss ds ≡ [] →
       all_well_scoped P slots l (lowered_declarators ps ss next ds) ≡ true
   declarators-sound l ss next [] b room h = refl
   declarators-sound l ss next (d ∷ ds) b room h =
-      let p = nil_both (optional_faults ps ss d.value) (declared_faults ps ss d.named ++ declarators_faults ps (with_variable ss d.named.name 0) ds) h in
+      let p = nil_both (optional_faults ps ss d.value) (declared_faults ps ss d.named ++ declarators_faults ps
+      (with_variable ss d.named.name 0) ds)
+      h in
       let q = nil_both (declared_faults ps ss d.named) (declarators_faults ps (with_variable ss d.named.name 0) ds) p.1 in
-      let rest = declarators-same ps (with_variable ss d.named.name next) (with_variable ss d.named.name 0) ds (erased-variable ss ss d.named.name next 0 refl) ∙ q.1 in
+      let rest = declarators-same ps (with_variable ss d.named.name next) (with_variable ss d.named.name 0) ds
+      (erased-variable ss ss d.named.name next 0 refl) ∙ q.1 in
       let low : next < slots = omega arith in
-      both (nat_lt next slots && is_well_scoped P slots (lowered_value ps ss d.value)) (all_well_scoped P slots l (lowered_declarators ps (with_variable ss d.named.name next) (next + 1) ds))
-      (both (nat_lt next slots) (is_well_scoped P slots (lowered_value ps ss d.value)) (lt-ltb next slots low) (value-sound ss d.value b p.0))
-      (declarators-sound l (with_variable ss d.named.name next) (next + 1) ds (below-one ss slots next d.named.name b low) (omega arith) rest)
+      both (nat_lt next slots && is_well_scoped P slots (lowered_value ps ss d.value))
+      (all_well_scoped P slots l (lowered_declarators ps (with_variable ss d.named.name next) (next + 1) ds))
+      (both (nat_lt next slots) (is_well_scoped P slots (lowered_value ps ss d.value)) (lt-ltb next slots low)
+      (value-sound ss d.value b p.0))
+      (declarators-sound l (with_variable ss d.named.name next) (next + 1) ds (below-one ss slots next d.named.name b low) (omega arith)
+      rest)
 
-  with_init-sound : (l : Bool) (ss : List Scope) (next id : ℕ) (f : ForInit) (whole : Statement) → Below ss slots → next + length (declared_by_init f) ≤ slots → id + length (asserts_by_init f) ≤ length P.asserts →
-      init_faults ps ([] ∷ ss) f ≡ [] → runs_well_scoped P slots l whole ≡ true → runs_well_scoped P slots l (with_init ps ss next id f whole) ≡ true
+  with_init-sound : (l : Bool) (ss : List Scope) (next id : ℕ) (f : ForInit) (whole : Statement) → Below ss slots →
+      next + length (declared_by_init f) ≤ slots → id + length (asserts_by_init f) ≤ length P.asserts →
+      init_faults ps ([] ∷ ss) f ≡ [] → runs_well_scoped P slots l whole ≡ true → runs_well_scoped P slots l
+      (with_init ps ss next id f whole)
+      ≡ true
   with_init-sound l ss next id no_init whole b room few h w = w
   with_init-sound l ss next id (declaring ds) whole b room few h w =
-      all_sound-joined l (lowered_declarators ps ([] ∷ ss) next ds) (program.statement whole program.no_statements) (declarators-sound l ([] ∷ ss) next ds (below-push ss slots b) room h) (both (runs_well_scoped P slots l whole) true w refl)
+      all_sound-joined l (lowered_declarators ps ([] ∷ ss) next ds) (program.statement whole program.no_statements)
+      (declarators-sound l ([] ∷ ss) next ds (below-push ss slots b) room h) (both (runs_well_scoped P slots l whole) true w refl)
   with_init-sound l ss next id (starting s) whole b room few h w =
-      both (runs_well_scoped P slots l (lowered_simple ps ([] ∷ ss) id s)) (runs_well_scoped P slots l whole && true) (simple-sound l ([] ∷ ss) id s (below-push ss slots b) few h) (both (runs_well_scoped P slots l whole) true w refl)
+      both (runs_well_scoped P slots l (lowered_simple ps ([] ∷ ss) id s)) (runs_well_scoped P slots l whole && true)
+      (simple-sound l ([] ∷ ss) id s (below-push ss slots b) few h) (both (runs_well_scoped P slots l whole) true w refl)
 
   module _ (void : Bool) where
-    spliced-sound : (l : Bool) (ss : List Scope) (next : ℕ) (s : StatementTree) (whole : Statement) → Below ss slots → next + length (declared_by s) ≤ slots → statement_faults ps void l ss s ≡ [] →
+    spliced-sound : (l : Bool) (ss : List Scope) (next : ℕ) (s : StatementTree) (whole : Statement) → Below ss slots →
+        next + length (declared_by s) ≤ slots → statement_faults ps void l ss s ≡ [] →
         runs_well_scoped P slots l whole ≡ true → all_well_scoped P slots l (spliced ps ss next s whole) ≡ true
     spliced-sound l ss next (declare ds) whole b room h w = declarators-sound l ss next ds b room h
     spliced-sound l ss next (block a) whole b room h w = both (runs_well_scoped P slots l whole) true w refl
@@ -211,7 +268,8 @@ module _ (P : PureProgram) (ps : List ProcedureTree) (slots : ℕ) (fit : CallsF
     spliced-sound l ss next (continue at) whole b room h w = both (runs_well_scoped P slots l whole) true w refl
     spliced-sound l ss next (return at e) whole b room h w = both (runs_well_scoped P slots l whole) true w refl
 
-    below-after : (ss : List Scope) (next : ℕ) (s : StatementTree) → Below ss slots → next + length (declared_by s) ≤ slots → Below (scopes_after ps ss next s) slots
+    below-after : (ss : List Scope) (next : ℕ) (s : StatementTree) → Below ss slots → next + length (declared_by s) ≤ slots →
+        Below (scopes_after ps ss next s) slots
     below-after ss next (declare ds) b room = below-names ss slots next (names_of ds) b room
     below-after ss next (block a) b room = b
     below-after ss next empty b room = b
@@ -226,7 +284,8 @@ module _ (P : PureProgram) (ps : List ProcedureTree) (slots : ℕ) (fit : CallsF
     below-after ss next (return at e) b room = b
 
     mutual
-      pub statement-sound : (l : Bool) (ss : List Scope) (next id : ℕ) (s : StatementTree) → Below ss slots → next + length (declared_by s) ≤ slots → id + length (asserts_by s) ≤ length P.asserts →
+      pub statement-sound : (l : Bool) (ss : List Scope) (next id : ℕ) (s : StatementTree) → Below ss slots → next + length (declared_by s)
+          ≤ slots → id + length (asserts_by s) ≤ length P.asserts →
           statement_faults ps void l ss s ≡ [] → runs_well_scoped P slots l (lowered_statement ps ss next id s) ≡ true
       statement-sound l ss next id (block a) b room few h = statements-sound l ([] ∷ ss) next id a (below-push ss slots b) room few h
       statement-sound l ss next id empty b room few h = refl
@@ -235,29 +294,37 @@ module _ (P : PureProgram) (ps : List ProcedureTree) (slots : ℕ) (fit : CallsF
       statement-sound l ss next id (if_then e a) b room few h =
           let p = nil_both (expression_faults ps ss e) (statement_faults ps void l ss a) h in
           let fewer : id + length (asserts_by a) ≤ length P.asserts = omega (arith, length-append (asserts_of e) (asserts_by a)) in
-          both (is_well_scoped P slots (lowered ps ss e) && runs_well_scoped P slots l (lowered_statement ps ss next id a)) true (both (is_well_scoped P slots (lowered ps ss e)) (runs_well_scoped P slots l (lowered_statement ps ss next id a)) (expression-sound ss e b p.0) (statement-sound l ss next id a b room fewer p.1)) refl
+          both (is_well_scoped P slots (lowered ps ss e) && runs_well_scoped P slots l (lowered_statement ps ss next id a)) true
+          (both (is_well_scoped P slots (lowered ps ss e)) (runs_well_scoped P slots l (lowered_statement ps ss next id a))
+          (expression-sound ss e b p.0) (statement-sound l ss next id a b room fewer p.1)) refl
       statement-sound l ss next id (if_else e a c) b room few h =
           let p = nil_both (expression_faults ps ss e) (statement_faults ps void l ss a ++ statement_faults ps void l ss c) h in
           let q = nil_both (statement_faults ps void l ss a) (statement_faults ps void l ss c) p.1 in
           let lengths = length-append (asserts_of e) (asserts_by a ++ asserts_by c) in
           let others = length-append (asserts_by a) (asserts_by c) in
           let names = length-append (declared_by a) (declared_by c) in
-          both (is_well_scoped P slots (lowered ps ss e) && runs_well_scoped P slots l (lowered_statement ps ss next id a)) (runs_well_scoped P slots l (lowered_statement ps ss (next + length (declared_by a)) (id + length (asserts_by a)) c))
-          (both (is_well_scoped P slots (lowered ps ss e)) (runs_well_scoped P slots l (lowered_statement ps ss next id a)) (expression-sound ss e b p.0) (statement-sound l ss next id a b (omega arith) (omega arith) q.0))
+          both (is_well_scoped P slots (lowered ps ss e) && runs_well_scoped P slots l (lowered_statement ps ss next id a))
+          (runs_well_scoped P slots l (lowered_statement ps ss (next + length (declared_by a)) (id + length (asserts_by a)) c))
+          (both (is_well_scoped P slots (lowered ps ss e)) (runs_well_scoped P slots l (lowered_statement ps ss next id a))
+          (expression-sound ss e b p.0) (statement-sound l ss next id a b (omega arith) (omega arith) q.0))
           (statement-sound l ss (next + length (declared_by a)) (id + length (asserts_by a)) c b (omega arith) (omega arith) q.1)
       statement-sound l ss next id (while_loop e a) b room few h =
           let p = nil_both (expression_faults ps ss e) (statement_faults ps void true ss a) h in
           let fewer : id + length (asserts_by a) ≤ length P.asserts = omega (arith, length-append (asserts_of e) (asserts_by a)) in
-          both (is_well_scoped P slots (lowered ps ss e) && true) (runs_well_scoped P slots true (lowered_statement ps ss next id a)) (both (is_well_scoped P slots (lowered ps ss e)) true (expression-sound ss e b p.0) refl) (statement-sound true ss next id a b room fewer p.1)
+          both (is_well_scoped P slots (lowered ps ss e) && true) (runs_well_scoped P slots true (lowered_statement ps ss next id a))
+          (both (is_well_scoped P slots (lowered ps ss e)) true (expression-sound ss e b p.0) refl)
+          (statement-sound true ss next id a b room fewer p.1)
       statement-sound l ss next id (do_while a e) b room few h =
           let p = nil_both (statement_faults ps void true ss a) (expression_faults ps ss e) h in
           let fewer : id + length (asserts_by a) ≤ length P.asserts = omega (arith, length-append (asserts_by a) (asserts_of e)) in
-          both (runs_well_scoped P slots true (lowered_statement ps ss next id a)) (is_well_scoped P slots (lowered ps ss e)) (statement-sound true ss next id a b room fewer p.0) (expression-sound ss e b p.1)
+          both (runs_well_scoped P slots true (lowered_statement ps ss next id a)) (is_well_scoped P slots (lowered ps ss e))
+          (statement-sound true ss next id a b room fewer p.0) (expression-sound ss e b p.1)
       statement-sound l ss next id (for_loop f t s a) b room few h =
           let inside = init_scopes ps ss next f in
           let plain = plain_scopes ps ss f in
           let same : erased inside ≡ erased plain = erased-with_names ([] ∷ ss) ([] ∷ ss) next 0 (declared_by_init f) refl in
-          let p = nil_both (init_faults ps ([] ∷ ss) f) (optional_faults ps plain t ++ (step_faults ps plain s ++ statement_faults ps void true plain a)) h in
+          let p = nil_both (init_faults ps ([] ∷ ss) f)
+          (optional_faults ps plain t ++ (step_faults ps plain s ++ statement_faults ps void true plain a)) h in
           let q = nil_both (optional_faults ps plain t) (step_faults ps plain s ++ statement_faults ps void true plain a) p.1 in
           let r = nil_both (step_faults ps plain s) (statement_faults ps void true plain a) q.1 in
           let names = length-append (declared_by_init f) (declared_by a) in
@@ -267,18 +334,27 @@ module _ (P : PureProgram) (ps : List ProcedureTree) (slots : ℕ) (fit : CallsF
           let low : Below inside slots = below-names ([] ∷ ss) slots next (declared_by_init f) (below-push ss slots b) (omega arith) in
           let id_step = id + length (asserts_by_init f) in
           let id_body = id + length (asserts_by_init f) + length (asserts_by_step s) in
-          let test : is_well_scoped P slots (lowered_test ps inside t) ≡ true = test-sound inside t low (optional-same ps inside plain t same ∙ q.0) in
-          let step : runs_well_scoped P slots true (lowered_step ps inside id_step s) ≡ true = step-sound true inside id_step s low (omega arith) (step-same ps inside plain s same ∙ r.0) in
+          let test : is_well_scoped P slots (lowered_test ps inside t) ≡ true = test-sound inside t low
+          (optional-same ps inside plain t same ∙ q.0) in
+          let step : runs_well_scoped P slots true (lowered_step ps inside id_step s) ≡ true = step-sound true inside id_step s low
+          (omega arith) (step-same ps inside plain s same ∙ r.0) in
           let body : runs_well_scoped P slots true (lowered_statement ps inside (next + length (declared_by_init f)) id_body a) ≡ true =
-          statement-sound true inside (next + length (declared_by_init f)) id_body a low (omega arith) (omega arith) (statement-same ps void true inside plain a same ∙ r.1) in
-          with_init-sound l ss next id f (program.loop (lowered_test ps inside t) (lowered_step ps inside id_step s) (lowered_statement ps inside (next + length (declared_by_init f)) id_body a)) b (omega arith) (omega arith) p.0
-          (both (is_well_scoped P slots (lowered_test ps inside t) && runs_well_scoped P slots true (lowered_step ps inside id_step s)) (runs_well_scoped P slots true (lowered_statement ps inside (next + length (declared_by_init f)) id_body a))
-          (both (is_well_scoped P slots (lowered_test ps inside t)) (runs_well_scoped P slots true (lowered_step ps inside id_step s)) test step) body)
+          statement-sound true inside (next + length (declared_by_init f)) id_body a low (omega arith) (omega arith)
+          (statement-same ps void true inside plain a same ∙ r.1) in
+          with_init-sound l ss next id f (program.loop (lowered_test ps inside t) (lowered_step ps inside id_step s)
+          (lowered_statement ps inside (next + length (declared_by_init f)) id_body a)) b (omega arith) (omega arith) p.0
+          (both (is_well_scoped P slots (lowered_test ps inside t) && runs_well_scoped P slots true (lowered_step ps inside id_step s))
+          (runs_well_scoped P slots true (lowered_statement ps inside (next + length (declared_by_init f)) id_body a))
+          (both (is_well_scoped P slots (lowered_test ps inside t)) (runs_well_scoped P slots true (lowered_step ps inside id_step s)) test
+          step)
+          body)
       statement-sound l ss next id (break at) b room few h = not_false l (no_fault (not_bool l) OutsideLoop at h)
       statement-sound l ss next id (continue at) b room few h = not_false l (no_fault (not_bool l) OutsideLoop at h)
-      statement-sound l ss next id (return at e) b room few h = result-sound ss e b (nil_both (return_faults ps void at e) (optional_faults ps ss e) h).1
+      statement-sound l ss next id (return at e) b room few h = result-sound ss e b
+          (nil_both (return_faults ps void at e) (optional_faults ps ss e) h).1
 
-      pub statements-sound : (l : Bool) (ss : List Scope) (next id : ℕ) (a : StatementTrees) → Below ss slots → next + length (declared_in a) ≤ slots → id + length (asserts_in a) ≤ length P.asserts →
+      pub statements-sound : (l : Bool) (ss : List Scope) (next id : ℕ) (a : StatementTrees) → Below ss slots →
+          next + length (declared_in a) ≤ slots → id + length (asserts_in a) ≤ length P.asserts →
           statements_faults ps void l ss a ≡ [] → all_well_scoped P slots l (lowered_statements ps ss next id a) ≡ true
       statements-sound l ss next id no_statements b room few h = refl
       statements-sound l ss next id (statement s rest) b room few h =
@@ -286,7 +362,10 @@ module _ (P : PureProgram) (ps : List ProcedureTree) (slots : ℕ) (fit : CallsF
           let names = length-append (declared_by s) (declared_in rest) in
           let places = length-append (asserts_by s) (asserts_in rest) in
           let room_here : next + length (declared_by s) ≤ slots = omega arith in
-          all_sound-joined l (spliced ps ss next s (lowered_statement ps ss next id s)) (lowered_statements ps (scopes_after ps ss next s) (next + length (declared_by s)) (id + length (asserts_by s)) rest)
-          (spliced-sound l ss next s (lowered_statement ps ss next id s) b room_here p.0 (statement-sound l ss next id s b room_here (omega arith) p.0))
-          (statements-sound l (scopes_after ps ss next s) (next + length (declared_by s)) (id + length (asserts_by s)) rest (below-after ss next s b room_here) (omega arith) (omega arith)
+          all_sound-joined l (spliced ps ss next s (lowered_statement ps ss next id s)) (lowered_statements ps (scopes_after ps ss next s)
+          (next + length (declared_by s)) (id + length (asserts_by s)) rest)
+          (spliced-sound l ss next s (lowered_statement ps ss next id s) b room_here p.0
+          (statement-sound l ss next id s b room_here (omega arith) p.0))
+          (statements-sound l (scopes_after ps ss next s) (next + length (declared_by s)) (id + length (asserts_by s)) rest
+          (below-after ss next s b room_here) (omega arith) (omega arith)
           (statements-same ps void l (scopes_after ps ss next s) (plain_after ps ss s) rest (after-same ps ss next s) ∙ p.1))

@@ -11,14 +11,23 @@ scopes_onto-append ss [] ys = refl
 scopes_onto-append ss (Opens ∷ xs) ys = scopes_onto-append ([] ∷ ss) xs ys
 scopes_onto-append ss (Declares x slot before ∷ xs) ys = scopes_onto-append (with_variable ss x.now slot) xs ys
 
-pub slot-variable : (ss : List Scope) (y : List ℕ) (slot : ℕ) (x : List ℕ) → slot_of (with_variable ss y slot) x ≡ (if bytes_eq y x then Some slot else slot_of ss x)
-slot-variable [] y slot x = elim (bytes_eq y x) as (λ b. or_outer (if b then Some slot else None) None ≡ (if b then Some slot else None)) [ true ↦ refl | false ↦ refl ]
+pub slot-variable : (ss : List Scope) (y : List ℕ) (slot : ℕ) (x : List ℕ) → slot_of (with_variable ss y slot) x
+    ≡ (if bytes_eq y x then Some slot else slot_of ss x)
+slot-variable [] y slot x = elim (bytes_eq y x) as (λ b. or_outer (if b then Some slot else None) None
+    ≡ (if b then Some slot else None)) [ true ↦ refl | false ↦ refl ]
 slot-variable (t ∷ ts) y slot x =
-    elim (bytes_eq y x) as (λ b. or_outer (if b then Some slot else slot_in t x) (slot_of ts x) ≡ (if b then Some slot else or_outer (slot_in t x) (slot_of ts x))) [ true ↦ refl | false ↦ refl ]
+    elim (bytes_eq y x) as (λ b. or_outer (if b then Some slot else slot_in t x) (slot_of ts x)
+    ≡ (if b then Some slot else or_outer (slot_in t x) (slot_of ts x))) [ true ↦ refl | false ↦ refl ]
 
-pub declared-variable : (ss : List Scope) (y : List ℕ) (slot : ℕ) (x : List ℕ) → is_declared_here (with_variable ss y slot) x ≡ (bytes_eq y x || is_declared_here ss x)
-declared-variable [] y slot x = elim (bytes_eq y x) as (λ b. is_some (if b then Some slot else None) ≡ (b || false)) [ true ↦ refl | false ↦ refl ]
-declared-variable (t ∷ ts) y slot x = elim (bytes_eq y x) as (λ b. is_some (if b then Some slot else slot_in t x) ≡ (b || is_some (slot_in t x))) [ true ↦ refl | false ↦ refl ]
+pub declared-variable : (ss : List Scope) (y : List ℕ) (slot : ℕ) (x : List ℕ) → is_declared_here (with_variable ss y slot) x
+    ≡ (bytes_eq y x || is_declared_here ss x)
+declared-variable [] y slot x = elim (bytes_eq y x) as (λ b. is_some (if b then Some slot else None) ≡ (b || false)) [
+  | true ↦ refl
+  | false ↦
+      refl
+]
+declared-variable (t ∷ ts) y slot x = elim (bytes_eq y x) as (λ b. is_some (if b then Some slot else slot_in t x)
+    ≡ (b || is_some (slot_in t x))) [ true ↦ refl | false ↦ refl ]
 
 pub outer-variable : (ss : List Scope) (x : List ℕ) (slot : ℕ) → outer_of (with_variable ss x slot) ≡ outer_of ss
 outer-variable [] x slot = refl
@@ -26,11 +35,14 @@ outer-variable (s ∷ ss) x slot = refl
 
 -- the last entry leaves
 pub close_opens : (old new : List Entry) (e : Entry) → old ≡ new ++ e ∷ [] → e ≡ Opens → scopes_onto [] new ≡ outer_of (scopes_onto [] old)
-close_opens old new e popped is = sym (ap (λ r. outer_of (scopes_onto [] r)) (popped ∙ ap (λ x. new ++ x ∷ []) is) ∙ ap outer_of (scopes_onto-append [] new (Opens ∷ [])))
+close_opens old new e popped is = sym (ap (λ r. outer_of (scopes_onto [] r)) (popped ∙ ap (λ x. new ++ x ∷ []) is)
+    ∙ ap outer_of (scopes_onto-append [] new (Opens ∷ [])))
 
-pub close_declares : (old new : List Entry) (e : Entry) (y : Bor (List ℕ)) (slot : ℕ) (before : Option Meaning) → old ≡ new ++ e ∷ [] → e ≡ Declares y slot before → outer_of (scopes_onto [] new) ≡ outer_of (scopes_onto [] old)
+pub close_declares : (old new : List Entry) (e : Entry) (y : Bor (List ℕ)) (slot : ℕ) (before : Option Meaning) → old ≡ new ++ e ∷ [] →
+    e ≡ Declares y slot before → outer_of (scopes_onto [] new) ≡ outer_of (scopes_onto [] old)
 close_declares old new e y slot before popped is =
-    sym (ap (λ r. outer_of (scopes_onto [] r)) (popped ∙ ap (λ x. new ++ x ∷ []) is) ∙ ap outer_of (scopes_onto-append [] new (Declares y slot before ∷ [])) ∙ outer-variable (scopes_onto [] new) y.now slot)
+    sym (ap (λ r. outer_of (scopes_onto [] r)) (popped ∙ ap (λ x. new ++ x ∷ []) is)
+    ∙ ap outer_of (scopes_onto-append [] new (Declares y slot before ∷ [])) ∙ outer-variable (scopes_onto [] new) y.now slot)
 
 -- entries that came behind others, and their way back
 
@@ -51,5 +63,6 @@ longer-still (x ∷ a) (y ∷ b) (z ∷ c) h k =
     first_or d [] = d
     first_or d (e ∷ es) = e
 
-pub back_again : (old mid new : List Entry) (mark : ℕ) → mark ≡ length old → take (length old) mid ≡ old → new ≡ take mark mid → scopes_onto [] new ≡ scopes_onto [] old
+pub back_again : (old mid new : List Entry) (mark : ℕ) → mark ≡ length old → take (length old) mid ≡ old → new ≡ take mark mid →
+    scopes_onto [] new ≡ scopes_onto [] old
 back_again old mid new mark is longer back = ap (scopes_onto []) (back ∙ ap (λ k. take k mid) is ∙ longer)

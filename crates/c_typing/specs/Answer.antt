@@ -37,7 +37,9 @@ rank (OverLimit w) = 9 + which_rank w
 -- by line, then by column, then by the order of faults
 abbrev pub IsBefore : Fault → Fault → Type 0
 IsBefore f g =
-    (f.at.line < g.at.line) ⊎ ((f.at.line ≡ g.at.line) × ((f.at.column < g.at.column) ⊎ ((f.at.column ≡ g.at.column) × (rank f.fault < rank g.fault))))
+    (f.at.line < g.at.line)
+    ⊎ ((f.at.line ≡ g.at.line)
+    × ((f.at.column < g.at.column) ⊎ ((f.at.column ≡ g.at.column) × (rank f.fault < rank g.fault))))
 
 abbrev pub DefinesMain : List FileItem → Type 0
 DefinesMain is = IsSome (number_of (procedures_of is) (codes "main"))
@@ -63,7 +65,8 @@ pub record LacksMain (is : List FileItem) (f : Fault) : Type 0 where
   pub told : f ≡ record { fault = NoMain; at = start }
 
 abbrev pub IsFirstFault : List FileItem → TypeFault → Pos → Type 0
-IsFirstFault is f p = IsFirstOf is (record { fault = f; at = p }) ⊎ LacksMain is (record { fault = f; at = p })
+IsFirstFault is f p = IsFirstOf is (record { fault = f; at = p })
+    ⊎ LacksMain is (record { fault = f; at = p })
 
 -- this program is answered, unless memory runs out
 abbrev pub Gives : Result Program TypeError → PureProgram → Type 0

@@ -37,10 +37,13 @@ argument_count (argument e es) = 1 + argument_count es
 -- a call with so many arguments; `used` says that its value is used
 abbrev pub callee_faults : Callee → Identifier → ℕ → (used : Bool) → List Fault
 callee_faults input n count used = fault_if (not_bool (count == 0)) WrongCount n.at
-callee_faults assume n count used = fault_if (not_bool (count == 1)) WrongCount n.at ++ fault_if used VoidValue n.at
-callee_faults assert n count used = fault_if (not_bool (count == 1)) WrongCount n.at ++ fault_if used VoidValue n.at
+callee_faults assume n count used = fault_if (not_bool (count == 1)) WrongCount n.at
+    ++ fault_if used VoidValue n.at
+callee_faults assert n count used = fault_if (not_bool (count == 1)) WrongCount n.at
+    ++ fault_if used VoidValue n.at
 callee_faults (defined number params void) n count used =
-    fault_if (not_bool (count == params)) WrongCount n.at ++ (fault_if (used && void) VoidValue n.at ++ fault_if (is_main n.name) MainShape n.at)
+    fault_if (not_bool (count == params)) WrongCount n.at
+    ++ (fault_if (used && void) VoidValue n.at ++ fault_if (is_main n.name) MainShape n.at)
 callee_faults unknown n count used = fault_if true UnknownName n.at
 
 -- a variable that isn't in scope
@@ -52,16 +55,19 @@ module _ (ps : List ProcedureTree) where
     pub expression_faults : List Scope → ExpressionTree → List Fault
     expression_faults scopes (literal n) = []
     expression_faults scopes (name n) = name_faults scopes n
-    expression_faults scopes (call n es) = callee_faults (callee_of ps n.name) n (argument_count es) true ++ arguments_faults scopes es
+    expression_faults scopes (call n es) = callee_faults (callee_of ps n.name) n (argument_count es)
+        true ++ arguments_faults scopes es
     expression_faults scopes (not e) = expression_faults scopes e
     expression_faults scopes (negate e) = expression_faults scopes e
     expression_faults scopes (plus e) = expression_faults scopes e
     expression_faults scopes (binary o at a b) =
-        fault_if (is_product o && not_bool (is_constant a || is_constant b)) NotLinear at ++ (expression_faults scopes a ++ expression_faults scopes b)
+        fault_if (is_product o && not_bool (is_constant a || is_constant b)) NotLinear at
+        ++ (expression_faults scopes a ++ expression_faults scopes b)
 
     pub arguments_faults : List Scope → ExpressionTrees → List Fault
     arguments_faults scopes no_arguments = []
-    arguments_faults scopes (argument e es) = expression_faults scopes e ++ arguments_faults scopes es
+    arguments_faults scopes (argument e es) = expression_faults scopes e ++ arguments_faults scopes
+        es
 
   abbrev pub optional_faults : List Scope → Option ExpressionTree → List Fault
   optional_faults scopes None = []
@@ -72,10 +78,12 @@ module _ (ps : List ProcedureTree) where
   abbrev pub simple_faults : List Scope → SimpleStatement → List Fault
   simple_faults scopes (set n e) = name_faults scopes n ++ expression_faults scopes e
   simple_faults scopes (change o at n e) =
-      name_faults scopes n ++ (fault_if (is_product o && not_bool (is_constant e)) NotLinear at ++ expression_faults scopes e)
+      name_faults scopes n ++ (fault_if (is_product o && not_bool (is_constant e)) NotLinear at
+      ++ expression_faults scopes e)
   simple_faults scopes (add_one n) = name_faults scopes n
   simple_faults scopes (subtract_one n) = name_faults scopes n
-  simple_faults scopes (call_statement n es) = callee_faults (callee_of ps n.name) n (argument_count es) false ++ arguments_faults scopes es
+  simple_faults scopes (call_statement n es) = callee_faults (callee_of ps n.name) n
+      (argument_count es) false ++ arguments_faults scopes es
 
   abbrev pub step_faults : List Scope → Option SimpleStatement → List Fault
   step_faults scopes None = []
@@ -83,13 +91,16 @@ module _ (ps : List ProcedureTree) where
 
   -- a name that its scope has already, or that no variable may have
   abbrev pub declared_faults : List Scope → Identifier → List Fault
-  declared_faults scopes n = fault_if (is_declared_here scopes n.name || is_built_in n.name) Duplicate n.at
+  declared_faults scopes n = fault_if (is_declared_here scopes n.name || is_built_in n.name)
+      Duplicate n.at
 
   -- an initialiser doesn't see its name; the slots don't matter here
   abbrev pub declarators_faults : List Scope → List Declarator → List Fault
   declarators_faults scopes [] = []
   declarators_faults scopes (d ∷ ds) =
-      optional_faults scopes d.value ++ (declared_faults scopes d.named ++ declarators_faults (with_variable scopes d.named.name 0) ds)
+      optional_faults scopes d.value
+      ++ (declared_faults scopes d.named ++ declarators_faults (with_variable scopes d.named.name 0)
+      ds)
 
   abbrev pub init_faults : List Scope → ForInit → List Fault
   init_faults scopes no_init = []
@@ -116,19 +127,27 @@ module _ (ps : List ProcedureTree) where
       statement_faults l scopes empty = []
       statement_faults l scopes (declare ds) = declarators_faults scopes ds
       statement_faults l scopes (simple s) = simple_faults scopes s
-      statement_faults l scopes (if_then e a) = expression_faults scopes e ++ statement_faults l scopes a
-      statement_faults l scopes (if_else e a b) = expression_faults scopes e ++ (statement_faults l scopes a ++ statement_faults l scopes b)
-      statement_faults l scopes (while_loop e a) = expression_faults scopes e ++ statement_faults true scopes a
-      statement_faults l scopes (do_while a e) = statement_faults true scopes a ++ expression_faults scopes e
+      statement_faults l scopes (if_then e a) = expression_faults scopes e ++ statement_faults l
+          scopes a
+      statement_faults l scopes (if_else e a b) = expression_faults scopes e
+          ++ (statement_faults l scopes a ++ statement_faults l scopes b)
+      statement_faults l scopes (while_loop e a) = expression_faults scopes e ++ statement_faults
+          true scopes a
+      statement_faults l scopes (do_while a e) = statement_faults true scopes a ++ expression_faults
+          scopes e
       statement_faults l scopes (for_loop f t s a) =
-          init_faults ([] ∷ scopes) f ++ (optional_faults (init_scopes scopes f) t ++ (step_faults (init_scopes scopes f) s ++ statement_faults true (init_scopes scopes f) a))
+          init_faults ([] ∷ scopes) f
+          ++ (optional_faults (init_scopes scopes f) t
+          ++ (step_faults (init_scopes scopes f) s ++ statement_faults true (init_scopes scopes f)
+          a))
       statement_faults l scopes (break at) = fault_if (not_bool l) OutsideLoop at
       statement_faults l scopes (continue at) = fault_if (not_bool l) OutsideLoop at
       statement_faults l scopes (return at e) = return_faults void at e ++ optional_faults scopes e
 
       pub statements_faults : (in_loop : Bool) → List Scope → StatementTrees → List Fault
       statements_faults l scopes no_statements = []
-      statements_faults l scopes (statement s ss) = statement_faults l scopes s ++ statements_faults l (scopes_after scopes s) ss
+      statements_faults l scopes (statement s ss) = statement_faults l scopes s ++ statements_faults
+          l (scopes_after scopes s) ss
 
 -- Procedures and files
 
@@ -143,13 +162,17 @@ place_of (Some n) = Some n.at
 
 abbrev pub parameters_faults : List Scope → List Identifier → List Fault
 parameters_faults scopes [] = []
-parameters_faults scopes (n ∷ ns) = fault_if (is_declared_here scopes n.name || is_built_in n.name) Duplicate n.at ++ parameters_faults (with_variable scopes n.name 0) ns
+parameters_faults scopes (n ∷ ns) = fault_if (is_declared_here scopes n.name || is_built_in n.name)
+    Duplicate n.at ++ parameters_faults (with_variable scopes n.name 0) ns
 
--- the name is one that no procedure may have, or an earlier procedure has it; `main` is no `void` and has no parameters
+-- the name is one that no procedure may have, or an earlier procedure has it; `main` is no `void`
+-- and has no parameters
 abbrev pub heading_faults : (earlier : List ProcedureTree) → ProcedureTree → List Fault
 heading_faults earlier p =
-    fault_if (is_built_in p.named.name || is_some (number_of earlier p.named.name)) Duplicate p.named.at
-    ++ fault_if (is_main p.named.name && (p.void || not_bool (length p.params == 0))) MainShape p.named.at
+    fault_if (is_built_in p.named.name || is_some (number_of earlier p.named.name)) Duplicate
+    p.named.at
+    ++ fault_if (is_main p.named.name && (p.void || not_bool (length p.params == 0))) MainShape
+    p.named.at
 
 abbrev pub procedure_faults : (all earlier : List ProcedureTree) → ProcedureTree → List Fault
 procedure_faults all earlier p =
@@ -162,12 +185,15 @@ procedure_faults all earlier p =
 
 abbrev pub procedures_faults : (all earlier : List ProcedureTree) → List ProcedureTree → List Fault
 procedures_faults all earlier [] = []
-procedures_faults all earlier (p ∷ ps) = procedure_faults all earlier p ++ procedures_faults all (earlier ++ p ∷ []) ps
+procedures_faults all earlier (p ∷ ps) = procedure_faults all earlier p ++ procedures_faults all
+    (earlier ++ p ∷ []) ps
 
 -- a prototype of a name that isn't built in and that no procedure has
 abbrev pub prototypes_faults : List ProcedureTree → List FileItem → List Fault
 prototypes_faults ps [] = []
-prototypes_faults ps (prototype n ∷ is) = fault_if (not_bool (is_built_in n.name || is_some (number_of ps n.name))) UnknownName n.at ++ prototypes_faults ps is
+prototypes_faults ps (prototype n ∷ is) = fault_if
+    (not_bool (is_built_in n.name || is_some (number_of ps n.name))) UnknownName n.at
+    ++ prototypes_faults ps is
 prototypes_faults ps (procedure p ∷ is) = prototypes_faults ps is
 
 abbrev pub procedure_place : Option ProcedureTree → Option Pos

@@ -70,10 +70,14 @@ module _ (ps : List ProcedureTree) where
   -- `id` is the number of the next assertion
   abbrev pub lowered_simple : List Scope → ℕ → SimpleStatement → Statement
   lowered_simple scopes id (set n e) = program.set (slot scopes n) (lowered scopes e)
-  lowered_simple scopes id (change o at n e) = program.set (slot scopes n) (program.binary o (program.read (slot scopes n)) (lowered scopes e))
-  lowered_simple scopes id (add_one n) = program.set (slot scopes n) (program.binary op.Add (program.read (slot scopes n)) (program.literal (pos 1)))
-  lowered_simple scopes id (subtract_one n) = program.set (slot scopes n) (program.binary op.Subtract (program.read (slot scopes n)) (program.literal (pos 1)))
-  lowered_simple scopes id (call_statement n es) = called_statement (callee_of ps n.name) id (lowered_all scopes es)
+  lowered_simple scopes id (change o at n e) = program.set (slot scopes n)
+      (program.binary o (program.read (slot scopes n)) (lowered scopes e))
+  lowered_simple scopes id (add_one n) = program.set (slot scopes n)
+      (program.binary op.Add (program.read (slot scopes n)) (program.literal (pos 1)))
+  lowered_simple scopes id (subtract_one n) = program.set (slot scopes n)
+      (program.binary op.Subtract (program.read (slot scopes n)) (program.literal (pos 1)))
+  lowered_simple scopes id (call_statement n es) = called_statement (callee_of ps n.name) id
+      (lowered_all scopes es)
 
   abbrev pub lowered_step : List Scope → ℕ → Option SimpleStatement → Statement
   lowered_step scopes id None = nothing
@@ -83,16 +87,22 @@ module _ (ps : List ProcedureTree) where
   abbrev pub lowered_declarators : List Scope → (next : ℕ) → List Declarator → Statements
   lowered_declarators scopes next [] = program.no_statements
   lowered_declarators scopes next (d ∷ ds) =
-      program.statement (program.set next (lowered_value scopes d.value)) (lowered_declarators (with_variable scopes d.named.name next) (next + 1) ds)
+      program.statement (program.set next (lowered_value scopes d.value))
+      (lowered_declarators (with_variable scopes d.named.name next) (next + 1) ds)
 
   abbrev pub init_scopes : List Scope → (next : ℕ) → ForInit → List Scope
   init_scopes scopes next f = with_names ([] ∷ scopes) next (declared_by_init f)
 
-  -- the first part of a `for`, and then its loop: a block of them, and without a first part the loop itself
+  -- the first part of a `for`, and then its loop: a block of them, and without a first part the
+  -- loop itself
   abbrev pub with_init : List Scope → (next id : ℕ) → ForInit → Statement → Statement
   with_init scopes next id no_init whole = whole
-  with_init scopes next id (declaring ds) whole = program.block (joined (lowered_declarators ([] ∷ scopes) next ds) (program.statement whole program.no_statements))
-  with_init scopes next id (starting s) whole = program.block (program.statement (lowered_simple ([] ∷ scopes) id s) (program.statement whole program.no_statements))
+  with_init scopes next id (declaring ds) whole = program.block
+      (joined (lowered_declarators ([] ∷ scopes) next ds)
+      (program.statement whole program.no_statements))
+  with_init scopes next id (starting s) whole = program.block
+      (program.statement (lowered_simple ([] ∷ scopes) id s)
+      (program.statement whole program.no_statements))
 
   -- behind a statement of a block
   abbrev pub scopes_after : List Scope → (next : ℕ) → StatementTree → List Scope
@@ -107,19 +117,27 @@ module _ (ps : List ProcedureTree) where
   -- `next` is the next slot, and `id` the number of the next assertion
   abbrev mutual
     pub lowered_statement : List Scope → (next id : ℕ) → StatementTree → Statement
-    lowered_statement scopes next id (block ss) = program.block (lowered_statements ([] ∷ scopes) next id ss)
+    lowered_statement scopes next id (block ss) = program.block
+        (lowered_statements ([] ∷ scopes) next id ss)
     lowered_statement scopes next id empty = nothing
-    lowered_statement scopes next id (declare ds) = program.block (lowered_declarators scopes next ds)
+    lowered_statement scopes next id (declare ds) = program.block
+        (lowered_declarators scopes next ds)
     lowered_statement scopes next id (simple s) = lowered_simple scopes id s
-    lowered_statement scopes next id (if_then e a) = program.if_else (lowered scopes e) (lowered_statement scopes next id a) nothing
+    lowered_statement scopes next id (if_then e a) = program.if_else (lowered scopes e)
+        (lowered_statement scopes next id a) nothing
     lowered_statement scopes next id (if_else e a b) =
-        program.if_else (lowered scopes e) (lowered_statement scopes next id a) (lowered_statement scopes (next + length (declared_by a)) (id + length (asserts_by a)) b)
-    lowered_statement scopes next id (while_loop e a) = program.loop (lowered scopes e) nothing (lowered_statement scopes next id a)
-    lowered_statement scopes next id (do_while a e) = program.do_while (lowered_statement scopes next id a) (lowered scopes e)
+        program.if_else (lowered scopes e) (lowered_statement scopes next id a)
+        (lowered_statement scopes (next + length (declared_by a)) (id + length (asserts_by a)) b)
+    lowered_statement scopes next id (while_loop e a) = program.loop (lowered scopes e) nothing
+        (lowered_statement scopes next id a)
+    lowered_statement scopes next id (do_while a e) = program.do_while
+        (lowered_statement scopes next id a) (lowered scopes e)
     lowered_statement scopes next id (for_loop f t s a) =
         with_init scopes next id f
-        (program.loop (lowered_test (init_scopes scopes next f) t) (lowered_step (init_scopes scopes next f) (id + length (asserts_by_init f)) s)
-        (lowered_statement (init_scopes scopes next f) (next + length (declared_by_init f)) (id + length (asserts_by_init f) + length (asserts_by_step s)) a))
+        (program.loop (lowered_test (init_scopes scopes next f) t)
+        (lowered_step (init_scopes scopes next f) (id + length (asserts_by_init f)) s)
+        (lowered_statement (init_scopes scopes next f) (next + length (declared_by_init f))
+        (id + length (asserts_by_init f) + length (asserts_by_step s)) a))
     lowered_statement scopes next id (break at) = program.break
     lowered_statement scopes next id (continue at) = program.continue
     lowered_statement scopes next id (return at e) = program.return (lowered_result scopes e)
@@ -128,7 +146,9 @@ module _ (ps : List ProcedureTree) where
     pub lowered_statements : List Scope → (next id : ℕ) → StatementTrees → Statements
     lowered_statements scopes next id no_statements = program.no_statements
     lowered_statements scopes next id (statement s ss) =
-        joined (spliced scopes next s (lowered_statement scopes next id s)) (lowered_statements (scopes_after scopes next s) (next + length (declared_by s)) (id + length (asserts_by s)) ss)
+        joined (spliced scopes next s (lowered_statement scopes next id s))
+        (lowered_statements (scopes_after scopes next s) (next + length (declared_by s))
+        (id + length (asserts_by s)) ss)
 
   abbrev pub lowered_procedure : (id : ℕ) → ProcedureTree → PureProcedure
   lowered_procedure id p = record {
@@ -141,12 +161,14 @@ module _ (ps : List ProcedureTree) where
 
   abbrev pub lowered_procedures : (id : ℕ) → List ProcedureTree → List PureProcedure
   lowered_procedures id [] = []
-  lowered_procedures id (q ∷ qs) = lowered_procedure id q ∷ lowered_procedures (id + length (asserts_in q.body)) qs
+  lowered_procedures id (q ∷ qs) = lowered_procedure id q ∷ lowered_procedures
+      (id + length (asserts_in q.body)) qs
 
 -- where the assertions of the procedures from the number `proc` on stand
 abbrev pub assert_places : (proc : ℕ) → List ProcedureTree → List AssertPlace
 assert_places proc [] = []
-assert_places proc (p ∷ ps) = map (λ at. record { at = at; proc = proc }) (asserts_in p.body) ++ assert_places (proc + 1) ps
+assert_places proc (p ∷ ps) = map (λ at. record { at = at; proc = proc }) (asserts_in p.body)
+    ++ assert_places (proc + 1) ps
 
 abbrev pub lowered_file : List FileItem → PureProgram
 lowered_file is = record {

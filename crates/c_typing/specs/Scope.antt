@@ -45,10 +45,12 @@ pub data Callee : Type 0 where
 
 abbrev pub defined_from : ℕ → List ProcedureTree → List ℕ → Callee
 defined_from i [] x = unknown
-defined_from i (p ∷ ps) x = if bytes_eq p.named.name x then defined i (length p.params) p.void else defined_from (i + 1) ps x
+defined_from i (p ∷ ps) x = if bytes_eq p.named.name x then defined i (length p.params) p.void else
+    defined_from (i + 1) ps x
 
 abbrev pub callee_of : List ProcedureTree → List ℕ → Callee
-callee_of ps x = if is_input x then input else (if is_assume x then assume else (if is_assert x then assert else defined_from 0 ps x))
+callee_of ps x = if is_input x then input else
+    (if is_assume x then assume else (if is_assert x then assert else defined_from 0 ps x))
 
 -- Variables
 
@@ -178,7 +180,8 @@ abbrev mutual
   asserts_by (if_else e a b) = asserts_of e ++ (asserts_by a ++ asserts_by b)
   asserts_by (while_loop e a) = asserts_of e ++ asserts_by a
   asserts_by (do_while a e) = asserts_by a ++ asserts_of e
-  asserts_by (for_loop f t s a) = asserts_by_init f ++ (asserts_of_optional t ++ (asserts_by_step s ++ asserts_by a))
+  asserts_by (for_loop f t s a) = asserts_by_init f
+      ++ (asserts_of_optional t ++ (asserts_by_step s ++ asserts_by a))
   asserts_by (break at) = []
   asserts_by (continue at) = []
   asserts_by (return at e) = asserts_of_optional e

@@ -25,8 +25,10 @@ use std::alloc::Global;
 pub fn check_types(alloc: Global, tree: &Tree) -> Result<Program, TypeError>
     ensures ok { IfOk result (λ p. IsProgram (file_of tree.now) (program_of p)) }
     ensures only { (P : PureProgram) → IsProgram (file_of tree.now) P → Gives result P }
-    ensures refused { (f : TypeFault) (p : Pos) → result ≡ Err (TypeError.Refused f p) → IsFirstFault (file_of tree.now) f p }
-    ensures if_fault { (f : TypeFault) (p : Pos) → IsFirstFault (file_of tree.now) f p → Refuses result f p }
+    ensures refused { (f : TypeFault) (p : Pos) → result ≡ Err (TypeError.Refused f p) →
+        IsFirstFault (file_of tree.now) f p }
+    ensures if_fault { (f : TypeFault) (p : Pos) → IsFirstFault (file_of tree.now) f p →
+        Refuses result f p }
 {
     let table = Table::new(alloc, &tree.items)?;
     let notes = all(alloc, &table)?;

@@ -1,4 +1,5 @@
-//! From syntax trees to programs: scopes, types and limits. The first pass, `check`, finds the faults of a tree; the
+//! From syntax trees to programs: scopes, types and limits. The first pass, `check`, finds the
+//! faults of a tree; the
 //! second, `lower`, makes the program of a tree without faults.
 #![tactic(auto)]
 

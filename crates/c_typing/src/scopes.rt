@@ -33,7 +33,8 @@ pub struct Scopes<'a> {
 /// A name means again what it meant before.
 fn restore<'a>(meanings: &mut BTreeMap<&'a str, Meaning>, name: &'a str, before: Option<Meaning>)
     requires { IsSome (found_in meanings.old name.now) }
-    ensures { (x : List ℕ) → found_in meanings.new x ≡ (if bytes_eq name.now x then before else found_in meanings.old x) }
+    ensures { (x : List ℕ) → found_in meanings.new x
+        ≡ (if bytes_eq name.now x then before else found_in meanings.old x) }
 {
     match before {
         Some(meaning) => {
@@ -46,7 +47,7 @@ fn restore<'a>(meanings: &mut BTreeMap<&'a str, Meaning>, name: &'a str, before:
 }
 
 impl<'a> Scopes<'a> {
-    ghost use Rattle.std.specs.Prelude.{◌++◌, [], ◌∷◌, OnOk, IfOk, MatchOption, length, take};
+    ghost use Rattle.std.specs.Prelude.{◌++◌, [], ◌∷◌, OnOk, MatchOption, length, take};
     ghost use Rattle.c_typing.specs.steps.Meanings.{meaning_in};
     ghost use Rattle.c_typing.specs.Scope.{slot_of, is_declared_here, with_variable};
     ghost use Rattle.c_typing.specs.steps.Tables.{scopes_of, outer_of, IsLonger};
@@ -113,7 +114,8 @@ impl<'a> Scopes<'a> {
 
     /// Declares a variable in the innermost scope.
     pub fn declare(&mut self, name: &'a str, slot: u32) -> Result<(), AllocError>
-        ensures scopes { OnOk result (scopes_of self.new ≡ with_variable (scopes_of self.old) name.now slot) }
+        ensures scopes { OnOk result (scopes_of self.new ≡ with_variable (scopes_of self.old)
+            name.now slot) }
         ensures longer { OnOk result (IsLonger self.old self.new) }
     {
         let before = self.meaning_of(name);

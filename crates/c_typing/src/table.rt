@@ -10,7 +10,8 @@ use c_tree::syntax_tree::{Item, ProcTree};
 use std::alloc::{AllocError, Global};
 use std::collections::BTreeMap;
 
-/// What is called by a name: a procedure by its number, how many parameters it has and whether it is `void`.
+/// What is called by a name: a procedure by its number, how many parameters it has and whether it
+/// is `void`.
 #[derive(Clone, Copy)]
 pub enum Called {
     Input,
@@ -56,7 +57,8 @@ fn add<'a>(
     number: usize,
     procedure: &'a ProcTree,
 ) -> Result<(), AllocError>
-    ensures { OnOk result ((x : List ℕ) → found_in definitions.new x ≡ kept_or (found_in definitions.old x)
+    ensures { OnOk result ((x : List ℕ) → found_in definitions.new x
+        ≡ kept_or (found_in definitions.old x)
         (procedure_tree_of procedure.now) number x) }
 {
     let name = procedure.named.name.as_str();

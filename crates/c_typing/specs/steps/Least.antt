@@ -8,7 +8,8 @@ abbrev pub is_before_by : (a b c x y z : ℕ) → Bool
 is_before_by a b c x y z = nat_lt a x || ((a == x) && (nat_lt b y || ((b == y) && nat_lt c z)))
 
 abbrev pub is_before : Fault → Fault → Bool
-is_before f g = is_before_by f.at.line f.at.column (rank f.fault) g.at.line g.at.column (rank g.fault)
+is_before f g = is_before_by f.at.line f.at.column (rank f.fault) g.at.line g.at.column
+    (rank g.fault)
 
 -- the first of a fault before and another one
 abbrev pub first_of_two : Option Fault → Fault → Fault

@@ -1,4 +1,5 @@
--- The steps from a tree without faults to its program: what each takes, and what it makes. (No assertion stands in an expression there.)
+-- The steps from a tree without faults to its program: what each takes, and what it makes. (No
+-- assertion stands in an expression there.)
 use Rattle.std.specs.Prelude.{◌≡◌, ℕ, ◌+◌, ◌≤◌, length, List, [], ◌∷◌, Option, Some, None}
 use Rattle.c_tree.specs.SourceTree.{SimpleStatement, set, change, add_one, subtract_one, call_statement, ForInit, no_init, declaring, starting, StatementTree, block, empty, declare, simple, if_then, if_else, while_loop, do_while, for_loop, break, continue, return, StatementTrees, no_statements, statement, ProcedureTree}
 use Rattle.c_tree.specs.declared.tree.Pos.{Pos}
@@ -36,7 +37,8 @@ abbrev mutual
   IsQuiet (if_else e a b) = (asserts_of e ≡ []) × IsQuiet a × IsQuiet b
   IsQuiet (while_loop e a) = (asserts_of e ≡ []) × IsQuiet a
   IsQuiet (do_while a e) = (asserts_of e ≡ []) × IsQuiet a
-  IsQuiet (for_loop f t s a) = IsQuietInit f × (asserts_of_optional t ≡ []) × IsQuietStep s × IsQuiet a
+  IsQuiet (for_loop f t s a) = IsQuietInit f × (asserts_of_optional t ≡ []) × IsQuietStep s
+      × IsQuiet a
   IsQuiet (break at) = Unit {0}
   IsQuiet (continue at) = Unit {0}
   IsQuiet (return at e) = asserts_of_optional e ≡ []
@@ -57,20 +59,24 @@ pub record HasRoomForAll (next id : ℕ) (ss : StatementTrees) : Type 0 where
   pub quiet : AreQuiet ss
 
 -- what a statement becomes, and the numbers and scopes behind it
-pub record IsLowered (ps : List ProcedureTree) (before after : List Scope) (next id next' id' : ℕ) (s : StatementTree) (made : Statement) : Type 0 where
+pub record IsLowered (ps : List ProcedureTree) (before after : List Scope) (next id next' id' : ℕ)
+    (s : StatementTree) (made : Statement) : Type 0 where
   pub statement_is : made ≡ lowered_statement ps before next id s
   pub next_is : next' ≡ next + length (declared_by s)
   pub id_is : id' ≡ id + length (asserts_by s)
   pub scopes : after ≡ before
 
 -- the same of a statement of a block, whose statements so far it lengthens
-pub record IsPlaced (ps : List ProcedureTree) (before after : List Scope) (next id next' id' : ℕ) (s : StatementTree) (old new : Statements) : Type 0 where
-  pub statements_are : new ≡ joined old (spliced ps before next s (lowered_statement ps before next id s))
+pub record IsPlaced (ps : List ProcedureTree) (before after : List Scope) (next id next' id' : ℕ)
+    (s : StatementTree) (old new : Statements) : Type 0 where
+  pub statements_are : new
+      ≡ joined old (spliced ps before next s (lowered_statement ps before next id s))
   pub next_is : next' ≡ next + length (declared_by s)
   pub id_is : id' ≡ id + length (asserts_by s)
   pub scopes : after ≡ scopes_after ps before next s
 
-pub record AreLowered (ps : List ProcedureTree) (before after : List Scope) (next id next' id' : ℕ) (ss : StatementTrees) (made : Statements) : Type 0 where
+pub record AreLowered (ps : List ProcedureTree) (before after : List Scope) (next id next' id' : ℕ)
+    (ss : StatementTrees) (made : Statements) : Type 0 where
   pub statements_are : made ≡ lowered_statements ps before next id ss
   pub next_is : next' ≡ next + length (declared_in ss)
   pub id_is : id' ≡ id + length (asserts_in ss)
@@ -80,13 +86,16 @@ pub record AreLowered (ps : List ProcedureTree) (before after : List Scope) (nex
 abbrev pub init_statements : List ProcedureTree → List Scope → (next id : ℕ) → ForInit → Statements
 init_statements ps ss next id no_init = program.no_statements
 init_statements ps ss next id (declaring ds) = lowered_declarators ps ss next ds
-init_statements ps ss next id (starting s) = program.statement (lowered_simple ps ss id s) program.no_statements
+init_statements ps ss next id (starting s) = program.statement (lowered_simple ps ss id s)
+    program.no_statements
 
 -- those statements and then a loop
 abbrev pub wrapped : ForInit → Statements → Statement → Statement
 wrapped no_init before whole = whole
-wrapped (declaring ds) before whole = program.block (joined before (program.statement whole program.no_statements))
-wrapped (starting s) before whole = program.block (joined before (program.statement whole program.no_statements))
+wrapped (declaring ds) before whole = program.block
+    (joined before (program.statement whole program.no_statements))
+wrapped (starting s) before whole = program.block
+    (joined before (program.statement whole program.no_statements))
 
 -- the same of a procedure: its parameters are its first variables
 pub record ProcedureFits (id : ℕ) (p : ProcedureTree) : Type 0 where

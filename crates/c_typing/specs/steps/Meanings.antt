@@ -17,8 +17,10 @@ abbrev pub nothing_known : List ℕ → Option Meaning
 nothing_known x = None
 
 -- a name means a slot that was declared while so many scopes were open
-abbrev pub with_meaning : (List ℕ → Option Meaning) → List ℕ → (slot depth : ℕ) → List ℕ → Option Meaning
-with_meaning f x slot depth y = if bytes_eq x y then Some (record { slot = slot; depth = depth }) else f y
+abbrev pub with_meaning : (List ℕ → Option Meaning) → List ℕ → (slot depth : ℕ) → List ℕ →
+    Option Meaning
+with_meaning f x slot depth y = if bytes_eq x y then Some (record { slot = slot; depth = depth })
+    else f y
 
 -- how many scopes are open behind entries
 abbrev pub depth_onto : ℕ → List Entry → ℕ
@@ -30,13 +32,15 @@ depth_onto depth (Declares x slot before ∷ es) = depth_onto depth es
 abbrev pub meanings_onto : ℕ → (List ℕ → Option Meaning) → List Entry → List ℕ → Option Meaning
 meanings_onto depth f [] = f
 meanings_onto depth f (Opens ∷ es) = meanings_onto (depth + 1) f es
-meanings_onto depth f (Declares x slot before ∷ es) = meanings_onto depth (with_meaning f x.now slot depth) es
+meanings_onto depth f (Declares x slot before ∷ es) = meanings_onto depth
+    (with_meaning f x.now slot depth) es
 
 -- each declaration keeps what its name meant before
 abbrev pub AreSaved : ℕ → (List ℕ → Option Meaning) → List Entry → Type 0
 AreSaved depth f [] = Unit {0}
 AreSaved depth f (Opens ∷ es) = AreSaved (depth + 1) f es
-AreSaved depth f (Declares x slot before ∷ es) = (before ≡ f x.now) × AreSaved depth (with_meaning f x.now slot depth) es
+AreSaved depth f (Declares x slot before ∷ es) = (before ≡ f x.now) × AreSaved depth
+    (with_meaning f x.now slot depth) es
 
 abbrev pub meaning_in : List Entry → List ℕ → Option Meaning
 meaning_in es x = meanings_onto 0 nothing_known es x
@@ -46,15 +50,19 @@ abbrev pub IsLinked : List Entry → BTreeMap (Bor (List ℕ)) Meaning → Type 
 IsLinked es m = ((x : List ℕ) → found_in m x ≡ meaning_in es x) × AreSaved 0 nothing_known es
 
 coded_meaning : Coded Meaning
-coded_meaning = code_by (ℕ × ℕ) (coded× coded_ℕ coded_ℕ) (λ m. (m.slot, m.depth)) (λ v. record { slot = v.0; depth = v.1 }) (λ m. refl)
+coded_meaning = code_by (ℕ × ℕ) (coded× coded_ℕ coded_ℕ) (λ m. (m.slot, m.depth))
+    (λ v. record { slot = v.0; depth = v.1 }) (λ m. refl)
 
 meaning-set : (a b : Option Meaning) → IsProp (a ≡ b)
 meaning-set a b = Coded-set (coded_option coded_meaning) a b
 
-AreSaved-prop : (depth : ℕ) (f : List ℕ → Option Meaning) (es : List Entry) → IsProp (AreSaved depth f es)
+AreSaved-prop : (depth : ℕ) (f : List ℕ → Option Meaning) (es : List Entry) →
+    IsProp (AreSaved depth f es)
 AreSaved-prop depth f [] = Unit-prop
 AreSaved-prop depth f (Opens ∷ es) = AreSaved-prop (depth + 1) f es
-AreSaved-prop depth f (Declares x slot before ∷ es) = ×_prop (meaning-set before (f x.now)) (AreSaved-prop depth (with_meaning f x.now slot depth) es)
+AreSaved-prop depth f (Declares x slot before ∷ es) = ×_prop (meaning-set before (f x.now))
+    (AreSaved-prop depth (with_meaning f x.now slot depth) es)
 
 pub IsLinked-prop : (es : List Entry) (m : BTreeMap (Bor (List ℕ)) Meaning) → IsProp (IsLinked es m)
-IsLinked-prop es m = ×_prop (Π_prop (λ x. meaning-set (found_in m x) (meaning_in es x))) (AreSaved-prop 0 nothing_known es)
+IsLinked-prop es m = ×_prop (Π_prop (λ x. meaning-set (found_in m x) (meaning_in es x)))
+    (AreSaved-prop 0 nothing_known es)

@@ -76,7 +76,10 @@ callee_again (defined number params void) = refl
 callee_again unknown = refl
 
 callee-set : (a b : Callee) → IsProp (a ≡ b)
-callee-set a b = Coded-set (code_by (Option (ℕ × (ℕ × Bool)) × (Bool × Bool)) (coded× (coded_option (coded× coded_ℕ (coded× coded_ℕ coded_bool))) (coded× coded_bool coded_bool)) callee_code callee_back callee_again) a b
+callee-set a b = Coded-set (code_by (Option (ℕ × (ℕ × Bool)) × (Bool × Bool))
+    (coded× (coded_option (coded× coded_ℕ (coded× coded_ℕ coded_bool)))
+    (coded× coded_bool coded_bool))
+    callee_code callee_back callee_again) a b
 
 -- the first procedure of a name, where there is one
 abbrev pub defined_as : Option Definition → Callee
@@ -87,13 +90,16 @@ defined_as (Some d) = defined d.number d.params d.void
 abbrev pub AreDefined : BTreeMap (Bor (List ℕ)) Definition → List Item → Type 0
 AreDefined m is = (x : List ℕ) → defined_as (found_in m x) ≡ defined_from 0 (procedures_in is) x
 
-pub AreDefined-prop : (m : BTreeMap (Bor (List ℕ)) Definition) (is : List Item) → IsProp (AreDefined m is)
-AreDefined-prop m is = Π_prop (λ x. callee-set (defined_as (found_in m x)) (defined_from 0 (procedures_in is) x))
+pub AreDefined-prop : (m : BTreeMap (Bor (List ℕ)) Definition) (is : List Item) →
+    IsProp (AreDefined m is)
+AreDefined-prop m is = Π_prop
+    (λ x. callee-set (defined_as (found_in m x)) (defined_from 0 (procedures_in is) x))
 
 -- what a name has before, or else this procedure if it has the name
 abbrev pub kept_or : Option Definition → ProcedureTree → ℕ → List ℕ → Option Definition
 kept_or (Some d) p number x = Some d
-kept_or None p number x = if bytes_eq p.named.name x then Some (record { number = number; params = length p.params; void = p.void }) else None
+kept_or None p number x = if bytes_eq p.named.name x then Some
+    (record { number = number; params = length p.params; void = p.void }) else None
 
 -- What was found
 
@@ -104,14 +110,19 @@ abbrev pub best_of : Option Found → Option Fault
 best_of None = None
 best_of (Some f) = Some (fault_of f)
 
--- the first fault so far, the places of the names that the procedure declares, and those of the assertions
+-- the first fault so far, the places of the names that the procedure declares, and those of the
+-- assertions
 pub record Noted : Type 0 where
   pub best : Option Fault
   pub declared : List Pos
   pub asserts : List Pos
 
 abbrev pub notes_of : Notes → Noted
-notes_of n = record { best = best_of n.best; declared = n.declared.items; asserts = n.asserts.items }
+notes_of n = record {
+  best = best_of n.best;
+  declared = n.declared.items;
+  asserts = n.asserts.items;
+}
 
 abbrev pub places_of : List Identifier → List Pos
 places_of [] = []
@@ -119,7 +130,11 @@ places_of (n ∷ ns) = n.at ∷ places_of ns
 
 -- these faults, names and assertions more
 abbrev pub noted : Noted → List Fault → List Identifier → List Pos → Noted
-noted n fs ns places = record { best = least_from n.best fs; declared = n.declared ++ places_of ns; asserts = n.asserts ++ places }
+noted n fs ns places = record {
+  best = least_from n.best fs;
+  declared = n.declared ++ places_of ns;
+  asserts = n.asserts ++ places;
+}
 
 -- these names declared in the innermost scope; their slots don't matter to faults
 abbrev pub with_zeros : List Scope → List Identifier → List Scope
@@ -143,15 +158,23 @@ is_defined _ = false
 -- the faults of a heading; `again` says that an earlier procedure has the name
 abbrev pub heading_found : (again : Bool) → ProcedureTree → List Fault
 heading_found again p =
-    fault_if (is_built_in p.named.name || again) Duplicate p.named.at ++ fault_if (is_main p.named.name && (p.void || not_bool (length p.params == 0))) MainShape p.named.at
+    fault_if (is_built_in p.named.name || again) Duplicate p.named.at
+    ++ fault_if (is_main p.named.name && (p.void || not_bool (length p.params == 0))) MainShape
+    p.named.at
 
 -- what parameters and body say
 abbrev pub body_found : (all : List ProcedureTree) → ProcedureTree → List Fault
-body_found all p = parameters_faults ([] ∷ []) p.params ++ (limit_fault Parameters (place_of (slice_get p.params MAX_PARAMETERS)) ++ statements_faults all p.void false (parameter_scope p) p.body)
+body_found all p = parameters_faults ([] ∷ []) p.params
+    ++ (limit_fault Parameters (place_of (slice_get p.params MAX_PARAMETERS)) ++ statements_faults
+    all p.void false (parameter_scope p) p.body)
 
-abbrev pub procedure_found : (all : List ProcedureTree) → (again : Bool) → ProcedureTree → List Fault
+abbrev pub procedure_found : (all : List ProcedureTree) → (again : Bool) → ProcedureTree →
+    List Fault
 procedure_found all again p =
-    heading_found again p ++ (body_found all p ++ (limit_fault Variables (place_of (slice_get (variables_of p) MAX_VARIABLES)) ++ limit_fault Tokens p.past))
+    heading_found again p
+    ++ (body_found all p
+    ++ (limit_fault Variables (place_of (slice_get (variables_of p) MAX_VARIABLES))
+    ++ limit_fault Tokens p.past))
 
 -- an earlier procedure than that of a number has its name
 abbrev pub is_again : (all : List ProcedureTree) → ℕ → ProcedureTree → Bool
@@ -160,4 +183,5 @@ is_again all number p = nat_lt (number_in (defined_from 0 all p.named.name)) num
 -- the procedures from a number on
 abbrev pub procedures_found : (all : List ProcedureTree) → ℕ → List ProcedureTree → List Fault
 procedures_found all number [] = []
-procedures_found all number (p ∷ ps) = procedure_found all (is_again all number p) p ++ procedures_found all (number + 1) ps
+procedures_found all number (p ∷ ps) = procedure_found all (is_again all number p) p
+    ++ procedures_found all (number + 1) ps

@@ -1,6 +1,6 @@
 //! The faults of expressions, simple statements and declarations.
 
-ghost use Rattle.std.specs.Prelude.{◌≡◌, [], ◌∷◌, ◌++◌, ◌&&◌, ◌||◌, not, map, length, OnOk, IfOk};
+ghost use Rattle.std.specs.Prelude.{◌≡◌, [], ◌∷◌, ◌++◌, ◌&&◌, ◌||◌, not, map, OnOk, IfOk};
 ghost use Rattle.c_typing.specs.declared.fault.TypeFault.TheVariants.{NotLinear, Duplicate};
 ghost use Rattle.c_tree.specs.Operators.{is_arithmetic, is_product};
 ghost use Rattle.c_tree.specs.SourceView.{identifier_of, tree_of, trees_of, optional_tree, simple_of, optional_simple, declarator_of, init_of};
@@ -25,7 +25,8 @@ fn is_constant_operation(op: Op, left: bool, right: bool) -> bool
 
 /// An operation at a place, of operands that are constant or not.
 fn product(notes: &mut Notes, op: Op, at: Pos, left: bool, right: bool)
-    ensures { notes_of notes.new ≡ noted (notes_of notes.old) (fault_if (is_product op && not (left || right)) NotLinear at) [] [] }
+    ensures { notes_of notes.new ≡ noted (notes_of notes.old)
+        (fault_if (is_product op && not (left || right)) NotLinear at) [] [] }
 {
     let wrong = op.is_product() && !(left || right);
     notes.found_if(wrong, TypeFault::NotLinear, at);
@@ -33,7 +34,8 @@ fn product(notes: &mut Notes, op: Op, at: Pos, left: bool, right: bool)
 
 /// A variable that isn't in scope.
 fn name(scopes: &Scopes<'_>, notes: &mut Notes, name: &Named)
-    ensures { notes_of notes.new ≡ noted (notes_of notes.old) (name_faults (scopes_of scopes.now) (identifier_of name.now)) [] [] }
+    ensures { notes_of notes.new ≡ noted (notes_of notes.old)
+        (name_faults (scopes_of scopes.now) (identifier_of name.now)) [] [] }
 {
     let unknown = scopes.slot_of(name.name.as_str()).is_none();
     notes.found_if(unknown, TypeFault::UnknownName, name.at);
@@ -41,7 +43,8 @@ fn name(scopes: &Scopes<'_>, notes: &mut Notes, name: &Named)
 
 /// A call of what is called, with so many arguments. `used` says that its value is used.
 fn called(notes: &mut Notes, called: Called, name: &Named, count: usize, used: bool)
-    ensures { notes_of notes.new ≡ noted (notes_of notes.old) (callee_faults (callee_from called) (identifier_of name.now) count used) [] [] }
+    ensures { notes_of notes.new ≡ noted (notes_of notes.old)
+        (callee_faults (callee_from called) (identifier_of name.now) count used) [] [] }
 {
     match called {
         Called::Input => notes.found_if(count != 0, TypeFault::WrongCount, name.at),
@@ -92,7 +95,9 @@ pub fn expression(
     tree: &ExprTree,
 ) -> Result<bool, AllocError>
     ensures notes { OnOk result (notes_of notes.new ≡ noted (notes_of notes.old)
-        (expression_faults (procedures_in table.now.items.now) (scopes_of scopes.now) (tree_of tree.now)) []
+        (expression_faults (procedures_in table.now.items.now) (scopes_of scopes.now)
+        (tree_of tree.now))
+        []
         (asserts_of (tree_of tree.now))) }
     ensures constant { IfOk result (λ constant. constant ≡ is_constant (tree_of tree.now)) }
 {
@@ -131,7 +136,9 @@ fn arguments(
     trees: &[ExprTree],
 ) -> Result<(), AllocError>
     ensures { OnOk result (notes_of notes.new ≡ noted (notes_of notes.old)
-        (arguments_faults (procedures_in table.now.items.now) (scopes_of scopes.now) (trees_of trees.now)) []
+        (arguments_faults (procedures_in table.now.items.now) (scopes_of scopes.now)
+        (trees_of trees.now))
+        []
         (asserts_of_all (trees_of trees.now))) }
 {
     for tree in trees {
@@ -148,7 +155,8 @@ pub fn optional(
     tree: &Option<ExprTree>,
 ) -> Result<(), AllocError>
     ensures { OnOk result (notes_of notes.new ≡ noted (notes_of notes.old)
-        (optional_faults (procedures_in table.now.items.now) (scopes_of scopes.now) (optional_tree tree.now)) []
+        (optional_faults (procedures_in table.now.items.now) (scopes_of scopes.now)
+        (optional_tree tree.now)) []
         (asserts_of_optional (optional_tree tree.now))) }
 {
     if let Some(tree) = tree {
@@ -165,7 +173,9 @@ pub fn simple(
     tree: &SimpleTree,
 ) -> Result<(), AllocError>
     ensures { OnOk result (notes_of notes.new ≡ noted (notes_of notes.old)
-        (simple_faults (procedures_in table.now.items.now) (scopes_of scopes.now) (simple_of tree.now)) []
+        (simple_faults (procedures_in table.now.items.now) (scopes_of scopes.now)
+        (simple_of tree.now))
+        []
         (asserts_by_simple (simple_of tree.now))) }
 {
     match tree {
@@ -195,7 +205,9 @@ pub fn step(
     tree: &Option<SimpleTree>,
 ) -> Result<(), AllocError>
     ensures { OnOk result (notes_of notes.new ≡ noted (notes_of notes.old)
-        (step_faults (procedures_in table.now.items.now) (scopes_of scopes.now) (optional_simple tree.now)) []
+        (step_faults (procedures_in table.now.items.now) (scopes_of scopes.now)
+        (optional_simple tree.now))
+        []
         (asserts_by_step (optional_simple tree.now))) }
 {
     if let Some(tree) = tree {
@@ -211,9 +223,12 @@ pub fn declared<'a>(
     named: &'a Named,
 ) -> Result<(), AllocError>
     ensures notes { OnOk result (notes_of notes.new ≡ noted (notes_of notes.old)
-        (fault_if (is_declared_here (scopes_of scopes.old) (identifier_of named.now).name || is_built_in
-        (identifier_of named.now).name) Duplicate (identifier_of named.now).at) (identifier_of named.now ∷ []) []) }
-    ensures scopes { OnOk result (scopes_of scopes.new ≡ with_variable (scopes_of scopes.old) (identifier_of named.now).name 0) }
+        (fault_if (is_declared_here (scopes_of scopes.old) (identifier_of named.now).name ||
+        is_built_in
+        (identifier_of named.now).name) Duplicate (identifier_of named.now).at) (identifier_of
+        named.now ∷ []) []) }
+    ensures scopes { OnOk result (scopes_of scopes.new ≡ with_variable (scopes_of scopes.old)
+        (identifier_of named.now).name 0) }
     ensures longer { OnOk result (IsLonger scopes.old scopes.new) }
 {
     let text = named.name.as_str();
@@ -232,10 +247,13 @@ fn declarator<'a>(
     tree: &'a Declared,
 ) -> Result<(), AllocError>
     ensures notes { OnOk result (notes_of notes.new ≡ noted (notes_of notes.old)
-        (optional_faults (procedures_in table.now.items.now) (scopes_of scopes.old) (declarator_of tree.now).value ++ declared_faults
-        (procedures_in table.now.items.now) (scopes_of scopes.old) (declarator_of tree.now).named) ((declarator_of tree.now).named ∷ [])
+        (optional_faults (procedures_in table.now.items.now) (scopes_of scopes.old)
+        (declarator_of tree.now).value ++ declared_faults
+        (procedures_in table.now.items.now) (scopes_of scopes.old) (declarator_of tree.now).named)
+        ((declarator_of tree.now).named ∷ [])
         (asserts_of_optional (declarator_of tree.now).value)) }
-    ensures scopes { OnOk result (scopes_of scopes.new ≡ with_variable (scopes_of scopes.old) (declarator_of tree.now).named.name 0) }
+    ensures scopes { OnOk result (scopes_of scopes.new ≡ with_variable (scopes_of scopes.old)
+        (declarator_of tree.now).named.name 0) }
     ensures longer { OnOk result (IsLonger scopes.old scopes.new) }
 {
     optional(table, scopes, notes, &tree.value)?;
@@ -251,9 +269,12 @@ pub fn declarators<'a>(
     trees: &'a [Declared],
 ) -> Result<(), AllocError>
     ensures notes { OnOk result (notes_of notes.new ≡ noted (notes_of notes.old)
-        (declarators_faults (procedures_in table.now.items.now) (scopes_of scopes.old) (map declarator_of trees.now))
-        (names_of (map declarator_of trees.now)) (asserts_by_declarators (map declarator_of trees.now))) }
-    ensures scopes { OnOk result (scopes_of scopes.new ≡ with_zeros (scopes_of scopes.old) (names_of (map declarator_of trees.now))) }
+        (declarators_faults (procedures_in table.now.items.now) (scopes_of scopes.old)
+        (map declarator_of trees.now))
+        (names_of (map declarator_of trees.now))
+        (asserts_by_declarators (map declarator_of trees.now))) }
+    ensures scopes { OnOk result (scopes_of scopes.new ≡ with_zeros (scopes_of scopes.old)
+        (names_of (map declarator_of trees.now))) }
     ensures longer { OnOk result (IsLonger scopes.old scopes.new) }
 {
     for tree in trees {
@@ -270,9 +291,11 @@ pub fn first<'a>(
     tree: &'a ForFirst,
 ) -> Result<(), AllocError>
     ensures notes { OnOk result (notes_of notes.new ≡ noted (notes_of notes.old)
-        (init_faults (procedures_in table.now.items.now) (scopes_of scopes.old) (init_of tree.now)) (declared_by_init (init_of tree.now))
+        (init_faults (procedures_in table.now.items.now) (scopes_of scopes.old) (init_of tree.now))
+        (declared_by_init (init_of tree.now))
         (asserts_by_init (init_of tree.now))) }
-    ensures scopes { OnOk result (scopes_of scopes.new ≡ with_zeros (scopes_of scopes.old) (declared_by_init (init_of tree.now))) }
+    ensures scopes { OnOk result (scopes_of scopes.new ≡ with_zeros (scopes_of scopes.old)
+        (declared_by_init (init_of tree.now))) }
 {
     match tree {
         ForFirst::Nothing => Ok(()),

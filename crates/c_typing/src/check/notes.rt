@@ -12,7 +12,8 @@ pub struct Found {
     pub at: Pos,
 }
 
-/// The first fault so far, the places of the names that the procedure declares, and those of all assertions.
+/// The first fault so far, the places of the names that the procedure declares, and those of all
+/// assertions.
 #[derive(Drop)]
 pub struct Notes {
     pub best: Option<Found>,
@@ -20,7 +21,7 @@ pub struct Notes {
     pub asserts: Vec<Pos>,
 }
 
-ghost use Rattle.std.specs.Prelude.{◌≡◌, [], ◌∷◌, ◌++◌, OnOk, None};
+ghost use Rattle.std.specs.Prelude.{◌≡◌, [], ◌∷◌, OnOk, None};
 ghost use Rattle.c_tree.specs.SourceView.{identifier_of};
 ghost use Rattle.c_typing.specs.Faults.{fault_if, limit_fault};
 ghost use Rattle.c_typing.specs.Answer.{rank, which_rank};
@@ -130,7 +131,8 @@ impl Notes {
 
     /// Notes a declared name.
     pub fn declaration(&mut self, name: &Named) -> Result<(), AllocError>
-        ensures { OnOk result (notes_of self.new ≡ noted (notes_of self.old) [] (identifier_of name.now ∷ []) []) }
+        ensures { OnOk result (notes_of self.new ≡ noted (notes_of self.old) []
+            (identifier_of name.now ∷ []) []) }
     {
         self.declared.push(name.at)?;
         Ok(())

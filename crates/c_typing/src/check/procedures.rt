@@ -1,11 +1,11 @@
 //! All faults of a file.
 
-ghost use Rattle.std.specs.Prelude.{◌≡◌, ◌+◌, ◌^◌, ◌<◌, ◌≤◌, None, [], ◌∷◌, ◌++◌, ◌||◌, map, length, slice_get, OnOk, IfOk};
+ghost use Rattle.std.specs.Prelude.{◌≡◌, ◌+◌, ◌^◌, ◌<◌, None, [], ◌∷◌, ◌++◌, ◌||◌, map, length, slice_get, OnOk, IfOk};
 ghost use Rattle.c_typing.specs.declared.fault.Which.TheVariants.{Procedures};
-ghost use Rattle.c_tree.specs.SourceView.{identifier_of, statement_trees_of};
+ghost use Rattle.c_tree.specs.SourceView.{identifier_of};
 ghost use Rattle.c_tree.specs.FileView.{item_of, procedure_tree_of};
-ghost use Rattle.c_typing.specs.Scope.{procedures_of, defined_from, is_built_in, variables_of, asserts_in, asserts_in_file};
-ghost use Rattle.c_typing.specs.Faults.{limit_fault, place_of, procedure_place, parameters_faults, prototypes_faults, all_faults};
+ghost use Rattle.c_typing.specs.Scope.{defined_from, is_built_in, variables_of, asserts_in, asserts_in_file};
+ghost use Rattle.c_typing.specs.Faults.{place_of, procedure_place, parameters_faults, prototypes_faults, all_faults};
 ghost use Rattle.c_typing.specs.steps.Least.{least_from};
 ghost use Rattle.c_typing.specs.steps.Tables.{scopes_of, procedures_in, best_of, notes_of, noted, with_zeros, is_again, is_defined, heading_found, body_found, procedure_found, procedures_found};
 
@@ -45,8 +45,10 @@ fn parameters<'a>(
     names: &'a [Named],
 ) -> Result<(), AllocError>
     ensures notes { OnOk result (notes_of notes.new ≡ noted (notes_of notes.old)
-        (parameters_faults (scopes_of scopes.old) (map identifier_of names.now)) (map identifier_of names.now) []) }
-    ensures scopes { OnOk result (scopes_of scopes.new ≡ with_zeros (scopes_of scopes.old) (map identifier_of names.now)) }
+        (parameters_faults (scopes_of scopes.old) (map identifier_of names.now))
+        (map identifier_of names.now) []) }
+    ensures scopes { OnOk result (scopes_of scopes.new ≡ with_zeros (scopes_of scopes.old)
+        (map identifier_of names.now)) }
 {
     for named in names {
         declared(scopes, notes, named)?;
@@ -57,7 +59,8 @@ fn parameters<'a>(
 /// The heading of the procedure of a number.
 fn heading(table: &Table<'_>, notes: &mut Notes, number: usize, tree: &ProcTree)
     ensures { notes_of notes.new ≡ noted (notes_of notes.old) (heading_found
-        (is_again (procedures_in table.now.items.now) number (procedure_tree_of tree.now)) (procedure_tree_of tree.now)) [] [] }
+        (is_again (procedures_in table.now.items.now) number (procedure_tree_of tree.now))
+        (procedure_tree_of tree.now)) [] [] }
 {
     let name = tree.named.name.as_str();
     let built_in = is_built_in(name);
@@ -76,7 +79,8 @@ fn body(
     tree: &ProcTree,
 ) -> Result<(), AllocError>
     ensures { OnOk result (notes_of notes.new ≡ noted (notes_of notes.old)
-        (body_found (procedures_in table.now.items.now) (procedure_tree_of tree.now)) (variables_of (procedure_tree_of tree.now))
+        (body_found (procedures_in table.now.items.now) (procedure_tree_of tree.now))
+        (variables_of (procedure_tree_of tree.now))
         (asserts_in (procedure_tree_of tree.now).body)) }
 {
     let mut scopes = Scopes::new(alloc);
@@ -100,9 +104,11 @@ fn procedure(
     tree: &ProcTree,
 ) -> Result<(), AllocError>
     ensures best { OnOk result (best_of notes.new.best ≡ least_from (best_of notes.old.best)
-        (procedure_found (procedures_in table.now.items.now) (is_again (procedures_in table.now.items.now) number
+        (procedure_found (procedures_in table.now.items.now)
+        (is_again (procedures_in table.now.items.now) number
         (procedure_tree_of tree.now)) (procedure_tree_of tree.now))) }
-    ensures asserts { OnOk result (notes.new.asserts.items ≡ notes.old.asserts.items ++ asserts_in (procedure_tree_of tree.now).body) }
+    ensures asserts { OnOk result (notes.new.asserts.items ≡ notes.old.asserts.items
+        ++ asserts_in (procedure_tree_of tree.now).body) }
 {
     notes.forget_names();
     heading(table, notes, number, tree);
@@ -122,10 +128,13 @@ fn item(
     tree: &Item,
 ) -> Result<usize, AllocError>
     requires { number < 2 ^ 63 }
-    ensures number { IfOk result (λ after. after ≡ number + length (procedures_in (tree.now ∷ []))) }
+    ensures number { IfOk result
+        (λ after. after ≡ number + length (procedures_in (tree.now ∷ []))) }
     ensures best { OnOk result (best_of notes.new.best ≡ least_from (best_of notes.old.best)
-        (procedures_found (procedures_in table.now.items.now) number (procedures_in (tree.now ∷ [])))) }
-    ensures asserts { OnOk result (notes.new.asserts.items ≡ notes.old.asserts.items ++ asserts_in_file (procedures_in (tree.now ∷ []))) }
+        (procedures_found (procedures_in table.now.items.now) number
+        (procedures_in (tree.now ∷ [])))) }
+    ensures asserts { OnOk result (notes.new.asserts.items ≡ notes.old.asserts.items
+        ++ asserts_in_file (procedures_in (tree.now ∷ []))) }
 {
     match tree {
         Item::Proto(_) => Ok(number),
@@ -145,7 +154,8 @@ fn procedures(
 ) -> Result<(), AllocError>
     ensures best { OnOk result (best_of notes.new.best ≡ least_from (best_of notes.old.best)
         (procedures_found (procedures_in table.now.items.now) 0 (procedures_in items.now))) }
-    ensures asserts { OnOk result (notes.new.asserts.items ≡ notes.old.asserts.items ++ asserts_in_file (procedures_in items.now)) }
+    ensures asserts { OnOk result (notes.new.asserts.items ≡ notes.old.asserts.items
+        ++ asserts_in_file (procedures_in items.now)) }
 {
     let mut number = 0;
     for tree in items {
@@ -156,14 +166,17 @@ fn procedures(
 
 /// Whether a name is built in or that of a procedure.
 fn is_known(table: &Table<'_>, name: &str) -> bool
-    ensures { result ≡ (is_built_in name.now || is_defined (defined_from 0 (procedures_in table.now.items.now) name.now)) }
+    ensures { result
+        ≡ (is_built_in name.now || is_defined (defined_from 0 (procedures_in table.now.items.now)
+        name.now)) }
 {
     is_built_in(name) || table.is_defined(name)
 }
 
 /// A prototype has to be that of a built-in name or of a procedure.
 fn prototype(table: &Table<'_>, notes: &mut Notes, tree: &Item)
-    ensures { notes_of notes.new ≡ noted (notes_of notes.old) (prototypes_faults (procedures_in table.now.items.now) (item_of tree.now ∷ [])) [] [] }
+    ensures { notes_of notes.new ≡ noted (notes_of notes.old)
+        (prototypes_faults (procedures_in table.now.items.now) (item_of tree.now ∷ [])) [] [] }
 {
     if let Item::Proto(named) = tree {
         let known = is_known(table, named.name.as_str());
@@ -173,7 +186,8 @@ fn prototype(table: &Table<'_>, notes: &mut Notes, tree: &Item)
 
 /// The prototypes of a file.
 fn prototypes(table: &Table<'_>, notes: &mut Notes, items: &[Item])
-    ensures { notes_of notes.new ≡ noted (notes_of notes.old) (prototypes_faults (procedures_in table.now.items.now) (map item_of items.now)) [] [] }
+    ensures { notes_of notes.new ≡ noted (notes_of notes.old)
+        (prototypes_faults (procedures_in table.now.items.now) (map item_of items.now)) [] [] }
 {
     for tree in items {
         prototype(table, notes, tree);
@@ -198,8 +212,10 @@ fn place_past(items: &[Item]) -> Option<Pos>
 
 /// What is to be said of a file.
 pub fn all(alloc: Global, table: &Table<'_>) -> Result<Notes, AllocError>
-    ensures best { IfOk result (λ notes. best_of notes.best ≡ least_from None (all_faults (map item_of table.now.items.now))) }
-    ensures asserts { IfOk result (λ notes. notes.asserts.items ≡ asserts_in_file (procedures_in table.now.items.now)) }
+    ensures best { IfOk result (λ notes. best_of notes.best ≡ least_from None
+        (all_faults (map item_of table.now.items.now))) }
+    ensures asserts { IfOk result (λ notes. notes.asserts.items ≡ asserts_in_file
+        (procedures_in table.now.items.now)) }
 {
     let mut notes = Notes::new(alloc);
     prototypes(table, &mut notes, table.items);

@@ -1,8 +1,8 @@
 //! All faults of statements.
 
-ghost use Rattle.std.specs.Prelude.{◌≡◌, [], ◌∷◌, ◌++◌, not, map, OnOk};
+ghost use Rattle.std.specs.Prelude.{◌≡◌, [], ◌∷◌, ◌++◌, map, OnOk};
 ghost use Rattle.c_typing.specs.declared.fault.TypeFault.TheVariants.{OutsideLoop};
-ghost use Rattle.c_tree.specs.SourceView.{tree_of, optional_tree, optional_simple, init_of, declarator_of, statement_tree_of, statement_trees_of};
+ghost use Rattle.c_tree.specs.SourceView.{optional_tree, optional_simple, init_of, declarator_of, statement_tree_of, statement_trees_of};
 ghost use Rattle.c_typing.specs.Scope.{names_of, declared_by_init, declared_by, declared_in, asserts_of_optional, asserts_by_declarators, asserts_by_init, asserts_by_step, asserts_by, asserts_in};
 ghost use Rattle.c_typing.specs.Faults.{optional_faults, declarators_faults, init_faults, step_faults, return_faults, statement_faults, statements_faults};
 ghost use Rattle.c_typing.specs.steps.Tables.{scopes_of, procedures_in, notes_of, noted, with_zeros, zeros_after, outer_of};
@@ -31,8 +31,10 @@ fn alone<'a>(
     trees: &'a [Declared],
 ) -> Result<(), AllocError>
     ensures notes { OnOk result (notes_of notes.new ≡ noted (notes_of notes.old)
-        (declarators_faults (procedures_in table.now.items.now) (scopes_of scopes.old) (map declarator_of trees.now))
-        (names_of (map declarator_of trees.now)) (asserts_by_declarators (map declarator_of trees.now))) }
+        (declarators_faults (procedures_in table.now.items.now) (scopes_of scopes.old)
+        (map declarator_of trees.now))
+        (names_of (map declarator_of trees.now))
+        (asserts_by_declarators (map declarator_of trees.now))) }
     ensures scopes { OnOk result (scopes_of scopes.new ≡ scopes_of scopes.old) }
 {
     let mark = scopes.mark();
@@ -50,12 +52,20 @@ fn head<'a>(
     test: &Option<ExprTree>,
     next: &Option<SimpleTree>,
 ) -> Result<(), AllocError>
-    ensures notes { OnOk result (notes_of notes.new ≡ noted (notes_of notes.old) (init_faults (procedures_in table.now.items.now) ([] ∷ scopes_of scopes.old) (init_of start.now)
-        ++ (optional_faults (procedures_in table.now.items.now) (with_zeros ([] ∷ scopes_of scopes.old) (declared_by_init (init_of start.now))) (optional_tree test.now)
-        ++ step_faults (procedures_in table.now.items.now) (with_zeros ([] ∷ scopes_of scopes.old) (declared_by_init (init_of start.now))) (optional_simple next.now)))
+    ensures notes { OnOk result (notes_of notes.new ≡ noted (notes_of notes.old)
+        (init_faults (procedures_in table.now.items.now) ([] ∷ scopes_of scopes.old)
+        (init_of start.now)
+        ++ (optional_faults (procedures_in table.now.items.now)
+        (with_zeros ([] ∷ scopes_of scopes.old) (declared_by_init (init_of start.now)))
+        (optional_tree test.now)
+        ++ step_faults (procedures_in table.now.items.now)
+        (with_zeros ([] ∷ scopes_of scopes.old) (declared_by_init (init_of start.now)))
+        (optional_simple next.now)))
         (declared_by_init (init_of start.now))
-        (asserts_by_init (init_of start.now) ++ (asserts_of_optional (optional_tree test.now) ++ asserts_by_step (optional_simple next.now)))) }
-    ensures scopes { OnOk result (scopes_of scopes.new ≡ with_zeros ([] ∷ scopes_of scopes.old) (declared_by_init (init_of start.now))) }
+        (asserts_by_init (init_of start.now) ++ (asserts_of_optional (optional_tree test.now)
+        ++ asserts_by_step (optional_simple next.now)))) }
+    ensures scopes { OnOk result (scopes_of scopes.new ≡ with_zeros ([] ∷ scopes_of scopes.old)
+        (declared_by_init (init_of start.now))) }
 {
     scopes.open()?;
     first(table, scopes, notes, start)?;
@@ -74,7 +84,8 @@ fn returned(
     value: &Option<ExprTree>,
 ) -> Result<(), AllocError>
     ensures { OnOk result (notes_of notes.new ≡ noted (notes_of notes.old)
-        (return_faults (procedures_in table.now.items.now) void at (optional_tree value.now) ++ optional_faults
+        (return_faults (procedures_in table.now.items.now) void at (optional_tree value.now)
+        ++ optional_faults
         (procedures_in table.now.items.now) (scopes_of scopes.now) (optional_tree value.now)) []
         (asserts_of_optional (optional_tree value.now))) }
 {
@@ -95,7 +106,8 @@ fn statement<'a>(
     tree: &'a StmtTree,
 ) -> Result<(), AllocError>
     ensures notes { OnOk result (notes_of notes.new ≡ noted (notes_of notes.old)
-        (statement_faults (procedures_in table.now.items.now) place.void place.in_loop (scopes_of scopes.old) (statement_tree_of tree.now))
+        (statement_faults (procedures_in table.now.items.now) place.void place.in_loop
+        (scopes_of scopes.old) (statement_tree_of tree.now))
         (declared_by (statement_tree_of tree.now)) (asserts_by (statement_tree_of tree.now))) }
     ensures scopes { OnOk result (scopes_of scopes.new ≡ scopes_of scopes.old) }
 {
@@ -154,9 +166,12 @@ pub fn statements<'a>(
     trees: &'a [StmtTree],
 ) -> Result<(), AllocError>
     ensures notes { OnOk result (notes_of notes.new ≡ noted (notes_of notes.old)
-        (statements_faults (procedures_in table.now.items.now) place.void place.in_loop (scopes_of scopes.old)
-        (statement_trees_of trees.now)) (declared_in (statement_trees_of trees.now)) (asserts_in (statement_trees_of trees.now))) }
-    ensures outer { OnOk result (outer_of (scopes_of scopes.new) ≡ outer_of (scopes_of scopes.old)) }
+        (statements_faults (procedures_in table.now.items.now) place.void place.in_loop
+        (scopes_of scopes.old)
+        (statement_trees_of trees.now)) (declared_in (statement_trees_of trees.now)) (asserts_in
+        (statement_trees_of trees.now))) }
+    ensures outer { OnOk result (outer_of (scopes_of scopes.new)
+        ≡ outer_of (scopes_of scopes.old)) }
 {
     for tree in trees {
         in_block(table, place, scopes, notes, tree)?;
@@ -174,9 +189,11 @@ fn in_block<'a>(
     tree: &'a StmtTree,
 ) -> Result<(), AllocError>
     ensures notes { OnOk result (notes_of notes.new ≡ noted (notes_of notes.old)
-        (statement_faults (procedures_in table.now.items.now) place.void place.in_loop (scopes_of scopes.old) (statement_tree_of tree.now))
+        (statement_faults (procedures_in table.now.items.now) place.void place.in_loop
+        (scopes_of scopes.old) (statement_tree_of tree.now))
         (declared_by (statement_tree_of tree.now)) (asserts_by (statement_tree_of tree.now))) }
-    ensures scopes { OnOk result (scopes_of scopes.new ≡ zeros_after (scopes_of scopes.old) (statement_tree_of tree.now)) }
+    ensures scopes { OnOk result (scopes_of scopes.new ≡ zeros_after (scopes_of scopes.old)
+        (statement_tree_of tree.now)) }
 {
     match tree {
         StmtTree::Declare(trees) => declarators(table, scopes, notes, trees),

@@ -1,7 +1,7 @@
 //! The statements of a tree without faults as statements of a program.
 
 ghost use Rattle.std.specs.Prelude.{◌≡◌, ◌+◌, ◌<◌, ◌≤◌, [], ◌∷◌, length, map, OnOk, IfOk};
-ghost use Rattle.c_tree.specs.SourceView.{declarator_of, simple_of, optional_simple, optional_tree, init_of, statement_tree_of, statement_trees_of};
+ghost use Rattle.c_tree.specs.SourceView.{declarator_of, simple_of, optional_simple, optional_tree, init_of};
 ghost use Rattle.c_tree.specs.Syntax.{set, loop, statement, no_statements};
 ghost use Rattle.c_tree.specs.View.{expression_of, statement_of, statements_of};
 ghost use Rattle.c_typing.specs.Scope.{with_variable, with_names, names_of, declared_by_init, asserts_by_simple, asserts_by_step, asserts_by_init};
@@ -28,11 +28,14 @@ fn declarator<'a>(
     requires few { length (procedures_in table.now.items.now) ≤ MAX_PROCEDURES }
     requires room { state.old.next < MAX_VARIABLES }
     ensures out { OnOk result (statements_of out.new.items ≡ joined (statements_of out.old.items)
-        (statement (set state.old.next (lowered_value (procedures_in table.now.items.now) (scopes_of state.old.scopes)
+        (statement (set state.old.next (lowered_value (procedures_in table.now.items.now)
+        (scopes_of state.old.scopes)
         (declarator_of tree.now).value)) no_statements)) }
     ensures next { OnOk result (state.new.next ≡ state.old.next + 1) }
     ensures id { OnOk result (state.new.id ≡ state.old.id) }
-    ensures scopes { OnOk result (scopes_of state.new.scopes ≡ with_variable (scopes_of state.old.scopes) (declarator_of tree.now).named.name state.old.next) }
+    ensures scopes { OnOk result
+        (scopes_of state.new.scopes ≡ with_variable (scopes_of state.old.scopes)
+        (declarator_of tree.now).named.name state.old.next) }
     ensures longer { OnOk result (IsLonger state.old.scopes state.new.scopes) }
 {
     let value = value(state.alloc, table, &state.scopes, &tree.value)?;
@@ -50,12 +53,17 @@ pub fn declarators<'a>(
     trees: &'a [Declared],
 ) -> Result<(), AllocError>
     requires few { length (procedures_in table.now.items.now) ≤ MAX_PROCEDURES }
-    requires room { state.old.next + length (names_of (map declarator_of trees.now)) ≤ MAX_VARIABLES }
+    requires room { state.old.next + length (names_of (map declarator_of trees.now)) ≤
+        MAX_VARIABLES }
     ensures out { OnOk result (statements_of out.new.items ≡ joined (statements_of out.old.items)
-        (lowered_declarators (procedures_in table.now.items.now) (scopes_of state.old.scopes) state.old.next (map declarator_of trees.now))) }
-    ensures next { OnOk result (state.new.next ≡ state.old.next + length (names_of (map declarator_of trees.now))) }
+        (lowered_declarators (procedures_in table.now.items.now) (scopes_of state.old.scopes)
+        state.old.next (map declarator_of trees.now))) }
+    ensures next { OnOk result (state.new.next ≡ state.old.next
+        + length (names_of (map declarator_of trees.now))) }
     ensures id { OnOk result (state.new.id ≡ state.old.id) }
-    ensures scopes { OnOk result (scopes_of state.new.scopes ≡ with_names (scopes_of state.old.scopes) state.old.next (names_of (map declarator_of trees.now))) }
+    ensures scopes { OnOk result
+        (scopes_of state.new.scopes ≡ with_names (scopes_of state.old.scopes)
+        state.old.next (names_of (map declarator_of trees.now))) }
     ensures longer { OnOk result (IsLonger state.old.scopes state.new.scopes) }
 {
     for tree in trees {
@@ -71,12 +79,15 @@ pub fn counted(
     tree: &SimpleTree,
 ) -> Result<Stmt, AllocError>
     requires few { length (procedures_in table.now.items.now) ≤ MAX_PROCEDURES }
-    requires room { state.old.id + length (asserts_by_simple (simple_of tree.now)) ≤ MAX_ASSERTIONS }
+    requires room { state.old.id + length (asserts_by_simple (simple_of tree.now)) ≤
+        MAX_ASSERTIONS }
     requires quiet { IsQuietSimple (simple_of tree.now) }
-    ensures made { IfOk result (λ made. statement_of made ≡ lowered_simple (procedures_in table.now.items.now)
+    ensures made { IfOk result
+        (λ made. statement_of made ≡ lowered_simple (procedures_in table.now.items.now)
         (scopes_of state.old.scopes) state.old.id (simple_of tree.now)) }
     ensures next { OnOk result (state.new.next ≡ state.old.next) }
-    ensures id { OnOk result (state.new.id ≡ state.old.id + length (asserts_by_simple (simple_of tree.now))) }
+    ensures id { OnOk result
+        (state.new.id ≡ state.old.id + length (asserts_by_simple (simple_of tree.now))) }
     ensures scopes { OnOk result (state.new.scopes ≡ state.old.scopes) }
 {
     let made = simple(state.alloc, table, &state.scopes, state.id, tree)?;
@@ -91,12 +102,15 @@ fn counted_step(
     tree: &Option<SimpleTree>,
 ) -> Result<Box<Stmt>, AllocError>
     requires few { length (procedures_in table.now.items.now) ≤ MAX_PROCEDURES }
-    requires room { state.old.id + length (asserts_by_step (optional_simple tree.now)) ≤ MAX_ASSERTIONS }
+    requires room { state.old.id + length (asserts_by_step (optional_simple tree.now)) ≤
+        MAX_ASSERTIONS }
     requires quiet { IsQuietStep (optional_simple tree.now) }
-    ensures made { IfOk result (λ made. statement_of made.value ≡ lowered_step (procedures_in table.now.items.now)
+    ensures made { IfOk result (λ made. statement_of made.value
+        ≡ lowered_step (procedures_in table.now.items.now)
         (scopes_of state.old.scopes) state.old.id (optional_simple tree.now)) }
     ensures next { OnOk result (state.new.next ≡ state.old.next) }
-    ensures id { OnOk result (state.new.id ≡ state.old.id + length (asserts_by_step (optional_simple tree.now))) }
+    ensures id { OnOk result
+        (state.new.id ≡ state.old.id + length (asserts_by_step (optional_simple tree.now))) }
     ensures scopes { OnOk result (state.new.scopes ≡ state.old.scopes) }
 {
     match tree {
@@ -118,11 +132,16 @@ fn start<'a>(
     requires names { state.old.next + length (declared_by_init (init_of tree.now)) ≤ MAX_VARIABLES }
     requires room { state.old.id + length (asserts_by_init (init_of tree.now)) ≤ MAX_ASSERTIONS }
     requires quiet { IsQuietInit (init_of tree.now) }
-    ensures made { IfOk result (λ made. statements_of made.items ≡ init_statements (procedures_in table.now.items.now)
+    ensures made { IfOk result (λ made. statements_of made.items ≡ init_statements
+        (procedures_in table.now.items.now)
         (scopes_of state.old.scopes) state.old.next state.old.id (init_of tree.now)) }
-    ensures next { OnOk result (state.new.next ≡ state.old.next + length (declared_by_init (init_of tree.now))) }
-    ensures id { OnOk result (state.new.id ≡ state.old.id + length (asserts_by_init (init_of tree.now))) }
-    ensures scopes { OnOk result (scopes_of state.new.scopes ≡ with_names (scopes_of state.old.scopes) state.old.next (declared_by_init (init_of tree.now))) }
+    ensures next { OnOk result (state.new.next ≡ state.old.next
+        + length (declared_by_init (init_of tree.now))) }
+    ensures id { OnOk result
+        (state.new.id ≡ state.old.id + length (asserts_by_init (init_of tree.now))) }
+    ensures scopes { OnOk result
+        (scopes_of state.new.scopes ≡ with_names (scopes_of state.old.scopes)
+        state.old.next (declared_by_init (init_of tree.now))) }
 {
     let mut made = Vec::new(state.alloc);
     match tree {
@@ -154,21 +173,31 @@ pub fn head<'a>(
 ) -> Result<Box<Beginning>, AllocError>
     requires few { length (procedures_in table.now.items.now) ≤ MAX_PROCEDURES }
     requires names { state.old.next + length (declared_by_init (init_of tree.now)) ≤ MAX_VARIABLES }
-    requires room { state.old.id + length (asserts_by_init (init_of tree.now)) + length (asserts_by_step (optional_simple next.now)) ≤ MAX_ASSERTIONS }
+    requires room { state.old.id + length (asserts_by_init (init_of tree.now))
+        + length (asserts_by_step (optional_simple next.now)) ≤ MAX_ASSERTIONS }
     requires quiet { IsQuietInit (init_of tree.now) }
     requires quiet_step { IsQuietStep (optional_simple next.now) }
-    ensures before { IfOk result (λ made. statements_of made.value.before.items ≡ init_statements (procedures_in table.now.items.now)
+    ensures before { IfOk result (λ made. statements_of made.value.before.items ≡ init_statements
+        (procedures_in table.now.items.now)
         ([] ∷ scopes_of state.old.scopes) state.old.next state.old.id (init_of tree.now)) }
-    ensures test { IfOk result (λ made. expression_of made.value.test ≡ lowered_test (procedures_in table.now.items.now)
-        (init_scopes (procedures_in table.now.items.now) (scopes_of state.old.scopes) state.old.next (init_of tree.now))
+    ensures test { IfOk result (λ made. expression_of made.value.test
+        ≡ lowered_test (procedures_in table.now.items.now)
+        (init_scopes (procedures_in table.now.items.now) (scopes_of state.old.scopes) state.old.next
+        (init_of tree.now))
         (optional_tree condition.now)) }
-    ensures step { IfOk result (λ made. statement_of made.value.step.value ≡ lowered_step (procedures_in table.now.items.now)
-        (init_scopes (procedures_in table.now.items.now) (scopes_of state.old.scopes) state.old.next (init_of tree.now))
+    ensures step { IfOk result (λ made. statement_of made.value.step.value
+        ≡ lowered_step (procedures_in table.now.items.now)
+        (init_scopes (procedures_in table.now.items.now) (scopes_of state.old.scopes) state.old.next
+        (init_of tree.now))
         (state.old.id + length (asserts_by_init (init_of tree.now))) (optional_simple next.now)) }
-    ensures next { OnOk result (state.new.next ≡ state.old.next + length (declared_by_init (init_of tree.now))) }
-    ensures id { OnOk result (state.new.id ≡ state.old.id + length (asserts_by_init (init_of tree.now)) + length
+    ensures next { OnOk result (state.new.next ≡ state.old.next
+        + length (declared_by_init (init_of tree.now))) }
+    ensures id { OnOk result
+        (state.new.id ≡ state.old.id + length (asserts_by_init (init_of tree.now))
+        + length
         (asserts_by_step (optional_simple next.now))) }
-    ensures scopes { OnOk result (scopes_of state.new.scopes ≡ init_scopes (procedures_in table.now.items.now)
+    ensures scopes { OnOk result
+        (scopes_of state.new.scopes ≡ init_scopes (procedures_in table.now.items.now)
         (scopes_of state.old.scopes) state.old.next (init_of tree.now)) }
 {
     state.scopes.open()?;
@@ -185,7 +214,8 @@ fn wrapped(
     mut before: Vec<Stmt>,
     whole: Box<Stmt>,
 ) -> Result<Box<Stmt>, AllocError>
-    ensures { IfOk result (λ made. statement_of made.value ≡ wrapped (init_of tree.now) (statements_of before.items) (statement_of whole.value)) }
+    ensures { IfOk result (λ made. statement_of made.value ≡ wrapped (init_of tree.now)
+        (statements_of before.items) (statement_of whole.value)) }
 {
     match tree {
         ForFirst::Nothing => Ok(whole),
@@ -203,8 +233,10 @@ pub fn for_loop(
     parts: Box<Beginning>,
     body: Box<Stmt>,
 ) -> Result<Box<Stmt>, AllocError>
-    ensures { IfOk result (λ made. statement_of made.value ≡ wrapped (init_of tree.now) (statements_of parts.value.before.items)
-        (loop (expression_of parts.value.test) (statement_of parts.value.step.value) (statement_of body.value))) }
+    ensures { IfOk result (λ made. statement_of made.value ≡ wrapped (init_of tree.now)
+        (statements_of parts.value.before.items)
+        (loop (expression_of parts.value.test) (statement_of parts.value.step.value)
+        (statement_of body.value))) }
 {
     let Beginning { before, test, step } = Box::into_inner(parts);
     let whole = boxed(alloc, Stmt::Loop { test, step, body })?;

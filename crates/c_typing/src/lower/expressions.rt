@@ -17,7 +17,8 @@ use std::alloc::{AllocError, Global};
 /// A call of what is called.
 pub fn call(called: Called, values: Vec<Expr>) -> Expr
     requires { number_in (callee_from called) < 2 ^ 32 }
-    ensures { expression_of result ≡ lowered_call (callee_from called) (expressions_of values.items) }
+    ensures { expression_of result ≡ lowered_call (callee_from called)
+        (expressions_of values.items) }
 {
     match called {
         Called::Input => Expr::Input,
@@ -35,7 +36,8 @@ pub fn boxed(alloc: Global, made: Expr) -> Result<Box<Expr>, AllocError>
 
 /// A binary operation.
 pub fn binary(alloc: Global, op: Op, left: Box<Expr>, right: Expr) -> Result<Expr, AllocError>
-    ensures { IfOk result (λ made. expression_of made ≡ binary op (expression_of left.value) (expression_of right)) }
+    ensures { IfOk result (λ made. expression_of made ≡ binary op (expression_of left.value)
+        (expression_of right)) }
 {
     Ok(Expr::Binary(op, left, boxed(alloc, right)?))
 }
@@ -49,7 +51,8 @@ pub fn expression(
     tree: &ExprTree,
 ) -> Result<Expr, AllocError>
     requires { length (procedures_in table.now.items.now) ≤ MAX_PROCEDURES }
-    ensures { IfOk result (λ made. expression_of made ≡ lowered (procedures_in table.now.items.now) (scopes_of scopes.now) (tree_of tree.now)) }
+    ensures { IfOk result (λ made. expression_of made ≡ lowered (procedures_in table.now.items.now)
+        (scopes_of scopes.now) (tree_of tree.now)) }
 {
     match tree {
         ExprTree::Literal(value) => Ok(Expr::Literal(*value)),
@@ -89,7 +92,8 @@ pub fn arguments(
     trees: &[ExprTree],
 ) -> Result<Vec<Expr>, AllocError>
     requires { length (procedures_in table.now.items.now) ≤ MAX_PROCEDURES }
-    ensures { IfOk result (λ made. expressions_of made.items ≡ lowered_all (procedures_in table.now.items.now) (scopes_of scopes.now)
+    ensures { IfOk result (λ made. expressions_of made.items
+        ≡ lowered_all (procedures_in table.now.items.now) (scopes_of scopes.now)
         (trees_of trees.now)) }
 {
     let mut made = Vec::new(alloc);
@@ -108,7 +112,9 @@ pub fn value(
     tree: &Option<ExprTree>,
 ) -> Result<Expr, AllocError>
     requires { length (procedures_in table.now.items.now) ≤ MAX_PROCEDURES }
-    ensures { IfOk result (λ made. expression_of made ≡ lowered_value (procedures_in table.now.items.now) (scopes_of scopes.now)
+    ensures { IfOk result
+        (λ made. expression_of made ≡ lowered_value (procedures_in table.now.items.now)
+        (scopes_of scopes.now)
         (optional_tree tree.now)) }
 {
     match tree {
@@ -125,7 +131,9 @@ pub fn test(
     tree: &Option<ExprTree>,
 ) -> Result<Expr, AllocError>
     requires { length (procedures_in table.now.items.now) ≤ MAX_PROCEDURES }
-    ensures { IfOk result (λ made. expression_of made ≡ lowered_test (procedures_in table.now.items.now) (scopes_of scopes.now)
+    ensures { IfOk result
+        (λ made. expression_of made ≡ lowered_test (procedures_in table.now.items.now)
+        (scopes_of scopes.now)
         (optional_tree tree.now)) }
 {
     match tree {
@@ -142,7 +150,8 @@ pub fn returned(
     tree: &Option<ExprTree>,
 ) -> Result<Option<Expr>, AllocError>
     requires { length (procedures_in table.now.items.now) ≤ MAX_PROCEDURES }
-    ensures { IfOk result (λ made. optional_expression made ≡ lowered_result (procedures_in table.now.items.now) (scopes_of scopes.now)
+    ensures { IfOk result (λ made. optional_expression made ≡ lowered_result
+        (procedures_in table.now.items.now) (scopes_of scopes.now)
         (optional_tree tree.now)) }
 {
     match tree {

@@ -1,12 +1,12 @@
 //! The statements of a program.
 
 ghost use Rattle.std.specs.Prelude.{◌≡◌, ◌+◌, ◌*◌, ◌^◌, ◌<◌, ◌≤◌, [], ◌∷◌, ◌++◌, length, map, OnOk, IfOk, MatchOption};
-ghost use Rattle.c_tree.specs.SourceView.{identifier_of, tree_of, simple_of, optional_simple, declarator_of, init_of, statement_tree_of, statement_trees_of};
+ghost use Rattle.c_tree.specs.SourceView.{identifier_of, tree_of, simple_of};
 ghost use Rattle.c_tree.specs.Syntax.{set, binary, read, block, if_else, loop, do_while};
 ghost use Rattle.c_tree.specs.View.{expression_of, expressions_of, statement_of, statements_of};
-ghost use Rattle.c_typing.specs.Scope.{with_variable, with_names, names_of, declared_by_init, declared_by, declared_in, asserts_by_simple, asserts_by_step, asserts_by_init, asserts_by, asserts_in};
-ghost use Rattle.c_typing.specs.Lowering.{slot, nothing, lowered, first_of, called_statement, lowered_simple, lowered_step, lowered_declarators, lowered_statement, lowered_statements};
-ghost use Rattle.c_typing.specs.steps.LoweringSteps.{IsQuietSimple, IsQuietStep, IsQuietInit, IsQuiet, AreQuiet};
+ghost use Rattle.c_typing.specs.Scope.{asserts_by_simple};
+ghost use Rattle.c_typing.specs.Lowering.{slot, nothing, lowered, first_of, called_statement, lowered_simple};
+ghost use Rattle.c_typing.specs.steps.LoweringSteps.{IsQuietSimple};
 ghost use Rattle.c_typing.specs.steps.Tables.{scopes_of, procedures_in, callee_from, number_in};
 
 use crate::fault::MAX_PROCEDURES;
@@ -48,8 +48,10 @@ pub fn if_else(
     other: Box<Stmt>,
 ) -> Result<Box<Stmt>, AllocError>
     requires { length (procedures_in table.now.items.now) ≤ MAX_PROCEDURES }
-    ensures { IfOk result (λ made. statement_of made.value ≡ if_else (lowered (procedures_in table.now.items.now)
-        (scopes_of state.now.scopes) (tree_of test.now)) (statement_of then.value) (statement_of other.value)) }
+    ensures { IfOk result (λ made. statement_of made.value
+        ≡ if_else (lowered (procedures_in table.now.items.now)
+        (scopes_of state.now.scopes) (tree_of test.now)) (statement_of then.value) (statement_of
+        other.value)) }
 {
     let test = expression(state.alloc, table, &state.scopes, test)?;
     boxed(state.alloc, Stmt::If(test, then, other))
@@ -63,7 +65,8 @@ pub fn if_then(
     then: Box<Stmt>,
 ) -> Result<Box<Stmt>, AllocError>
     requires { length (procedures_in table.now.items.now) ≤ MAX_PROCEDURES }
-    ensures { IfOk result (λ made. statement_of made.value ≡ if_else (lowered (procedures_in table.now.items.now)
+    ensures { IfOk result (λ made. statement_of made.value
+        ≡ if_else (lowered (procedures_in table.now.items.now)
         (scopes_of state.now.scopes) (tree_of test.now)) (statement_of then.value) nothing) }
 {
     let other = boxed(state.alloc, nothing(state.alloc))?;
@@ -78,7 +81,8 @@ pub fn while_loop(
     body: Box<Stmt>,
 ) -> Result<Box<Stmt>, AllocError>
     requires { length (procedures_in table.now.items.now) ≤ MAX_PROCEDURES }
-    ensures { IfOk result (λ made. statement_of made.value ≡ loop (lowered (procedures_in table.now.items.now)
+    ensures { IfOk result (λ made. statement_of made.value
+        ≡ loop (lowered (procedures_in table.now.items.now)
         (scopes_of state.now.scopes) (tree_of test.now)) nothing (statement_of body.value)) }
 {
     let step = boxed(state.alloc, nothing(state.alloc))?;
@@ -94,7 +98,8 @@ pub fn do_while(
     test: &ExprTree,
 ) -> Result<Box<Stmt>, AllocError>
     requires { length (procedures_in table.now.items.now) ≤ MAX_PROCEDURES }
-    ensures { IfOk result (λ made. statement_of made.value ≡ do_while (statement_of body.value) (lowered (procedures_in table.now.items.now)
+    ensures { IfOk result (λ made. statement_of made.value ≡ do_while (statement_of body.value)
+        (lowered (procedures_in table.now.items.now)
         (scopes_of state.now.scopes) (tree_of test.now))) }
 {
     let test = expression(state.alloc, table, &state.scopes, test)?;
@@ -132,7 +137,8 @@ fn first_of(values: Vec<Expr>) -> Expr
 /// A call that is a statement; so many assertions stand before it.
 fn called_statement(called: Called, id: u32, values: Vec<Expr>) -> Stmt
     requires { number_in (callee_from called) < 2 ^ 32 }
-    ensures { statement_of result ≡ called_statement (callee_from called) id (expressions_of values.items) }
+    ensures { statement_of result ≡ called_statement (callee_from called) id
+        (expressions_of values.items) }
 {
     match called {
         Called::Assume => Stmt::Assume(first_of(values)),
@@ -144,7 +150,8 @@ fn called_statement(called: Called, id: u32, values: Vec<Expr>) -> Stmt
 
 /// A set of what a name means.
 fn set(scopes: &Scopes<'_>, named: &Named, value: Expr) -> Stmt
-    ensures { statement_of result ≡ set (slot (scopes_of scopes.now) (identifier_of named.now)) (expression_of value) }
+    ensures { statement_of result ≡ set (slot (scopes_of scopes.now) (identifier_of named.now))
+        (expression_of value) }
 {
     let slot = scopes.slot_of(named.name.as_str()).unwrap_or(0);
     Stmt::Set(slot, value)
@@ -158,8 +165,10 @@ fn change(
     named: &Named,
     value: Expr,
 ) -> Result<Stmt, AllocError>
-    ensures { IfOk result (λ made. statement_of made ≡ set (slot (scopes_of scopes.now) (identifier_of named.now))
-        (binary op (read (slot (scopes_of scopes.now) (identifier_of named.now))) (expression_of value))) }
+    ensures { IfOk result
+        (λ made. statement_of made ≡ set (slot (scopes_of scopes.now) (identifier_of named.now))
+        (binary op (read (slot (scopes_of scopes.now) (identifier_of named.now)))
+        (expression_of value))) }
 {
     let slot = scopes.slot_of(named.name.as_str()).unwrap_or(0);
     let right = expressions::boxed(alloc, value)?;
@@ -176,7 +185,9 @@ pub fn simple(
     tree: &SimpleTree,
 ) -> Result<Stmt, AllocError>
     requires { length (procedures_in table.now.items.now) ≤ MAX_PROCEDURES }
-    ensures { IfOk result (λ made. statement_of made ≡ lowered_simple (procedures_in table.now.items.now) (scopes_of scopes.now) id
+    ensures { IfOk result
+        (λ made. statement_of made ≡ lowered_simple (procedures_in table.now.items.now)
+        (scopes_of scopes.now) id
         (simple_of tree.now)) }
 {
     match tree {

@@ -1,6 +1,6 @@
 //! The program of a file without faults.
 
-ghost use Rattle.std.specs.Prelude.{◌≡◌, ◌+◌, ◌<◌, ◌≤◌, [], ◌∷◌, ◌++◌, length, map, take, drop, OnOk, IfOk};
+ghost use Rattle.std.specs.Prelude.{◌≡◌, ◌+◌, ◌≤◌, [], ◌∷◌, ◌++◌, length, map, take, drop, OnOk, IfOk};
 ghost use Rattle.c_tree.specs.SourceView.{identifier_of};
 ghost use Rattle.c_tree.specs.FileView.{procedure_tree_of};
 ghost use Rattle.c_tree.specs.View.{procedure_of, statements_of};
@@ -22,7 +22,8 @@ use std::alloc::{AllocError, Global};
 fn parameters<'a>(scopes: &mut Scopes<'a>, names: &'a [Named]) -> Result<u32, AllocError>
     requires { length names.now ≤ MAX_VARIABLES }
     ensures count { IfOk result (λ count. count ≡ length names.now) }
-    ensures scopes { OnOk result (scopes_of scopes.new ≡ with_names (scopes_of scopes.old) 0 (map identifier_of names.now)) }
+    ensures scopes { OnOk result (scopes_of scopes.new ≡ with_names (scopes_of scopes.old) 0
+        (map identifier_of names.now)) }
 {
     let mut slot = 0u32;
     for named in names {
@@ -41,10 +42,13 @@ fn body<'a>(
     requires few { length (procedures_in table.now.items.now) ≤ MAX_PROCEDURES }
     requires fits { ProcedureFits state.old.id (procedure_tree_of tree.now) }
     requires outside { scopes_of state.old.scopes ≡ [] }
-    ensures made { IfOk result (λ made. statements_of made.items ≡ (lowered_procedure (procedures_in table.now.items.now) state.old.id
+    ensures made { IfOk result (λ made. statements_of made.items
+        ≡ (lowered_procedure (procedures_in table.now.items.now) state.old.id
         (procedure_tree_of tree.now)).body) }
-    ensures next { OnOk result (state.new.next ≡ length (variables_of (procedure_tree_of tree.now))) }
-    ensures id { OnOk result (state.new.id ≡ state.old.id + length (asserts_in (procedure_tree_of tree.now).body)) }
+    ensures next { OnOk result
+        (state.new.next ≡ length (variables_of (procedure_tree_of tree.now))) }
+    ensures id { OnOk result
+        (state.new.id ≡ state.old.id + length (asserts_in (procedure_tree_of tree.now).body)) }
 {
     state.scopes.open()?;
     state.next = parameters(&mut state.scopes, &tree.params)?;
@@ -60,9 +64,11 @@ fn procedure(
 ) -> Result<Procedure, AllocError>
     requires few { length (procedures_in table.now.items.now) ≤ MAX_PROCEDURES }
     requires fits { ProcedureFits id.old (procedure_tree_of tree.now) }
-    ensures made { IfOk result (λ made. procedure_of made ≡ lowered_procedure (procedures_in table.now.items.now) id.old
+    ensures made { IfOk result (λ made. procedure_of made ≡ lowered_procedure
+        (procedures_in table.now.items.now) id.old
         (procedure_tree_of tree.now)) }
-    ensures id { OnOk result (id.new ≡ id.old + length (asserts_in (procedure_tree_of tree.now).body)) }
+    ensures id { OnOk result
+        (id.new ≡ id.old + length (asserts_in (procedure_tree_of tree.now).body)) }
 {
     let name = tree.named.name.clone()?;
     let mut state = State {
@@ -105,15 +111,21 @@ fn item(
     requires few { length (procedures_in table.now.items.now) ≤ MAX_PROCEDURES }
     requires fits { ProceduresFit id.old (procedures_in (tree.now ∷ [])) }
     requires room { length procedures.old.items ≤ MAX_PROCEDURES }
-    requires within { id.old + length (asserts_in_file (procedures_in (tree.now ∷ []))) ≤ length asserts.now }
-    requires own { take (length (asserts_in_file (procedures_in (tree.now ∷ [])))) (drop id.old asserts.now) ≡ asserts_in_file
+    requires within { id.old + length (asserts_in_file (procedures_in (tree.now ∷ []))) ≤ length
+        asserts.now }
+    requires own { take (length (asserts_in_file (procedures_in (tree.now ∷ []))))
+        (drop id.old asserts.now) ≡ asserts_in_file
         (procedures_in (tree.now ∷ [])) }
-    ensures procedures { OnOk result (map procedure_of procedures.new.items ≡ map procedure_of procedures.old.items ++ lowered_procedures
+    ensures procedures { OnOk result (map procedure_of procedures.new.items ≡ map procedure_of
+        procedures.old.items ++ lowered_procedures
         (procedures_in table.now.items.now) id.old (procedures_in (tree.now ∷ []))) }
-    ensures places { OnOk result (places.new.items ≡ places.old.items ++ assert_places (length procedures.old.items)
+    ensures places { OnOk result (places.new.items ≡ places.old.items ++ assert_places
+        (length procedures.old.items)
         (procedures_in (tree.now ∷ []))) }
-    ensures id { OnOk result (id.new ≡ id.old + length (asserts_in_file (procedures_in (tree.now ∷ [])))) }
-    ensures count { OnOk result (length procedures.new.items ≡ length procedures.old.items + length (procedures_in (tree.now ∷ []))) }
+    ensures id { OnOk result
+        (id.new ≡ id.old + length (asserts_in_file (procedures_in (tree.now ∷ [])))) }
+    ensures count { OnOk result (length procedures.new.items ≡ length procedures.old.items
+        + length (procedures_in (tree.now ∷ []))) }
 {
     if let Item::Proc(tree) = tree {
         let from = *id;
@@ -140,9 +152,11 @@ pub fn parts(alloc: Global, table: &Table<'_>, asserts: &[Pos]) -> Result<Made, 
     requires few { length (procedures_in table.now.items.now) ≤ MAX_PROCEDURES }
     requires fits { ProceduresFit 0 (procedures_in table.now.items.now) }
     requires asserts { asserts.now ≡ asserts_in_file (procedures_in table.now.items.now) }
-    ensures procedures { IfOk result (λ made. map procedure_of made.procedures.items ≡ lowered_procedures
+    ensures procedures { IfOk result (λ made. map procedure_of made.procedures.items
+        ≡ lowered_procedures
         (procedures_in table.now.items.now) 0 (procedures_in table.now.items.now)) }
-    ensures places { IfOk result (λ made. made.places.items ≡ assert_places 0 (procedures_in table.now.items.now)) }
+    ensures places { IfOk result
+        (λ made. made.places.items ≡ assert_places 0 (procedures_in table.now.items.now)) }
 {
     let mut id = 0u32;
     let mut procedures = Vec::new(alloc);

@@ -27,8 +27,11 @@ fn alone<'a>(
 ) -> Result<Box<Stmt>, AllocError>
     requires few { length (procedures_in table.now.items.now) ≤ MAX_PROCEDURES }
     requires fits { HasRoomFor state.old.next state.old.id (declare (map declarator_of trees.now)) }
-    ensures { IfOk result (λ made. IsLowered (procedures_in table.now.items.now) (scopes_of state.old.scopes) (scopes_of state.new.scopes)
-        state.old.next state.old.id state.new.next state.new.id (declare (map declarator_of trees.now)) (statement_of made.value)) }
+    ensures { IfOk result (λ made. IsLowered (procedures_in table.now.items.now)
+        (scopes_of state.old.scopes) (scopes_of state.new.scopes)
+        state.old.next state.old.id state.new.next state.new.id
+        (declare (map declarator_of trees.now))
+        (statement_of made.value)) }
 {
     let mark = state.scopes.mark();
     let mut made = Vec::new(state.alloc);
@@ -47,8 +50,10 @@ fn statement<'a>(
 ) -> Result<Box<Stmt>, AllocError>
     requires few { length (procedures_in table.now.items.now) ≤ MAX_PROCEDURES }
     requires fits { HasRoomFor state.old.next state.old.id (statement_tree_of tree.now) }
-    ensures { IfOk result (λ made. IsLowered (procedures_in table.now.items.now) (scopes_of state.old.scopes) (scopes_of state.new.scopes)
-        state.old.next state.old.id state.new.next state.new.id (statement_tree_of tree.now) (statement_of made.value)) }
+    ensures { IfOk result (λ made. IsLowered (procedures_in table.now.items.now)
+        (scopes_of state.old.scopes) (scopes_of state.new.scopes)
+        state.old.next state.old.id state.new.next state.new.id (statement_tree_of tree.now)
+        (statement_of made.value)) }
 {
     match tree {
         StmtTree::Block(trees) => nested(table, state, trees),
@@ -96,8 +101,10 @@ fn single(
 ) -> Result<Box<Stmt>, AllocError>
     requires few { length (procedures_in table.now.items.now) ≤ MAX_PROCEDURES }
     requires fits { HasRoomFor state.old.next state.old.id (simple (simple_of tree.now)) }
-    ensures { IfOk result (λ made. IsLowered (procedures_in table.now.items.now) (scopes_of state.old.scopes) (scopes_of state.new.scopes)
-        state.old.next state.old.id state.new.next state.new.id (simple (simple_of tree.now)) (statement_of made.value)) }
+    ensures { IfOk result (λ made. IsLowered (procedures_in table.now.items.now)
+        (scopes_of state.old.scopes) (scopes_of state.new.scopes)
+        state.old.next state.old.id state.new.next state.new.id (simple (simple_of tree.now))
+        (statement_of made.value)) }
 {
     let made = counted(table, state, tree)?;
     boxed(state.alloc, made)
@@ -110,7 +117,8 @@ fn leaving(
     value: &Option<ExprTree>,
 ) -> Result<Box<Stmt>, AllocError>
     requires { length (procedures_in table.now.items.now) ≤ MAX_PROCEDURES }
-    ensures { IfOk result (λ made. statement_of made.value ≡ return (lowered_result (procedures_in table.now.items.now)
+    ensures { IfOk result (λ made. statement_of made.value
+        ≡ return (lowered_result (procedures_in table.now.items.now)
         (scopes_of state.now.scopes) (optional_tree value.now))) }
 {
     let value = returned(state.alloc, table, &state.scopes, value)?;
@@ -126,9 +134,12 @@ fn nested<'a>(
     trees: &'a Vec<StmtTree>,
 ) -> Result<Box<Stmt>, AllocError>
     requires few { length (procedures_in table.now.items.now) ≤ MAX_PROCEDURES }
-    requires fits { HasRoomFor state.old.next state.old.id (statement_tree_of (StmtTree.Block trees.now)) }
-    ensures { IfOk result (λ made. IsLowered (procedures_in table.now.items.now) (scopes_of state.old.scopes) (scopes_of state.new.scopes)
-        state.old.next state.old.id state.new.next state.new.id (statement_tree_of (StmtTree.Block trees.now)) (statement_of made.value)) }
+    requires fits { HasRoomFor state.old.next state.old.id
+        (statement_tree_of (StmtTree.Block trees.now)) }
+    ensures { IfOk result (λ made. IsLowered (procedures_in table.now.items.now)
+        (scopes_of state.old.scopes) (scopes_of state.new.scopes)
+        state.old.next state.old.id state.new.next state.new.id
+        (statement_tree_of (StmtTree.Block trees.now)) (statement_of made.value)) }
 {
     state.scopes.open()?;
     let made = statements(table, state, trees)?;
@@ -146,8 +157,10 @@ pub fn statements<'a>(
 ) -> Result<Vec<Stmt>, AllocError>
     requires few { length (procedures_in table.now.items.now) ≤ MAX_PROCEDURES }
     requires fits { HasRoomFor state.old.next state.old.id (block (statement_trees_of trees.now)) }
-    ensures { IfOk result (λ made. AreLowered (procedures_in table.now.items.now) (scopes_of state.old.scopes) (scopes_of state.new.scopes)
-        state.old.next state.old.id state.new.next state.new.id (statement_trees_of trees.now) (statements_of made.items)) }
+    ensures { IfOk result (λ made. AreLowered (procedures_in table.now.items.now)
+        (scopes_of state.old.scopes) (scopes_of state.new.scopes)
+        state.old.next state.old.id state.new.next state.new.id (statement_trees_of trees.now)
+        (statements_of made.items)) }
 {
     let mut made = Vec::new(state.alloc);
     for tree in trees {
@@ -167,8 +180,10 @@ fn in_block<'a>(
 ) -> Result<(), AllocError>
     requires few { length (procedures_in table.now.items.now) ≤ MAX_PROCEDURES }
     requires fits { HasRoomFor state.old.next state.old.id (statement_tree_of tree.now) }
-    ensures { OnOk result (IsPlaced (procedures_in table.now.items.now) (scopes_of state.old.scopes) (scopes_of state.new.scopes)
-        state.old.next state.old.id state.new.next state.new.id (statement_tree_of tree.now) (statements_of out.old.items)
+    ensures { OnOk result (IsPlaced (procedures_in table.now.items.now) (scopes_of state.old.scopes)
+        (scopes_of state.new.scopes)
+        state.old.next state.old.id state.new.next state.new.id (statement_tree_of tree.now)
+        (statements_of out.old.items)
         (statements_of out.new.items)) }
 {
     match tree {

@@ -19,40 +19,47 @@ use Rattle.c_typing.proofs.check.check_types.Goals as goal
 pub returns-in-Some-clause-refused : goal.returns-in-Some-clause-refused
 returns-in-Some-clause-refused c f p e =
     let is = file_of c.args.tree.now in
-    let least = ap (λ r. least_from None (all_faults (map item_of r))) (sym (c.in_ok-table.ensures ∙ c.deref.ensures.value)) ∙ sym c.in_ok-notes.ensures.best ∙ ap best_of c.in-Some.is in
+    let least = ap (λ r. least_from None (all_faults (map item_of r))) (sym (c.in_ok-table.ensures ∙ c.deref.ensures.value))
+    ∙ sym c.in_ok-notes.ensures.best ∙ ap best_of c.in-Some.is in
     let same : Refused c.in-Some.found.fault c.in-Some.found.at ≡ Refused f p = cc in
     told_as is c.in-Some.found.fault f c.in-Some.found.at p (fault_told is c.in-Some.found.fault c.in-Some.found.at least) same
 
 pub returns-in-Some-clause-if_fault : goal.returns-in-Some-clause-if_fault
 returns-in-Some-clause-if_fault c f p h =
     let is = file_of c.args.tree.now in
-    let least = ap (λ r. least_from None (all_faults (map item_of r))) (sym (c.in_ok-table.ensures ∙ c.deref.ensures.value)) ∙ sym c.in_ok-notes.ensures.best ∙ ap best_of c.in-Some.is in
+    let least = ap (λ r. least_from None (all_faults (map item_of r))) (sym (c.in_ok-table.ensures ∙ c.deref.ensures.value))
+    ∙ sym c.in_ok-notes.ensures.best ∙ ap best_of c.in-Some.is in
     inl (fault_only is c.in-Some.found.fault f c.in-Some.found.at p least h)
 
 pub returns-in-Some-clause-only : goal.returns-in-Some-clause-only
 returns-in-Some-clause-only c P h =
     let is = file_of c.args.tree.now in
-    let least = ap (λ r. least_from None (all_faults (map item_of r))) (sym (c.in_ok-table.ensures ∙ c.deref.ensures.value)) ∙ sym c.in_ok-notes.ensures.best ∙ ap best_of c.in-Some.is in
+    let least = ap (λ r. least_from None (all_faults (map item_of r))) (sym (c.in_ok-table.ensures ∙ c.deref.ensures.value))
+    ∙ sym c.in_ok-notes.ensures.best ∙ ap best_of c.in-Some.is in
     absurd (fault_no_program is _ P least h)
 
 pub returns-then-not-is_defined-clause-only : goal.returns-then-not-is_defined-clause-only
 returns-then-not-is_defined-clause-only c P h =
     let is = file_of c.args.tree.now in
-    let none = ap (λ r. is_defined (defined_from 0 (procedures_in r) (codes "main"))) (sym (c.in_ok-table.ensures ∙ c.deref.ensures.value)) ∙ sym c.is_defined.ensures ∙ c.if-not-is_defined.true in
+    let none = ap (λ r. is_defined (defined_from 0 (procedures_in r) (codes "main"))) (sym (c.in_ok-table.ensures ∙ c.deref.ensures.value))
+    ∙ sym c.is_defined.ensures ∙ c.if-not-is_defined.true in
     absurd (lacks_program is P none h)
 
 pub returns-then-not-is_defined-clause-refused : goal.returns-then-not-is_defined-clause-refused
 returns-then-not-is_defined-clause-refused c f p e =
     let is = file_of c.args.tree.now in
-    let least = ap (λ r. least_from None (all_faults (map item_of r))) (sym (c.in_ok-table.ensures ∙ c.deref.ensures.value)) ∙ sym c.in_ok-notes.ensures.best ∙ ap best_of c.in_default.is in
-    let none = ap (λ r. is_defined (defined_from 0 (procedures_in r) (codes "main"))) (sym (c.in_ok-table.ensures ∙ c.deref.ensures.value)) ∙ sym c.is_defined.ensures ∙ c.if-not-is_defined.true in
+    let least = ap (λ r. least_from None (all_faults (map item_of r))) (sym (c.in_ok-table.ensures ∙ c.deref.ensures.value))
+    ∙ sym c.in_ok-notes.ensures.best ∙ ap best_of c.in_default.is in
+    let none = ap (λ r. is_defined (defined_from 0 (procedures_in r) (codes "main"))) (sym (c.in_ok-table.ensures ∙ c.deref.ensures.value))
+    ∙ sym c.is_defined.ensures ∙ c.if-not-is_defined.true in
     let same : Refused NoMain start ≡ Refused f p = cc in
     told_as is NoMain f start p (lacks_main is least none) same
 
 pub returns-then-not-is_defined-clause-if_fault : goal.returns-then-not-is_defined-clause-if_fault
 returns-then-not-is_defined-clause-if_fault c f p h =
     let is = file_of c.args.tree.now in
-    let least = ap (λ r. least_from None (all_faults (map item_of r))) (sym (c.in_ok-table.ensures ∙ c.deref.ensures.value)) ∙ sym c.in_ok-notes.ensures.best ∙ ap best_of c.in_default.is in
+    let least = ap (λ r. least_from None (all_faults (map item_of r))) (sym (c.in_ok-table.ensures ∙ c.deref.ensures.value))
+    ∙ sym c.in_ok-notes.ensures.best ∙ ap best_of c.in_default.is in
     inl (lacks_only is f p least h)
 
 pub parts-requires-clause-few : goal.parts-requires-clause-few
@@ -70,7 +77,8 @@ parts-requires-clause-fits c =
 pub overflow_cast-main : goal.overflow_cast-main
 overflow_cast-main c =
     let is = map item_of c.in_ok-table.table.items.now in
-    let few = (faultless_keeps is (least-none (all_faults is) (sym c.in_ok-notes.ensures.best ∙ ap best_of c.in_default.is))).few_procedures in
+    let few = (faultless_keeps is (least-none (all_faults is) (sym c.in_ok-notes.ensures.best ∙ ap best_of c.in_default.is))).few_procedures
+    in
     let small = main_small (procedures_of is) (codes "main") c.number_of-main.result few c.number_of-main.ensures in
     search (rules, small)
 
@@ -80,31 +88,44 @@ new-requires-2 c =
     let is = map item_of r in
     let faultless = least-none (all_faults is) (sym c.in_ok-notes.ensures.best ∙ ap best_of c.in_default.is) in
     let main = defines_main is (sym c.is_defined.ensures ∙ c.if-not-is_defined.false) in
-    let same = whole r c.in_ok-made.made.procedures.items c.number_of-main.result c.in_ok-made.made.places.items c.in_ok-made.ensures.procedures c.number_of-main.ensures c.in_ok-made.ensures.places in
-    whole_formed r (program_from c.in_ok-made.made.procedures.items c.number_of-main.result c.in_ok-made.made.places.items) same faultless main
+    let same = whole r c.in_ok-made.made.procedures.items c.number_of-main.result c.in_ok-made.made.places.items
+    c.in_ok-made.ensures.procedures c.number_of-main.ensures c.in_ok-made.ensures.places in
+    whole_formed r (program_from c.in_ok-made.made.procedures.items c.number_of-main.result c.in_ok-made.made.places.items) same faultless
+    main
 
 pub returns-clause-ok : goal.returns-clause-ok
 returns-clause-ok c =
     let r = c.in_ok-table.table.items.now in
     let items = c.args.tree.now.items.items in
-    let least = ap (λ x. least_from None (all_faults (map item_of x))) (sym (c.in_ok-table.ensures ∙ c.deref.ensures.value)) ∙ sym c.in_ok-notes.ensures.best ∙ ap best_of c.in_default.is in
-    let same = whole r c.in_ok-made.made.procedures.items c.number_of-main.result c.in_ok-made.made.places.items c.in_ok-made.ensures.procedures c.number_of-main.ensures c.in_ok-made.ensures.places in
+    let least = ap (λ x. least_from None (all_faults (map item_of x))) (sym (c.in_ok-table.ensures ∙ c.deref.ensures.value))
+    ∙ sym c.in_ok-notes.ensures.best ∙ ap best_of c.in_default.is in
+    let same = whole r c.in_ok-made.made.procedures.items c.number_of-main.result c.in_ok-made.made.places.items
+    c.in_ok-made.ensures.procedures c.number_of-main.ensures c.in_ok-made.ensures.places in
     record {
       faultless = least-none (all_faults (map item_of items)) least;
-      main = defines_main (map item_of items) (ap (λ x. is_defined (defined_from 0 (procedures_in x) (codes "main"))) (sym (c.in_ok-table.ensures ∙ c.deref.ensures.value)) ∙ sym c.is_defined.ensures ∙ c.if-not-is_defined.false);
-      lowered = made_program items r c.new-2.result.procedures.items c.in_ok-made.made.procedures.items c.new-2.result.main c.number_of-main.result c.new-2.result.asserts.items c.in_ok-made.made.places.items (c.in_ok-table.ensures ∙ c.deref.ensures.value) c.new-2.ensures.procedures c.new-2.ensures.main c.new-2.ensures.asserts same;
+      main = defines_main (map item_of items) (ap (λ x. is_defined (defined_from 0 (procedures_in x) (codes "main")))
+          (sym (c.in_ok-table.ensures ∙ c.deref.ensures.value)) ∙ sym c.is_defined.ensures ∙ c.if-not-is_defined.false);
+      lowered = made_program items r c.new-2.result.procedures.items c.in_ok-made.made.procedures.items c.new-2.result.main
+          c.number_of-main.result c.new-2.result.asserts.items c.in_ok-made.made.places.items
+          (c.in_ok-table.ensures ∙ c.deref.ensures.value)
+          c.new-2.ensures.procedures c.new-2.ensures.main c.new-2.ensures.asserts same;
     }
 
 pub returns-clause-only : goal.returns-clause-only
 returns-clause-only c P h =
     let r = c.in_ok-table.table.items.now in
     let items = c.args.tree.now.items.items in
-    let same = whole r c.in_ok-made.made.procedures.items c.number_of-main.result c.in_ok-made.made.places.items c.in_ok-made.ensures.procedures c.number_of-main.ensures c.in_ok-made.ensures.places in
-    made_program items r c.new-2.result.procedures.items c.in_ok-made.made.procedures.items c.new-2.result.main c.number_of-main.result c.new-2.result.asserts.items c.in_ok-made.made.places.items (c.in_ok-table.ensures ∙ c.deref.ensures.value) c.new-2.ensures.procedures c.new-2.ensures.main c.new-2.ensures.asserts same ∙ sym h.lowered
+    let same = whole r c.in_ok-made.made.procedures.items c.number_of-main.result c.in_ok-made.made.places.items
+    c.in_ok-made.ensures.procedures c.number_of-main.ensures c.in_ok-made.ensures.places in
+    made_program items r c.new-2.result.procedures.items c.in_ok-made.made.procedures.items c.new-2.result.main c.number_of-main.result
+    c.new-2.result.asserts.items c.in_ok-made.made.places.items (c.in_ok-table.ensures ∙ c.deref.ensures.value) c.new-2.ensures.procedures
+    c.new-2.ensures.main c.new-2.ensures.asserts same ∙ sym h.lowered
 
 pub returns-clause-if_fault : goal.returns-clause-if_fault
 returns-clause-if_fault c f p h =
     let items = c.args.tree.now.items.items in
-    let least = ap (λ x. least_from None (all_faults (map item_of x))) (sym (c.in_ok-table.ensures ∙ c.deref.ensures.value)) ∙ sym c.in_ok-notes.ensures.best ∙ ap best_of c.in_default.is in
-    let main = defines_main (map item_of items) (ap (λ x. is_defined (defined_from 0 (procedures_in x) (codes "main"))) (sym (c.in_ok-table.ensures ∙ c.deref.ensures.value)) ∙ sym c.is_defined.ensures ∙ c.if-not-is_defined.false) in
+    let least = ap (λ x. least_from None (all_faults (map item_of x))) (sym (c.in_ok-table.ensures ∙ c.deref.ensures.value))
+    ∙ sym c.in_ok-notes.ensures.best ∙ ap best_of c.in_default.is in
+    let main = defines_main (map item_of items) (ap (λ x. is_defined (defined_from 0 (procedures_in x) (codes "main")))
+    (sym (c.in_ok-table.ensures ∙ c.deref.ensures.value)) ∙ sym c.is_defined.ensures ∙ c.if-not-is_defined.false) in
     main_first (map item_of items) f p least main h

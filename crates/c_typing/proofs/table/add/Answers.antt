@@ -9,5 +9,7 @@ pub returns-in_ok-insert : goal.returns-in_ok-insert
 returns-in_ok-insert c =
     let p = c.args.procedure.now in
     let count : c.len.result ≡ length (map identifier_of p.params.items) = search (rules, length-map p.params.items identifier_of) in
-    added c.as_str-name.result.now c.args.definitions.now c.insert.new.self _ (procedure_tree_of p) c.args.number c.as_str-name.ensures.value (ap (λ k. record { number = c.args.number; params = k; void = p.void }) count)
+    added c.as_str-name.result.now c.args.definitions.now c.insert.new.self _ (procedure_tree_of p) c.args.number
+    c.as_str-name.ensures.value
+    (ap (λ k. record { number = c.args.number; params = k; void = p.void }) count)
     (sym c.contains_key.ensures ∙ c.if-not-contains_key.true) c.in_ok-insert.ensures.updates

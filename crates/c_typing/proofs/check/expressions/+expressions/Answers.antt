@@ -13,8 +13,10 @@ expression-returns-in_ok-arguments-in-Call-clause-notes t c =
     let ss = scopes_of c.args.scopes.now in
     let n = notes_of c.args.notes.now in
     let few : c.len.result ≡ length c.in-Call.values.items = omega (arith, c.len.ensures, c.in-Call.values.ok.0) in
-    call_noted ps ss n (notes_of c.callee.new.notes) (notes_of c.arguments.new.notes) (identifier_of c.in-Call.named) c.in-Call.values.items c.deref.result.now c.len.result true few c.deref.ensures.value c.in_ok-callee-in-Call.ensures c.in_ok-arguments-in-Call.ensures
-    ∙ ap (λ e. noted n (expression_faults ps ss e) [] (asserts_of e)) (sym (ap tree_of c.in-Call.is ∙ source_call_of c.in-Call.named c.in-Call.values))
+    call_noted ps ss n (notes_of c.callee.new.notes) (notes_of c.arguments.new.notes) (identifier_of c.in-Call.named) c.in-Call.values.items
+    c.deref.result.now c.len.result true few c.deref.ensures.value c.in_ok-callee-in-Call.ensures c.in_ok-arguments-in-Call.ensures
+    ∙ ap (λ e. noted n (expression_faults ps ss e) [] (asserts_of e))
+    (sym (ap tree_of c.in-Call.is ∙ source_call_of c.in-Call.named c.in-Call.values))
 
 pub expression-returns-in_ok-right_constant-in-Binary-clause-notes : goal.expression-returns-in_ok-right_constant-in-Binary-clause-notes
 expression-returns-in_ok-right_constant-in-Binary-clause-notes t c =
@@ -23,17 +25,23 @@ expression-returns-in_ok-right_constant-in-Binary-clause-notes t c =
     let n = notes_of c.args.notes.now in
     let left = c.in_ok-left_constant-in-Binary in
     let right = c.in_ok-right_constant-in-Binary in
-    binary_noted ps ss n (notes_of c.expression-in-Binary.new.notes) (notes_of c.expression-in-Binary-2.new.notes) (notes_of c.product.new.notes) c.in-Binary.op c.in-Binary.at c.in-Binary.left.value c.in-Binary.right.value c.deref-in-Binary.result.now c.deref-in-Binary-2.result.now
-    left.left_constant right.right_constant c.deref-in-Binary.ensures c.deref-in-Binary-2.ensures left.ensures.notes right.ensures.notes left.ensures.constant right.ensures.constant c.product.ensures
+    binary_noted ps ss n (notes_of c.expression-in-Binary.new.notes) (notes_of c.expression-in-Binary-2.new.notes)
+    (notes_of c.product.new.notes) c.in-Binary.op c.in-Binary.at c.in-Binary.left.value c.in-Binary.right.value c.deref-in-Binary.result.now
+    c.deref-in-Binary-2.result.now
+    left.left_constant right.right_constant c.deref-in-Binary.ensures c.deref-in-Binary-2.ensures left.ensures.notes right.ensures.notes
+    left.ensures.constant right.ensures.constant c.product.ensures
     ∙ ap (λ e. noted n (expression_faults ps ss e) [] (asserts_of e)) (sym (ap tree_of c.in-Binary.is))
 
 pub arguments-loop-tree-preserved : goal.arguments-loop-tree-preserved
 arguments-loop-tree-preserved t c =
     let ps = procedures_in c.args.table.now.items.now in
     let ss = scopes_of c.args.scopes.now in
-    arguments_turn ps ss c.args.trees.now c.loop-tree.tree-index c.tree-item.result (notes_of c.loop-tree.notes) (notes_of c.expression.new.notes) _ c.loop-tree-test.true
-    (c.in_ok-expression.ensures.notes ∙ ap (λ e. noted (notes_of c.loop-tree.notes) (expression_faults ps ss (tree_of e)) [] (asserts_of (tree_of e))) c.tree-item.is) c.loop-tree.invariant
+    arguments_turn ps ss c.args.trees.now c.loop-tree.tree-index c.tree-item.result (notes_of c.loop-tree.notes)
+    (notes_of c.expression.new.notes) _ c.loop-tree-test.true
+    (c.in_ok-expression.ensures.notes ∙ ap (λ e. noted (notes_of c.loop-tree.notes) (expression_faults ps ss (tree_of e)) []
+    (asserts_of (tree_of e))) c.tree-item.is) c.loop-tree.invariant
 
 pub arguments-returns : goal.arguments-returns
 arguments-returns t c =
-    arguments_end (procedures_in c.args.table.now.items.now) (scopes_of c.args.scopes.now) c.args.trees.now c.loop-tree.tree-index (notes_of c.loop-tree.notes) _ (omega arith) c.loop-tree.invariant
+    arguments_end (procedures_in c.args.table.now.items.now) (scopes_of c.args.scopes.now) c.args.trees.now c.loop-tree.tree-index
+    (notes_of c.loop-tree.notes) _ (omega arith) c.loop-tree.invariant

@@ -11,4 +11,5 @@ returns-clause-notes c =
     let ps = procedures_in c.args.table.now.items.now in
     let ss = scopes_of c.args.scopes.now in
     let d = declarator_of c.args.tree.now in
-    noted_last (notes_of c.args.notes.now) (notes_of c.optional.new.notes) (notes_of c.declared.new.notes) (optional_faults ps ss d.value) (declared_faults ps ss d.named) [] (d.named ∷ []) (asserts_of_optional d.value) c.in_ok-optional.ensures c.in_ok-declared.ensures.notes
+    noted_last (notes_of c.args.notes.now) (notes_of c.optional.new.notes) (notes_of c.declared.new.notes) (optional_faults ps ss d.value)
+    (declared_faults ps ss d.named) [] (d.named ∷ []) (asserts_of_optional d.value) c.in_ok-optional.ensures c.in_ok-declared.ensures.notes

@@ -7,7 +7,8 @@ abbrev pub invariant-loop-tree : goal.invariant-loop-tree
 invariant-loop-tree l =
     let ps = procedures_in l.table.items.now in
     record {
-      notes : declarators_left ps (scopes_of l.scopes) (notes_of l.notes) (drop l.tree-index l.trees) ≡ declarators_left ps (scopes_of l.fn.scopes) (notes_of l.fn.notes) l.fn.trees;
+      notes : declarators_left ps (scopes_of l.scopes) (notes_of l.notes) (drop l.tree-index l.trees) ≡ declarators_left ps
+          (scopes_of l.fn.scopes) (notes_of l.fn.notes) l.fn.trees;
       scopes : zeros_left ps (scopes_of l.scopes) (drop l.tree-index l.trees) ≡ zeros_left ps (scopes_of l.fn.scopes) l.fn.trees;
       longer : IsLonger l.fn.scopes l.scopes;
     }

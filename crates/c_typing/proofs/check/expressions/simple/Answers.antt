@@ -12,7 +12,8 @@ returns-in_ok-constant-in-Change c =
     let ss = scopes_of c.args.scopes.now in
     let n = notes_of c.args.notes.now in
     let read = c.in_ok-constant-in-Change in
-    change_noted ps ss n (notes_of c.name-in-Change.new.notes) (notes_of c.expression-in-Change.new.notes) (notes_of c.product.new.notes) c.in-Change.op c.in-Change.at (identifier_of c.in-Change.named) c.in-Change.value read.constant
+    change_noted ps ss n (notes_of c.name-in-Change.new.notes) (notes_of c.expression-in-Change.new.notes) (notes_of c.product.new.notes)
+    c.in-Change.op c.in-Change.at (identifier_of c.in-Change.named) c.in-Change.value read.constant
     c.name-in-Change.ensures read.ensures.notes read.ensures.constant c.product.ensures
     ∙ ap (λ s. noted n (simple_faults ps ss (simple_of s)) [] (asserts_by_simple (simple_of s))) (sym c.in-Change.is)
 
@@ -22,5 +23,6 @@ returns-in_ok-arguments-in-Call c =
     let ss = scopes_of c.args.scopes.now in
     let n = notes_of c.args.notes.now in
     let few : c.len.result ≡ length c.in-Call.values.items = omega (arith, c.len.ensures, c.in-Call.values.ok.0) in
-    call_noted ps ss n (notes_of c.callee.new.notes) (notes_of c.arguments.new.notes) (identifier_of c.in-Call.named) c.in-Call.values.items c.deref.result.now c.len.result false few c.deref.ensures.value c.in_ok-callee-in-Call.ensures c.in_ok-arguments-in-Call.ensures
+    call_noted ps ss n (notes_of c.callee.new.notes) (notes_of c.arguments.new.notes) (identifier_of c.in-Call.named) c.in-Call.values.items
+    c.deref.result.now c.len.result false few c.deref.ensures.value c.in_ok-callee-in-Call.ensures c.in_ok-arguments-in-Call.ensures
     ∙ ap (λ s. noted n (simple_faults ps ss (simple_of s)) [] (asserts_by_simple (simple_of s))) (sym c.in-Call.is)

@@ -7,5 +7,8 @@ pub returns-clause-best : goal.returns-clause-best
 returns-clause-best c =
     let ps = procedures_in c.args.table.now.items.now in
     let p = procedure_tree_of c.args.tree.now in
-    procedure_said ps (is_again ps c.args.number p) p (best_of c.args.notes.now.best) (notes_of c.forget_names.new.self) (notes_of c.heading.new.notes) (notes_of c.body.new.notes) (notes_of c.limit.new.self) (notes_of c.limit-2.new.self) c.deref.result.now c.place-past.result
-    c.forget_names.ensures.best c.forget_names.ensures.declared c.heading.ensures c.in_ok-body.ensures c.deref.ensures.value c.place-past.ensures c.limit.ensures c.limit-2.ensures
+    procedure_said ps (is_again ps c.args.number p) p (best_of c.args.notes.now.best) (notes_of c.forget_names.new.self)
+    (notes_of c.heading.new.notes) (notes_of c.body.new.notes) (notes_of c.limit.new.self) (notes_of c.limit-2.new.self) c.deref.result.now
+    c.place-past.result
+    c.forget_names.ensures.best c.forget_names.ensures.declared c.heading.ensures c.in_ok-body.ensures c.deref.ensures.value
+    c.place-past.ensures c.limit.ensures c.limit-2.ensures

@@ -7,6 +7,7 @@ abbrev pub invariant-statements-loop-tree : goal.invariant-statements-loop-tree
 invariant-statements-loop-tree l =
     let ps = procedures_in l.table.items.now in
     record {
-      notes : statements_left ps l.place.void l.place.in_loop (scopes_of l.scopes) (notes_of l.notes) (drop l.tree-index l.trees) ≡ statements_left ps l.place.void l.place.in_loop (scopes_of l.fn.scopes) (notes_of l.fn.notes) l.fn.trees;
+      notes : statements_left ps l.place.void l.place.in_loop (scopes_of l.scopes) (notes_of l.notes) (drop l.tree-index l.trees)
+          ≡ statements_left ps l.place.void l.place.in_loop (scopes_of l.fn.scopes) (notes_of l.fn.notes) l.fn.trees;
       outer : outer_of (scopes_of l.scopes) ≡ outer_of (scopes_of l.fn.scopes);
     }

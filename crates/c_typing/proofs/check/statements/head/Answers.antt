@@ -6,5 +6,8 @@ use Rattle.c_typing.proofs.check.statements.head.Goals as goal
 
 pub returns-clause-notes : goal.returns-clause-notes
 returns-clause-notes c =
-    head_said (procedures_in c.args.table.now.items.now) false (scopes_of c.args.scopes.now) (scopes_of c.open.new.self) (scopes_of c.first.new.scopes) (notes_of c.args.notes.now) (notes_of c.first.new.notes) (notes_of c.optional.new.notes) (notes_of c.step.new.notes)
-    (init_of c.args.start.now) (optional_tree c.args.test.now) (optional_simple c.args.next.now) c.in_ok-open.ensures c.in_ok-first.ensures.scopes c.in_ok-first.ensures.notes c.in_ok-optional.ensures c.in_ok-step.ensures
+    head_said (procedures_in c.args.table.now.items.now) false (scopes_of c.args.scopes.now) (scopes_of c.open.new.self)
+    (scopes_of c.first.new.scopes) (notes_of c.args.notes.now) (notes_of c.first.new.notes) (notes_of c.optional.new.notes)
+    (notes_of c.step.new.notes)
+    (init_of c.args.start.now) (optional_tree c.args.test.now) (optional_simple c.args.next.now) c.in_ok-open.ensures
+    c.in_ok-first.ensures.scopes c.in_ok-first.ensures.notes c.in_ok-optional.ensures c.in_ok-step.ensures

@@ -3,4 +3,6 @@ use Rattle.c_typing.proofs.Lowered.{callee_fits}
 use Rattle.c_typing.proofs.lower.making.simple.Goals as goal
 
 pub called_statement-requires : goal.called_statement-requires
-called_statement-requires c = callee_fits (procedures_in c.args.table.now.items.now) c.as_str.result.now (callee_from c.callee_of-called.result) c.requires c.callee_of-called.ensures
+called_statement-requires c = callee_fits (procedures_in c.args.table.now.items.now) c.as_str.result.now
+    (callee_from c.callee_of-called.result)
+    c.requires c.callee_of-called.ensures

@@ -7,5 +7,6 @@ use Rattle.c_typing.proofs.lower.program.parameters.Given as goal
 abbrev pub invariant-loop-named : goal.invariant-loop-named
 invariant-loop-named l = record {
   slot : l.slot ≡ l.named-index;
-  scopes : with_names (scopes_of l.scopes) l.slot (map identifier_of (drop l.named-index l.names)) ≡ with_names (scopes_of l.fn.scopes) 0 (map identifier_of l.names);
+  scopes : with_names (scopes_of l.scopes) l.slot (map identifier_of (drop l.named-index l.names)) ≡ with_names (scopes_of l.fn.scopes) 0
+      (map identifier_of l.names);
 }

@@ -7,25 +7,43 @@ use Rattle.c_typing.proofs.Programmed.{next_item, built_item, built_from, built_
 use Rattle.c_typing.proofs.lower.program.parts.Goals as goal
 
 pub loop-tree-init : goal.loop-tree-init
-loop-tree-init c = built_from c.args.table.now.items.now c.args.asserts.now (map procedure_of c.new-procedures.result.items) c.new-places.result.items c.requires.fits c.requires.asserts (ap (λ r. map procedure_of r) c.new-procedures.ensures.items) c.new-places.ensures.items
+loop-tree-init c = built_from c.args.table.now.items.now c.args.asserts.now (map procedure_of c.new-procedures.result.items)
+    c.new-places.result.items c.requires.fits c.requires.asserts (ap (λ r. map procedure_of r) c.new-procedures.ensures.items)
+    c.new-places.ensures.items
 
 pub item-requires : goal.item-requires
 item-requires c =
-    let n = next_item (procedures_in c.args.table.now.items.now) c.args.asserts.now c.args.table.now.items.now c.loop-tree.tree-index c.tree-item.result c.loop-tree.id (map procedure_of c.loop-tree.procedures.items) c.loop-tree.places.items c.requires.few c.loop-tree-test.true c.tree-item.is c.loop-tree.invariant in
-    record { few = c.requires.few; fits = n.fits; room = (let r = n.room in omega (arith, length-map c.loop-tree.procedures.items procedure_of)); within = n.within; own = n.own }
+    let n = next_item (procedures_in c.args.table.now.items.now) c.args.asserts.now c.args.table.now.items.now c.loop-tree.tree-index
+    c.tree-item.result c.loop-tree.id (map procedure_of c.loop-tree.procedures.items) c.loop-tree.places.items c.requires.few
+    c.loop-tree-test.true c.tree-item.is c.loop-tree.invariant in
+    record {
+      few = c.requires.few;
+      fits = n.fits;
+      room = (let r = n.room in omega (arith, length-map c.loop-tree.procedures.items procedure_of));
+      within = n.within;
+      own = n.own;
+    }
 
 pub loop-tree-preserved : goal.loop-tree-preserved
 loop-tree-preserved c =
     let old = c.loop-tree.procedures.items in
     let new = c.item.new.procedures.items in
     let more = c.in_ok-item.ensures in
-    let places = more.places ∙ ap (λ k. c.loop-tree.places.items ++ assert_places k (procedures_in (c.tree-item.result ∷ []))) (sym (length-map old procedure_of)) in
-    let count : length (map procedure_of new) ≡ length (map procedure_of old) + length (procedures_in (c.tree-item.result ∷ [])) = omega (arith, length-map old procedure_of, length-map new procedure_of, more.count) in
-    built_item (procedures_in c.args.table.now.items.now) c.args.asserts.now c.args.table.now.items.now c.loop-tree.tree-index c.tree-item.result c.loop-tree.id c.item.new.id (map procedure_of old) (map procedure_of new) c.loop-tree.places.items c.item.new.places.items c.loop-tree-test.true c.tree-item.is
+    let places = more.places ∙ ap (λ k. c.loop-tree.places.items ++ assert_places k (procedures_in (c.tree-item.result ∷ [])))
+    (sym (length-map old procedure_of)) in
+    let count : length (map procedure_of new) ≡ length (map procedure_of old) + length (procedures_in (c.tree-item.result ∷ [])) = omega
+    (arith, length-map old procedure_of, length-map new procedure_of, more.count) in
+    built_item (procedures_in c.args.table.now.items.now) c.args.asserts.now c.args.table.now.items.now c.loop-tree.tree-index
+    c.tree-item.result c.loop-tree.id c.item.new.id (map procedure_of old) (map procedure_of new) c.loop-tree.places.items
+    c.item.new.places.items c.loop-tree-test.true c.tree-item.is
     c.loop-tree.invariant more.procedures places more.id count
 
 pub returns-clause-procedures : goal.returns-clause-procedures
-returns-clause-procedures c = (built_end (procedures_in c.args.table.now.items.now) c.args.asserts.now c.args.table.now.items.now c.loop-tree.tree-index c.loop-tree.id (map procedure_of c.loop-tree.procedures.items) c.loop-tree.places.items (omega arith) c.loop-tree.invariant).0
+returns-clause-procedures c = (built_end (procedures_in c.args.table.now.items.now) c.args.asserts.now c.args.table.now.items.now
+    c.loop-tree.tree-index c.loop-tree.id (map procedure_of c.loop-tree.procedures.items) c.loop-tree.places.items (omega arith)
+    c.loop-tree.invariant).0
 
 pub returns-clause-places : goal.returns-clause-places
-returns-clause-places c = (built_end (procedures_in c.args.table.now.items.now) c.args.asserts.now c.args.table.now.items.now c.loop-tree.tree-index c.loop-tree.id (map procedure_of c.loop-tree.procedures.items) c.loop-tree.places.items (omega arith) c.loop-tree.invariant).1
+returns-clause-places c = (built_end (procedures_in c.args.table.now.items.now) c.args.asserts.now c.args.table.now.items.now
+    c.loop-tree.tree-index c.loop-tree.id (map procedure_of c.loop-tree.procedures.items) c.loop-tree.places.items (omega arith)
+    c.loop-tree.invariant).1

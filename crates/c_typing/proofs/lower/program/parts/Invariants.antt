@@ -5,4 +5,5 @@ use Rattle.c_typing.proofs.Programmed.{Built}
 use Rattle.c_typing.proofs.lower.program.parts.Given as goal
 
 abbrev pub invariant-loop-tree : goal.invariant-loop-tree
-invariant-loop-tree l = Built (procedures_in l.table.items.now) l.asserts (drop l.tree-index l.table.items.now) l.id (map procedure_of l.procedures.items) l.places.items
+invariant-loop-tree l = Built (procedures_in l.table.items.now) l.asserts (drop l.tree-index l.table.items.now) l.id
+    (map procedure_of l.procedures.items) l.places.items

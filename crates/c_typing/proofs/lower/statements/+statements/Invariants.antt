@@ -12,7 +12,8 @@ invariant-statements-loop-tree l =
     let ps = procedures_in l.table.items.now in
     let rest = drop l.tree-index l.trees in
     record {
-      made : lowered_left ps (scopes_of l.state.scopes) l.state.next l.state.id (statements_of l.made.items) rest ≡ lowered_statements ps (scopes_of l.fn.state.scopes) l.fn.state.next l.fn.state.id (statement_trees_of l.trees);
+      made : lowered_left ps (scopes_of l.state.scopes) l.state.next l.state.id (statements_of l.made.items) rest ≡ lowered_statements ps
+          (scopes_of l.fn.state.scopes) l.fn.state.next l.fn.state.id (statement_trees_of l.trees);
       next : l.state.next + declared_left ps rest ≡ l.fn.state.next + declared_left ps l.trees;
       id : l.state.id + asserts_left ps rest ≡ l.fn.state.id + asserts_left ps l.trees;
       quiet : AreQuiet (statement_trees_of rest);

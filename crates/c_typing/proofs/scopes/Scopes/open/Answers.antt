@@ -17,7 +17,8 @@ pub invariant_of-self-2 : goal.invariant_of-self-2
 invariant_of-self-2 c =
     let old = c.args.self.now.entries.items in
     record {
-      depth_is = ap (λ d. d + 1) c.args.self.now.depth_is ∙ sym (depth-append 0 old (Opens ∷ [])) ∙ ap (depth_onto 0) (sym c.in_ok-push.ensures.items);
+      depth_is = ap (λ d. d + 1) c.args.self.now.depth_is ∙ sym (depth-append 0 old (Opens ∷ [])) ∙ ap (depth_onto 0)
+          (sym c.in_ok-push.ensures.items);
       linked = opened_linked old c.push.new.self.items c.args.self.now.meanings c.in_ok-push.ensures.items c.args.self.now.linked;
     }
 

@@ -14,7 +14,8 @@ use Rattle.c_typing.proofs.table.Table.new.Goals as goal
 pub loop-item-init : goal.loop-item-init
 loop-item-init c = record {
   few = omega arith;
-  rest = λ x. ap (λ es. found_or (lookup (is_at (λ k. slice_cmp nat_cmp x k.now)) es) (defined_from 0 (procedures_in c.args.items.now) x)) c.new-definitions.ensures.empty;
+  rest = λ x. ap (λ es. found_or (lookup (is_at (λ k. slice_cmp nat_cmp x k.now)) es) (defined_from 0 (procedures_in c.args.items.now) x))
+      c.new-definitions.ensures.empty;
 }
 
 pub loop-item-preserved : goal.loop-item-preserved
@@ -23,12 +24,16 @@ loop-item-preserved c =
     elim c.match-item.branch [
       | in-Proc+in_ok-add w ↦ record {
         few = let few = old.invariant.few in let next = w.number-is in omega arith;
-        rest = λ x. proc_turn c.args.items.now old.item-index c.item-item.result w.in-Proc.procedure old.number c.match-item.number (found_in old.definitions x) (found_in c.match-item.definitions x) x _ c.loop-item-test.true c.item-item.is w.in-Proc.is w.number-is
+        rest = λ x. proc_turn c.args.items.now old.item-index c.item-item.result w.in-Proc.procedure old.number c.match-item.number
+            (found_in old.definitions x) (found_in c.match-item.definitions x) x _ c.loop-item-test.true c.item-item.is w.in-Proc.is
+            w.number-is
             (ap (λ m. found_in m x) w.definitions-is ∙ w.in_ok-add.ensures x) (old.invariant.rest x);
       }
       | in_default w ↦ record {
         few = let few = old.invariant.few in let next = w.number-is in omega arith;
-        rest = λ x. plain_turn c.args.items.now old.item-index c.item-item.result old.number c.match-item.number (found_in old.definitions x) (found_in c.match-item.definitions x) x _ c.loop-item-test.true c.item-item.is w.in_default.not-Proc w.number-is
+        rest = λ x. plain_turn c.args.items.now old.item-index c.item-item.result old.number c.match-item.number
+            (found_in old.definitions x)
+            (found_in c.match-item.definitions x) x _ c.loop-item-test.true c.item-item.is w.in_default.not-Proc w.number-is
             (ap (λ m. found_in m x) w.definitions-is) (old.invariant.rest x);
       }
     ]
@@ -38,5 +43,6 @@ overflow_add-number c = let few = c.loop-item.invariant.few in search (rules, fe
 
 pub invariant_of-result : goal.invariant_of-result
 invariant_of-result c = record {
-  linked = λ x. found_end (found_in c.loop-item.definitions x) x c.loop-item.number c.args.items.now c.loop-item.item-index _ (drop_of_length-le c.args.items.now (omega arith)) (c.loop-item.invariant.rest x);
+  linked = λ x. found_end (found_in c.loop-item.definitions x) x c.loop-item.number c.args.items.now c.loop-item.item-index _
+      (drop_of_length-le c.args.items.now (omega arith)) (c.loop-item.invariant.rest x);
 }

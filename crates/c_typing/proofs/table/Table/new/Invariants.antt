@@ -8,5 +8,6 @@ use Rattle.c_typing.proofs.table.Table.new.Given as goal
 abbrev pub invariant-loop-item : goal.invariant-loop-item
 invariant-loop-item l = record {
   few : l.number ≤ l.item-index;
-  rest : (x : List ℕ) → found_or (found_in l.definitions x) (defined_from l.number (procedures_in (drop l.item-index l.items)) x) ≡ defined_from 0 (procedures_in l.items) x;
+  rest : (x : List ℕ) → found_or (found_in l.definitions x) (defined_from l.number (procedures_in (drop l.item-index l.items)) x)
+      ≡ defined_from 0 (procedures_in l.items) x;
 }
