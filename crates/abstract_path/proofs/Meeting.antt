@@ -42,7 +42,9 @@ module _ (far : List ℕ) (s depth : ℕ) (inside : s < length far) (is_new : sl
 pub extends_met : (far : List ℕ) (s depth : ℕ) → s < length far → slice_index far s ≡ 0 → Extends far (set far s (depth + 1))
 extends_met far s depth h z r e = old far s depth h z r e
 
-pub layered_met : (edges : List (ℕ × ℕ)) (shut : List Bool) (regions target depth : ℕ) (current far way met : List ℕ) (s number x : ℕ) → IsLayered edges shut regions target depth current far way met → s < regions → slice_index far s ≡ 0 → IsOpen edges shut number s x → Contains current x → IsLayered edges shut regions target depth current (set far s (depth + 1)) (set way s number) (met ++ s ∷ [])
+pub layered_met : (edges : List (ℕ × ℕ)) (shut : List Bool) (regions target depth : ℕ) (current far way met : List ℕ) (s number x : ℕ) →
+    IsLayered edges shut regions target depth current far way met → s < regions → slice_index far s ≡ 0 → IsOpen edges shut number s x →
+    Contains current x → IsLayered edges shut regions target depth current (set far s (depth + 1)) (set way s number) (met ++ s ∷ [])
 layered_met edges shut regions target depth current far way met s number x l h z o c = record {
   positive = l.positive;
   fars = length-set far s (depth + 1) ∙ l.fars;
@@ -52,12 +54,14 @@ layered_met edges shut regions target depth current far way met s number x l h z
   within = λ r. which far s depth in_far z (λ n. n ≤ suc depth) r (λ _. omega arith) (λ _. l.within r);
   low = λ r. which far s depth in_far z (λ n. n ≤ regions) r (λ _. room) (λ _. l.low r);
   current_far = λ r k. old far s depth in_far z r (λ e. zero_depth (sym (l.current_far r k) ∙ e)) ∙ l.current_far r k;
-  current_all = λ r. which far s depth in_far z (λ n. n ≡ depth → Contains current r) r (λ _ e. absurd (omega (arith, e))) (λ _. l.current_all r);
+  current_all = λ r. which far s depth in_far z (λ n. n ≡ depth → Contains current r) r (λ _ e. absurd (omega (arith, e)))
+      (λ _. l.current_all r);
   met_far = λ r k. elim (Contains-push_cases met s r k) [
     | inl b ↦ old far s depth in_far z r (λ e. suc_zero (sym (l.met_far r b) ∙ e)) ∙ l.met_far r b
     | inr e ↦ ap (slice_index (set far s (depth + 1))) (sym e) ∙ at_new far s depth in_far z
   ];
-  met_all = λ r. which far s depth in_far z (λ n. n ≡ suc depth → Contains (met ++ s ∷ []) r) r (λ e _. subst (Contains (met ++ s ∷ [])) (sym e) (Contains-push met s)) (λ _ e. Contains-append_left met (s ∷ []) r (l.met_all r e));
+  met_all = λ r. which far s depth in_far z (λ n. n ≡ suc depth → Contains (met ++ s ∷ []) r) r
+      (λ e _. subst (Contains (met ++ s ∷ [])) (sym e) (Contains-push met s)) (λ _ e. Contains-append_left met (s ∷ []) r (l.met_all r e));
   before = before;
   few = few;
 } where
@@ -91,14 +95,34 @@ layered_met edges shut regions target depth current far way met s number x l h z
   few : depth + (unmet (set far s (depth + 1)) + (length (met ++ s ∷ []) + length current)) ≤ suc regions
   few = let plus : depth + 1 ≡ suc depth = omega arith in rw plus (omega (arith, fewer, l.few, length-append met (s ∷ [])))
 
-  before : (r : ℕ) → slice_index (set far s (depth + 1)) r ≢ 0 → slice_index (set far s (depth + 1)) r < depth → IsSettled edges shut (set far s (depth + 1)) r
-  before r = which far s depth in_far z (λ n. n ≢ 0 → n < depth → (e a : ℕ) → IsOpen edges shut e a r → (slice_index (set far s (depth + 1)) a ≢ 0) × (slice_index (set far s (depth + 1)) a ≤ suc n)) r (λ _ _ k. absurd (omega (arith, k))) (λ _ k b e a p.
-      let f = l.before r k b e a p in (seen far s depth in_far z a f.0, subst (λ n. n ≤ suc (slice_index far r)) (sym (old far s depth in_far z a f.0)) f.1))
+  before : (r : ℕ) → slice_index (set far s (depth + 1)) r ≢ 0 → slice_index (set far s (depth + 1)) r < depth →
+      IsSettled edges shut (set far s (depth + 1)) r
+  before r = which far s depth in_far z (λ n. n ≢ 0 → n < depth → (e a : ℕ) → IsOpen edges shut e a r →
+      (slice_index (set far s (depth + 1)) a ≢ 0) × (slice_index (set far s (depth + 1)) a ≤ suc n)) r (λ _ _ k. absurd (omega (arith, k)))
+      (λ _ k b e a p.
+      let f = l.before r k b e a p in (
+        seen far s depth in_far z a f.0,
+        subst (λ n. n ≤ suc (slice_index far r))
+            (sym (old far s depth in_far z a f.0)) f.1,
+      ))
 
   leads : (r : ℕ) → slice_index (set far s (depth + 1)) r ≢ 0 → LeadsOn edges shut target (set far s (depth + 1)) (set way s number) r
-  leads r = which far s depth in_far z (λ n. n ≢ 0 → (r ≡ target) ⊎ ((next : ℕ) × IsOpen edges shut (slice_index (set way s number) r) r next × (slice_index (set far s (depth + 1)) next ≢ 0) × (n ≡ suc (slice_index (set far s (depth + 1)) next)))) r
-      (λ e _. inr (x, subst (λ k. IsOpen edges shut k r x) (sym (ap (slice_index (set way s number)) e ∙ get_or-set_same way s number 0 in_way)) (subst (λ k. IsOpen edges shut number k x) (sym e) o), seen far s depth in_far z x x_seen, ap suc (sym (old far s depth in_far z x x_seen ∙ l.current_far x c))))
+  leads r = which far s depth in_far z (λ n. n ≢ 0 → (r ≡ target) ⊎ ((next : ℕ) × IsOpen edges shut (slice_index (set way s number) r) r
+      next
+      × (slice_index (set far s (depth + 1)) next ≢ 0) × (n ≡ suc (slice_index (set far s (depth + 1)) next)))) r
+      (λ e _. inr (
+        x,
+        subst (λ k. IsOpen edges shut k r x) (sym (ap (slice_index (set way s number)) e ∙ get_or-set_same way s number 0 in_way))
+            (subst (λ k. IsOpen edges shut number k x) (sym e) o),
+        seen far s depth in_far z x x_seen,
+        ap suc (sym (old far s depth in_far z x x_seen ∙ l.current_far x c)),
+      ))
       (λ ne k. elim (l.leads r k) [
         | inl e ↦ inl e
-        | inr w ↦ inr (w.0, subst (λ j. IsOpen edges shut j r w.0) (sym (get_or-set_other way s r number 0 ne)) w.1, seen far s depth in_far z w.0 w.2, w.3 ∙ ap suc (sym (old far s depth in_far z w.0 w.2)))
+        | inr w ↦ inr (
+          w.0,
+          subst (λ j. IsOpen edges shut j r w.0) (sym (get_or-set_other way s r number 0 ne)) w.1,
+          seen far s depth in_far z w.0 w.2,
+          w.3 ∙ ap suc (sym (old far s depth in_far z w.0 w.2)),
+        )
       ])

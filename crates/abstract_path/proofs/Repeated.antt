@@ -4,7 +4,9 @@ use Rattle.std.proofs.lemmas.Bool.{cases_eq}
 use Rattle.abstract_path.specs.Routes.{is_at}
 use Rattle.abstract_path.specs.steps.Layers.{IsMeasured}
 
-pub measured_without : (edges : List (ℕ × ℕ)) (shut : List Bool) (regions target : ℕ) (far way : List ℕ) (n : ℕ) → n < length shut → IsMeasured edges shut regions target far way → ((r : ℕ) → slice_index far r ≢ 0 → slice_index way r ≢ n) → IsMeasured edges (set shut n true) regions target far way
+pub measured_without : (edges : List (ℕ × ℕ)) (shut : List Bool) (regions target : ℕ) (far way : List ℕ) (n : ℕ) → n < length shut →
+    IsMeasured edges shut regions target far way → ((r : ℕ) → slice_index far r ≢ 0 → slice_index way r ≢ n) →
+    IsMeasured edges (set shut n true) regions target far way
 measured_without edges shut regions target far way n h m other = record {
   fars = m.fars;
   ways = m.ways;

@@ -16,17 +16,25 @@ inside (x ∷ far) zero h = omega arith
 inside (x ∷ far) (suc r) h = omega (arith, inside far r h)
 
 -- the number of a region in the layer
-pub current_seen : (edges : List (ℕ × ℕ)) (shut : List Bool) (regions target depth : ℕ) (current far way met : List ℕ) (k : ℕ) → IsLayered edges shut regions target depth current far way met → k < length current → slice_index far (slice_index current k) ≡ depth
-current_seen edges shut regions target depth current far way met k l h = l.current_far (slice_index current k) (Contains-get_or current k 0 h)
+pub current_seen : (edges : List (ℕ × ℕ)) (shut : List Bool) (regions target depth : ℕ) (current far way met : List ℕ) (k : ℕ) →
+    IsLayered edges shut regions target depth current far way met → k < length current → slice_index far (slice_index current k) ≡ depth
+current_seen edges shut regions target depth current far way met k l h = l.current_far (slice_index current k)
+    (Contains-get_or current k 0 h)
 
-pub current_inside : (edges : List (ℕ × ℕ)) (shut : List Bool) (regions target depth : ℕ) (current far way met : List ℕ) (k : ℕ) → IsLayered edges shut regions target depth current far way met → k < length current → slice_index current k < regions
+pub current_inside : (edges : List (ℕ × ℕ)) (shut : List Bool) (regions target depth : ℕ) (current far way met : List ℕ) (k : ℕ) →
+    IsLayered edges shut regions target depth current far way met → k < length current → slice_index current k < regions
 current_inside edges shut regions target depth current far way met k l h =
-    subst (λ n. slice_index current k < n) l.fars (inside far (slice_index current k) (λ e. zero_depth (sym (current_seen edges shut regions target depth current far way met k l h) ∙ e))) where
+    subst (λ n. slice_index current k < n) l.fars
+    (inside far (slice_index current k) (λ e. zero_depth (sym (current_seen edges shut regions target depth current far way met k l h)
+    ∙ e))) where
       zero_depth : depth ≢ 0
       zero_depth e = omega (arith, e, l.positive)
 
 -- one edge further in a list
-pub one_further : (edges : List (ℕ × ℕ)) (shut : List Bool) (next old new : List ℕ) (x c : ℕ) → ((e a : ℕ) → IsOpen edges shut e a x → (slice_index old a ≢ 0) ⊎ Leads next e c) → 0 < c → Extends old new → ((a : ℕ) → IsOpen edges shut (c - 1) a x → slice_index new a ≢ 0) → (e a : ℕ) → IsOpen edges shut e a x → (slice_index new a ≢ 0) ⊎ Leads next e (slice_index next (c - 1))
+pub one_further : (edges : List (ℕ × ℕ)) (shut : List Bool) (next old new : List ℕ) (x c : ℕ) →
+    ((e a : ℕ) → IsOpen edges shut e a x → (slice_index old a ≢ 0) ⊎ Leads next e c) → 0 < c → Extends old new →
+    ((a : ℕ) → IsOpen edges shut (c - 1) a x → slice_index new a ≢ 0) → (e a : ℕ) → IsOpen edges shut e a x → (slice_index new a ≢ 0)
+    ⊎ Leads next e (slice_index next (c - 1))
 one_further edges shut next old new x c h p ex own e a o = elim (h e a o) [
   | inl s ↦ inl (λ z. s (sym (ex a s) ∙ z))
   | inr l ↦ elim (split_lead next e (c - 1) c (omega (arith, p)) l) [
@@ -43,7 +51,8 @@ pub end_is : (edges : List (ℕ × ℕ)) (e a b : ℕ) → slice_get edges e ≡
 end_is edges e a b h = ap (λ p. p.1) (get_or_from_slice_get edges e (a, b) (0, 0) h)
 
 -- a layer without regions is the last
-pub measured : (edges : List (ℕ × ℕ)) (shut : List Bool) (regions target depth : ℕ) (current far way met : List ℕ) → IsLayered edges shut regions target depth current far way met → current ≡ [] → met ≡ [] → IsMeasured edges shut regions target far way
+pub measured : (edges : List (ℕ × ℕ)) (shut : List Bool) (regions target depth : ℕ) (current far way met : List ℕ) →
+    IsLayered edges shut regions target depth current far way met → current ≡ [] → met ≡ [] → IsMeasured edges shut regions target far way
 measured edges shut regions target depth current far way met l c m = record {
   fars = l.fars;
   ways = l.ways;
@@ -65,7 +74,10 @@ measured edges shut regions target depth current far way met l c m = record {
   ]
 
 -- the next layer
-pub next_layer : (edges : List (ℕ × ℕ)) (shut : List Bool) (regions target depth : ℕ) (current far way met : List ℕ) → IsLayered edges shut regions target depth current far way met → ((k : ℕ) → k < length current → IsSettled edges shut far (slice_index current k)) → 0 < length current → IsLayered edges shut regions target (depth + 1) met far way []
+pub next_layer : (edges : List (ℕ × ℕ)) (shut : List Bool) (regions target depth : ℕ) (current far way met : List ℕ) →
+    IsLayered edges shut regions target depth current far way met →
+    ((k : ℕ) → k < length current → IsSettled edges shut far (slice_index current k)) → 0 < length current → IsLayered edges shut regions
+    target (depth + 1) met far way []
 next_layer edges shut regions target depth current far way met l settled some = record {
   positive = omega arith;
   fars = l.fars;
@@ -94,7 +106,8 @@ abbrev zeros_of : ℕ → List ℕ
 zeros_of n = replicate n 0
 
 -- the first layer
-pub first_layer : (edges : List (ℕ × ℕ)) (shut : List Bool) (regions target : ℕ) (way : List ℕ) → target < regions → length way ≡ regions → IsLayered edges shut regions target 1 (target ∷ []) (set (zeros_of regions) target 1) way []
+pub first_layer : (edges : List (ℕ × ℕ)) (shut : List Bool) (regions target : ℕ) (way : List ℕ) → target < regions → length way ≡ regions →
+    IsLayered edges shut regions target 1 (target ∷ []) (set (zeros_of regions) target 1) way []
 first_layer edges shut regions target way h w = record {
   positive = omega arith;
   fars = length-set (zeros_of regions) target 1 ∙ fars;
@@ -159,5 +172,6 @@ pub nonempty : (xs : List ℕ) → (length xs ≡ 0 → ⊥) → 0 < length xs
 nonempty [] h = absurd (h refl)
 nonempty (x ∷ xs) h = omega arith
 
-pub room_of : (edges : List (ℕ × ℕ)) (shut : List Bool) (regions target depth : ℕ) (current far way met : List ℕ) → IsLayered edges shut regions target depth current far way met → 0 < length current → depth < regions + 1
+pub room_of : (edges : List (ℕ × ℕ)) (shut : List Bool) (regions target depth : ℕ) (current far way met : List ℕ) →
+    IsLayered edges shut regions target depth current far way met → 0 < length current → depth < regions + 1
 room_of edges shut regions target depth current far way met l h = omega (arith, l.few, h)

@@ -1,6 +1,6 @@
 //! Shortest paths and their frontiers.
 
-ghost use Rattle.std.specs.Prelude.{ℕ, List, Bool, ◌≡◌, ◌<◌, ◌^◌, length, true, false, not, ◌&&◌, if◌then◌else◌, Some, IfOk, IsTrue, ◌↔◌, ◌≢◌, slice_index};
+ghost use Rattle.std.specs.Prelude.{ℕ, List, ◌≡◌, ◌<◌, ◌^◌, length, true, false, not, ◌&&◌, if◌then◌else◌, IfOk, IsTrue, ◌↔◌, ◌≢◌, slice_index};
 ghost use Rattle.abstract_path.specs.Routes.{AreEdgesOf, IsRoute, is_at, Answers};
 
 use crate::search::{Reach, reach_to};
@@ -27,7 +27,8 @@ fn later_place(is_here: bool, here: u32, before: u32) -> u32
     if is_here { here } else { before }
 }
 
-/// Looks for a shortest path without a shut edge, and its last edge from a marked to an unmarked region.
+/// Looks for a shortest path without a shut edge, and its last edge from a marked to an unmarked
+/// region.
 pub fn frontier(
     alloc: Global,
     regions: u32,
@@ -78,7 +79,8 @@ pub fn is_reached(
     requires shuts { length shut.now ≡ length edges.now }
     requires start { start < regions }
     requires target { target < regions }
-    ensures { IfOk result (λ b. IsTrue b ↔ ((path : List ℕ) × IsRoute edges.now shut.now start path target)) }
+    ensures { IfOk result
+        (λ b. IsTrue b ↔ ((path : List ℕ) × IsRoute edges.now shut.now start path target)) }
 {
     let Reach { far, .. } = reach_to(alloc, regions, edges, shut, target)?;
     Ok(is_met(&far, start))

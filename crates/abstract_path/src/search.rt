@@ -48,7 +48,8 @@ impl<'a> Search<'a> {
     /// Begins at the target.
     fn new(alloc: Global, network: Network<'a>, target: u32) -> Result<Search<'a>, AllocError>
         requires target { target < network.regions }
-        requires chained { AreChains network.edges.now network.chains.first.items network.chains.next.items }
+        requires chained { AreChains network.edges.now network.chains.first.items
+            network.chains.next.items }
         ensures layer { IfOk result (λ s. IsInLayer s) }
         ensures alone { IfOk result (λ s. s.met.items ≡ []) }
         ensures network { IfOk result (λ s. s.network ≡ network.entry) }
@@ -74,7 +75,8 @@ impl<'a> Search<'a> {
         requires layer { IsInLayer self.old }
         requires some { 0 < length self.old.current.items }
         requires settled { (k : ℕ) → k < length self.old.current.items →
-            IsSettled self.old.network.edges.now self.old.network.shut.now self.old.far.items (slice_index self.old.current.items k) }
+            IsSettled self.old.network.edges.now self.old.network.shut.now self.old.far.items
+            (slice_index self.old.current.items k) }
         ensures layer { IsInLayer self.new }
         ensures alone { self.new.met.items ≡ [] }
         ensures network { self.new.network ≡ self.old.network }
@@ -90,7 +92,8 @@ impl<'a> Search<'a> {
         requires place { place < length self.old.current.items }
         requires layer { IsInLayer self.old }
         requires source { source < self.old.network.regions }
-        requires is_open { IsOpen self.old.network.edges.now self.old.network.shut.now number source (slice_index self.old.current.items place) }
+        requires is_open { IsOpen self.old.network.edges.now self.old.network.shut.now number source
+            (slice_index self.old.current.items place) }
         ensures layer { OnOk result (IsInLayer self.new) }
         ensures keeps { OnOk result (KeepsLayer self.old self.new) }
         ensures same { OnOk result (Extends self.old.far.items self.new.far.items) }
@@ -111,7 +114,9 @@ impl<'a> Search<'a> {
         ensures layer { OnOk result (IsInLayer self.new) }
         ensures keeps { OnOk result (KeepsLayer self.old self.new) }
         ensures same { OnOk result (Extends self.old.far.items self.new.far.items) }
-        ensures settled { OnOk result (IsSettled self.new.network.edges.now self.new.network.shut.now self.new.far.items (slice_index self.new.current.items place)) }
+        ensures settled { OnOk result
+            (IsSettled self.new.network.edges.now self.new.network.shut.now
+            self.new.far.items (slice_index self.new.current.items place)) }
     {
         let region = self.current[place];
         let mut cursor = self.network.chains.first[region as usize];
@@ -132,7 +137,8 @@ impl<'a> Search<'a> {
         ensures layer { OnOk result (IsInLayer self.new) }
         ensures keeps { OnOk result (KeepsLayer self.old self.new) }
         ensures settled { OnOk result ((k : ℕ) → k < length self.new.current.items →
-            IsSettled self.new.network.edges.now self.new.network.shut.now self.new.far.items (slice_index self.new.current.items k)) }
+            IsSettled self.new.network.edges.now self.new.network.shut.now self.new.far.items
+            (slice_index self.new.current.items k)) }
     {
         for place in 0..self.current.len() {
             self.settle(place)?;
@@ -144,8 +150,10 @@ impl<'a> Search<'a> {
 /// Measures how far each region lies from the target.
 fn measure(alloc: Global, network: Network<'_>, target: u32) -> Result<Reach, AllocError>
     requires target { target < network.regions }
-    requires chained { AreChains network.edges.now network.chains.first.items network.chains.next.items }
-    ensures { IfOk result (λ r. IsMeasured network.entry.edges.now network.entry.shut.now network.entry.regions target r.far.items r.way.items) }
+    requires chained { AreChains network.edges.now network.chains.first.items
+        network.chains.next.items }
+    ensures { IfOk result (λ r. IsMeasured network.entry.edges.now network.entry.shut.now
+        network.entry.regions target r.far.items r.way.items) }
 {
     let mut search = Search::new(alloc, network, target)?;
     while !search.current.is_empty() {
@@ -168,7 +176,8 @@ pub fn reach_to(
     requires few { length edges.now < 2 ^ 32 }
     requires shuts { length shut.now ≡ length edges.now }
     requires target { target < regions }
-    ensures { IfOk result (λ r. IsMeasured edges.now shut.now regions target r.far.items r.way.items) }
+    ensures { IfOk result (λ r. IsMeasured edges.now shut.now regions target r.far.items
+        r.way.items) }
 {
     let network = Network::new(alloc, regions, edges, shut)?;
     measure(alloc, network, target)

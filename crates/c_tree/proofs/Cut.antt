@@ -28,7 +28,8 @@ IsFine (ends w e) = IsFineEnd e
 
 -- each fine result of the first is one of the second, without the inputs that it leaves
 abbrev CutAt : {A : Type 0} → Relation A → Relation A → Type 0
-CutAt {A} P Q = (rest j : List ℤ) (w : World) (r : Progress A) → IsFine r → (world_of r).inputs ≡ j ++ rest → P w r → (i : List ℤ) × (w.inputs ≡ i ++ rest) × Q (bare i) (moved r (bare j))
+CutAt {A} P Q = (rest j : List ℤ) (w : World) (r : Progress A) → IsFine r → (world_of r).inputs ≡ j ++ rest → P w r → (i : List ℤ)
+    × (w.inputs ≡ i ++ rest) × Q (bare i) (moved r (bare j))
 
 pub record Cuts {A : Type 0} (P Q : Relation A) : Type 0 where
   pub by : CutAt P Q
@@ -42,7 +43,8 @@ gives_cuts v = record { by = λ rest j w r fine e h. (j, subst (λ x. (world_of 
 ends_cuts : {A : Type 0} (d : Ending) → Cuts (Ends {A = A} d) (Ends d)
 ends_cuts d = record { by = λ rest j w r fine e h. (j, subst (λ x. (world_of x).inputs ≡ j ++ rest) h e, ap (λ x. moved x (bare j)) h) }
 
-then_at : {A B : Type 0} (P P' : Relation A) (Q Q' : A → Relation B) → Cuts P P' → ((v : A) → Cuts (Q v) (Q' v)) → CutAt (Then P Q) (Then P' Q')
+then_at : {A B : Type 0} (P P' : Relation A) (Q Q' : A → Relation B) → Cuts P P' → ((v : A) → Cuts (Q v) (Q' v)) →
+    CutAt (Then P Q) (Then P' Q')
 then_at {A} {B} P P' Q Q' p q rest j w r fine e h = on h.0 h.1 h.2
   where
     on : (r1 : Progress A) → P w r1 → Onward Q r1 r → (i : List ℤ) × (w.inputs ≡ i ++ rest) × Then P' Q' (bare i) (moved r (bare j))
@@ -55,7 +57,8 @@ then_at {A} {B} P P' Q Q' p q rest j w r fine e h = on h.0 h.1 h.2
         let b = p.by rest j w (ends w1 d) fine' (subst (λ x. (world_of x).inputs ≡ j ++ rest) k e) h1 in
         (b.0, b.1, (ends (bare j) d, b.2, ap (λ x. moved x (bare j)) k))
 
-then_cuts : {A B : Type 0} (P P' : Relation A) (Q Q' : A → Relation B) → Cuts P P' → ((v : A) → Cuts (Q v) (Q' v)) → Cuts (Then P Q) (Then P' Q')
+then_cuts : {A B : Type 0} (P P' : Relation A) (Q Q' : A → Relation B) → Cuts P P' → ((v : A) → Cuts (Q v) (Q' v)) →
+    Cuts (Then P Q) (Then P' Q')
 then_cuts P P' Q Q' p q = record { by = then_at P P' Q Q' p q }
 
 counted_at : {A : Type 0} (P P' : Relation A) → Cuts P P' → CutAt (Counted true P) P'
@@ -78,7 +81,8 @@ kept_cuts z = choice_cuts (is_value z) (Gives z) (Gives z) (Ends stopped) (Ends 
 takes_at : CutAt (λ w o. TakesInput w.inputs w o) (λ w o. TakesInput w.inputs w o)
 takes_at rest j w r fine e h = on w.inputs refl h
   where
-    on : (is : List ℤ) → w.inputs ≡ is → TakesInput is w r → (i : List ℤ) × (w.inputs ≡ i ++ rest) × TakesInput i (bare i) (moved r (bare j))
+    on : (is : List ℤ) → w.inputs ≡ is → TakesInput is w r → (i : List ℤ) × (w.inputs ≡ i ++ rest) × TakesInput i (bare i)
+        (moved r (bare j))
     on [] same k = absurd (subst IsFine k fine)
     on (v ∷ vs) same k =
         (v ∷ j, same ∙ ap (λ l. v ∷ l) (subst (λ x. (world_of x).inputs ≡ j ++ rest) k.1 e), (k.0, ap (λ x. moved x (bare j)) k.1))
@@ -99,7 +103,8 @@ applied_cuts Unequal x y = gives_cuts _
 applied_cuts And x y = gives_cuts _
 applied_cuts Or x y = gives_cuts _
 
-right_cuts : (d : Option ℤ) (F : ℤ → Relation ℤ) (Q Q' : Relation ℤ) → ((y : ℤ) → Cuts (F y) (F y)) → Cuts Q Q' → Cuts (RightSide d F Q) (RightSide d F Q')
+right_cuts : (d : Option ℤ) (F : ℤ → Relation ℤ) (Q Q' : Relation ℤ) → ((y : ℤ) → Cuts (F y) (F y)) → Cuts Q Q' →
+    Cuts (RightSide d F Q) (RightSide d F Q')
 right_cuts (Some v) F Q Q' f q = gives_cuts v
 right_cuts None F Q Q' f q = then_cuts Q Q' F F q f
 
@@ -125,27 +130,37 @@ module _ (C C' : Callee) (call_cuts : (p : ℕ) (args : List ℤ) → Cuts (C p 
     eval_cuts (read x) s = counted_cuts _ _ (gives_cuts (s x))
     eval_cuts input s = counted_cuts _ _ takes_cuts
     eval_cuts (call p es) s = counted_cuts _ _ (then_cuts (Evals true C es s) (Evals false C' es s) _ _ (evals_cuts es s) (call_cuts p))
-    eval_cuts (negate e) s = counted_cuts _ _ (then_cuts (Eval true C e s) (Eval false C' e s) _ _ (eval_cuts e s) (λ v. kept_cuts (neg_ℤ v)))
+    eval_cuts (negate e) s = counted_cuts _ _ (then_cuts (Eval true C e s) (Eval false C' e s) _ _ (eval_cuts e s)
+        (λ v. kept_cuts (neg_ℤ v)))
     eval_cuts (not_of e) s = counted_cuts _ _ (then_cuts (Eval true C e s) (Eval false C' e s) _ _ (eval_cuts e s) (λ v. gives_cuts _))
-    eval_cuts (binary op a b) s = counted_cuts _ _ (then_cuts (Eval true C a s) (Eval false C' a s) _ _ (eval_cuts a s) (λ x. right_cuts (decided op (is_zero x)) (Applied op x) _ _ (applied_cuts op x) (eval_cuts b s)))
+    eval_cuts (binary op a b) s = counted_cuts _ _ (then_cuts (Eval true C a s) (Eval false C' a s) _ _ (eval_cuts a s)
+        (λ x. right_cuts (decided op (is_zero x)) (Applied op x) _ _ (applied_cuts op x) (eval_cuts b s)))
 
     pub evals_cuts : (es : Expressions) → CutsFrom (Evals true C es) (Evals false C' es)
     evals_cuts no_expressions s = gives_cuts []
-    evals_cuts (expression e es) s = then_cuts (Eval true C e s) (Eval false C' e s) _ _ (eval_cuts e s) (λ v. then_cuts (Evals true C es s) (Evals false C' es s) _ _ (evals_cuts es s) (λ vs. gives_cuts _))
+    evals_cuts (expression e es) s = then_cuts (Eval true C e s) (Eval false C' e s) _ _ (eval_cuts e s)
+        (λ v. then_cuts (Evals true C es s) (Evals false C' es s) _ _ (evals_cuts es s) (λ vs. gives_cuts _))
 
   returns_cuts : (o : Option Expression) → CutsFrom (Returns true C o) (Returns false C' o)
   returns_cuts None s = gives_cuts _
   returns_cuts (Some e) s = then_cuts (Eval true C e s) (Eval false C' e s) _ _ (eval_cuts e s) (λ v. gives_cuts _)
 
-  turns_cuts : (n : ℕ) (T T' : State → Relation ℤ) (S S' B B' : State → Relation Flow) → CutsFrom T T' → CutsFrom S S' → CutsFrom B B' → CutsFrom (Turns true C n T S B) (Turns false C' n T' S' B')
+  turns_cuts : (n : ℕ) (T T' : State → Relation ℤ) (S S' B B' : State → Relation Flow) → CutsFrom T T' → CutsFrom S S' → CutsFrom B B' →
+      CutsFrom (Turns true C n T S B) (Turns false C' n T' S' B')
   turns_cuts zero T T' S S' B B' t p b s = record { by = λ rest j w r fine e h. absurd h }
   turns_cuts (suc n) T T' S S' B B' t p b s =
-      counted_cuts _ _ (then_cuts (T s) (T' s) _ _ (t s) (λ v. choice_cuts (is_zero v) _ _ _ _ (gives_cuts (normal s)) (then_cuts (B s) (B' s) _ _ (b s) (λ f. turned_cuts f _ _ (λ s1. then_cuts (S s1) (S' s1) _ _ (p s1) (λ g. turned_cuts g _ _ (turns_cuts n T T' S S' B B' t p b)))))))
+      counted_cuts _ _ (then_cuts (T s) (T' s) _ _ (t s) (λ v. choice_cuts (is_zero v) _ _ _ _ (gives_cuts (normal s))
+      (then_cuts (B s) (B' s) _ _ (b s)
+      (λ f. turned_cuts f _ _ (λ s1. then_cuts (S s1) (S' s1) _ _ (p s1) (λ g. turned_cuts g _ _ (turns_cuts n T T' S S' B B' t p b)))))))
 
-  does_cuts : (n : ℕ) (B B' : State → Relation Flow) (T T' : State → Relation ℤ) → CutsFrom B B' → CutsFrom T T' → CutsFrom (DoTurns true C n B T) (DoTurns false C' n B' T')
+  does_cuts : (n : ℕ) (B B' : State → Relation Flow) (T T' : State → Relation ℤ) → CutsFrom B B' → CutsFrom T T' →
+      CutsFrom (DoTurns true C n B T) (DoTurns false C' n B' T')
   does_cuts zero B B' T T' b t s = record { by = λ rest j w r fine e h. absurd h }
   does_cuts (suc n) B B' T T' b t s =
-      then_cuts (B s) (B' s) _ _ (b s) (λ f. turned_cuts f _ _ (λ s1. counted_cuts _ _ (then_cuts (T s1) (T' s1) _ _ (t s1) (λ v. choice_cuts (is_zero v) _ _ _ _ (gives_cuts (normal s1)) (does_cuts n B B' T T' b t s1)))))
+      then_cuts (B s) (B' s) _ _ (b s)
+      (λ f. turned_cuts f _ _
+      (λ s1. counted_cuts _ _ (then_cuts (T s1) (T' s1) _ _ (t s1) (λ v. choice_cuts (is_zero v) _ _ _ _ (gives_cuts (normal s1))
+      (does_cuts n B B' T T' b t s1)))))
 
   many_cuts : (P P' : ℕ → Relation Flow) → ((n : ℕ) → Cuts (P n) (P' n)) → Cuts (λ w o. (n : ℕ) × P n w o) (λ w o. (n : ℕ) × P' n w o)
   many_cuts P P' p = record { by = λ rest j w r fine e h. let b = (p h.0).by rest j w r fine e h.1 in (b.0, b.1, (h.0, b.2)) }
@@ -156,9 +171,12 @@ module _ (C C' : Callee) (call_cuts : (p : ℕ) (args : List ℤ) → Cuts (C p 
     exec_cuts (set x e) s = counted_cuts _ _ (then_cuts (Eval true C e s) (Eval false C' e s) _ _ (eval_cuts e s) (λ v. gives_cuts _))
     exec_cuts (ignore e) s = counted_cuts _ _ (then_cuts (Eval true C e s) (Eval false C' e s) _ _ (eval_cuts e s) (λ v. gives_cuts _))
     exec_cuts (assume e) s = counted_cuts _ _ (then_cuts (Eval true C e s) (Eval false C' e s) _ _ (eval_cuts e s) (unless_cuts stopped s))
-    exec_cuts (assert id e) s = counted_cuts _ _ (then_cuts (Eval true C e s) (Eval false C' e s) _ _ (eval_cuts e s) (unless_cuts (failed id) s))
-    exec_cuts (if_else e a b) s = counted_cuts _ _ (then_cuts (Eval true C e s) (Eval false C' e s) _ _ (eval_cuts e s) (λ v. choice_cuts (is_zero v) _ _ _ _ (exec_cuts b s) (exec_cuts a s)))
-    exec_cuts (loop test step body) s = counted_cuts _ _ (many_cuts _ _ (λ n. turns_cuts n _ _ _ _ _ _ (eval_cuts test) (exec_cuts step) (exec_cuts body) s))
+    exec_cuts (assert id e) s = counted_cuts _ _ (then_cuts (Eval true C e s) (Eval false C' e s) _ _ (eval_cuts e s)
+        (unless_cuts (failed id) s))
+    exec_cuts (if_else e a b) s = counted_cuts _ _ (then_cuts (Eval true C e s) (Eval false C' e s) _ _ (eval_cuts e s)
+        (λ v. choice_cuts (is_zero v) _ _ _ _ (exec_cuts b s) (exec_cuts a s)))
+    exec_cuts (loop test step body) s = counted_cuts _ _
+        (many_cuts _ _ (λ n. turns_cuts n _ _ _ _ _ _ (eval_cuts test) (exec_cuts step) (exec_cuts body) s))
     exec_cuts (do_while body test) s = counted_cuts _ _ (many_cuts _ _ (λ n. does_cuts n _ _ _ _ (exec_cuts body) (eval_cuts test) s))
     exec_cuts break s = counted_cuts _ _ (gives_cuts _)
     exec_cuts continue s = counted_cuts _ _ (gives_cuts _)
@@ -166,11 +184,13 @@ module _ (C C' : Callee) (call_cuts : (p : ℕ) (args : List ℤ) → Cuts (C p 
 
     pub execs_cuts : (ss : Statements) → CutsFrom (Execs true C ss) (Execs false C' ss)
     execs_cuts no_statements s = gives_cuts _
-    execs_cuts (statement a ss) s = then_cuts (Exec true C a s) (Exec false C' a s) _ _ (exec_cuts a s) (λ f. next_cuts f _ _ (execs_cuts ss))
+    execs_cuts (statement a ss) s = then_cuts (Exec true C a s) (Exec false C' a s) _ _ (exec_cuts a s)
+        (λ f. next_cuts f _ _ (execs_cuts ss))
 
   pub enters_cuts : (p : Option PureProcedure) (args : List ℤ) → Cuts (Enters true C p args) (Enters false C' p args)
   enters_cuts None args = record { by = λ rest j w r fine e h. absurd h }
-  enters_cuts (Some p) args = then_cuts (Execs true C p.body (entered args)) (Execs false C' p.body (entered args)) _ _ (execs_cuts p.body (entered args)) (λ f. gives_cuts _)
+  enters_cuts (Some p) args = then_cuts (Execs true C p.body (entered args)) (Execs false C' p.body (entered args)) _ _
+      (execs_cuts p.body (entered args)) (λ f. gives_cuts _)
 
 pub run_cuts : (P : PureProgram) (d p : ℕ) (args : List ℤ) → Cuts (Run true P d p args) (Run false P d p args)
 run_cuts P zero p args = record { by = λ rest j w r fine e h. absurd h }
@@ -184,7 +204,8 @@ outs_of out (ends w starved) e = absurd cc
 outs_of out (ends w spent) e = absurd cc
 
 -- an outcome of a counted run is one on the inputs that it used
-pub comes_on_used : (P : PureProgram) (ins : List ℤ) (fuel : ℕ) (out : Outcome) (used : ℕ) → Replays P ins fuel (Comes out) used → (d : ℕ) × Runs P d P.main [] (take used ins) out
+pub comes_on_used : (P : PureProgram) (ins : List ℤ) (fuel : ℕ) (out : Outcome) (used : ℕ) → Replays P ins fuel (Comes out) used →
+    (d : ℕ) × Runs P d P.main [] (take used ins) out
 comes_on_used P ins fuel out used h =
     let o = outs_of out h.1 h.3 in
     let c = (run_cuts P h.0 P.main []).by (world_of h.1).inputs [] (record { inputs = ins; steps_left = fuel }) h.1 o.0 refl h.2 in

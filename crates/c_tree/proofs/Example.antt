@@ -7,7 +7,18 @@ use Rattle.c_tree.specs.Meaning.{with_slot, entered, goes, ends, failed, stopped
 
 -- int main() { int x = input(); assert(0 < x); return x; }
 abbrev asks : PureProgram
-asks = record { procedures = record { name = codes "main"; params = 0; slots = 1; gives = true; body = statement (set 0 input) (statement (assert 0 (binary Less (literal (pos 0)) (read 0))) (statement (return (Some (read 0))) no_statements)) } ∷ []; main = 0; asserts = [] }
+asks = record {
+  procedures = record {
+    name = codes "main";
+    params = 0;
+    slots = 1;
+    gives = true;
+    body = statement (set 0 input)
+        (statement (assert 0 (binary Less (literal (pos 0)) (read 0))) (statement (return (Some (read 0))) no_statements));
+  } ∷ [];
+  main = 0;
+  asserts = [];
+}
 
 returns_five : Runs asks 1 0 [] (pos 5 ∷ []) (Returned (pos 5))
 returns_five =
@@ -49,7 +60,18 @@ fails_at_zero =
 
 -- int main() { int x = 0; while (x < 1) x = x + 1; return x; }
 abbrev counts : PureProgram
-counts = record { procedures = record { name = codes "main"; params = 0; slots = 1; gives = true; body = statement (loop (binary Less (read 0) (literal (pos 1))) (block no_statements) (set 0 (binary Add (read 0) (literal (pos 1))))) (statement (return (Some (read 0))) no_statements) } ∷ []; main = 0; asserts = [] }
+counts = record {
+  procedures = record {
+    name = codes "main";
+    params = 0;
+    slots = 1;
+    gives = true;
+    body = statement (loop (binary Less (read 0) (literal (pos 1))) (block no_statements) (set 0 (binary Add (read 0) (literal (pos 1)))))
+        (statement (return (Some (read 0))) no_statements);
+  } ∷ [];
+  main = 0;
+  asserts = [];
+}
 
 returns_one : Runs counts 1 0 [] [] (Returned (pos 1))
 returns_one =
@@ -86,7 +108,18 @@ returns_one =
 -- int main() { int x = 9223372036854775807; x = x + 1; assert(0 == 1); }
 abbrev overflows : PureProgram
 overflows =
-    record { procedures = record { name = codes "main"; params = 0; slots = 1; gives = true; body = statement (set 0 (literal (pos 9223372036854775807))) (statement (set 0 (binary Add (read 0) (literal (pos 1)))) (statement (assert 0 (binary Equal (literal (pos 0)) (literal (pos 1)))) no_statements)) } ∷ []; main = 0; asserts = [] }
+    record {
+      procedures = record {
+        name = codes "main";
+        params = 0;
+        slots = 1;
+        gives = true;
+        body = statement (set 0 (literal (pos 9223372036854775807))) (statement (set 0 (binary Add (read 0) (literal (pos 1))))
+            (statement (assert 0 (binary Equal (literal (pos 0)) (literal (pos 1)))) no_statements));
+      } ∷ [];
+      main = 0;
+      asserts = [];
+    }
 
 stops_at_the_sum : Runs overflows 1 0 [] [] Stopped
 stops_at_the_sum =
@@ -109,7 +142,18 @@ stops_at_the_sum =
 -- int main() { assert(1 == 2); assert(1 == 2); }
 abbrev fails_twice : PureProgram
 fails_twice =
-    record { procedures = record { name = codes "main"; params = 0; slots = 0; gives = true; body = statement (assert 0 (binary Equal (literal (pos 1)) (literal (pos 2)))) (statement (assert 1 (binary Equal (literal (pos 1)) (literal (pos 2)))) no_statements) } ∷ []; main = 0; asserts = [] }
+    record {
+      procedures = record {
+        name = codes "main";
+        params = 0;
+        slots = 0;
+        gives = true;
+        body = statement (assert 0 (binary Equal (literal (pos 1)) (literal (pos 2))))
+            (statement (assert 1 (binary Equal (literal (pos 1)) (literal (pos 2)))) no_statements);
+      } ∷ [];
+      main = 0;
+      asserts = [];
+    }
 
 reaches_the_first : Reaches fails_twice 0 []
 reaches_the_first =

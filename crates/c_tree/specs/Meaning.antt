@@ -11,7 +11,8 @@ State = ℕ → ℤ
 abbrev pub with_slot : State → ℕ → ℤ → State
 with_slot s x v y = cond (y == x) v (s y)
 
--- What all procedures share: the inputs that are left, and, where steps are counted, how many are left.
+-- What all procedures share: the inputs that are left, and, where steps are counted, how many are
+-- left.
 pub record World : Type 0 where
   pub inputs : List ℤ
   pub steps_left : ℕ
@@ -148,7 +149,8 @@ module _ (counted : Bool) (C : Callee) where
     Eval (call p es) s = Counted counted (Then (Evals es s) (C p))
     Eval (negate e) s = Counted counted (Then (Eval e s) (λ v. ExactOrStopped (neg_ℤ v)))
     Eval (not_of e) s = Counted counted (Then (Eval e s) (λ v. Gives (bit (is_zero v))))
-    Eval (binary op a b) s = Counted counted (Then (Eval a s) (λ x. RightSide (decided op (is_zero x)) (Applied op x) (Eval b s)))
+    Eval (binary op a b) s = Counted counted
+        (Then (Eval a s) (λ x. RightSide (decided op (is_zero x)) (Applied op x) (Eval b s)))
 
     -- from left to right
     pub Evals : Expressions → State → Relation (List ℤ)
@@ -160,16 +162,21 @@ module _ (counted : Bool) (C : Callee) where
   Returns (Some e) s = Then (Eval e s) (λ v. Gives (returned v))
 
   -- n tests of a loop
-  abbrev pub Turns : ℕ → (State → Relation ℤ) → (State → Relation Flow) → (State → Relation Flow) → State → Relation Flow
+  abbrev pub Turns : ℕ → (State → Relation ℤ) → (State → Relation Flow) → (State → Relation Flow) →
+      State → Relation Flow
   Turns zero T S B s = λ w o. ⊥
   Turns (suc n) T S B s =
-      Counted counted (Then (T s) (λ v. Choice (is_zero v) (Gives (normal s)) (Then (B s) (λ f. AfterBody f (λ s1. Then (S s1) (λ g. AfterBody g (Turns n T S B)))))))
+      Counted counted (Then (T s)
+      (λ v. Choice (is_zero v) (Gives (normal s))
+      (Then (B s) (λ f. AfterBody f (λ s1. Then (S s1) (λ g. AfterBody g (Turns n T S B)))))))
 
   -- n turns of a loop that tests behind its body
   abbrev pub DoTurns : ℕ → (State → Relation Flow) → (State → Relation ℤ) → State → Relation Flow
   DoTurns zero B T s = λ w o. ⊥
   DoTurns (suc n) B T s =
-      Then (B s) (λ f. AfterBody f (λ s1. Counted counted (Then (T s1) (λ v. Choice (is_zero v) (Gives (normal s1)) (DoTurns n B T s1)))))
+      Then (B s) (λ f. AfterBody f
+      (λ s1. Counted counted
+      (Then (T s1) (λ v. Choice (is_zero v) (Gives (normal s1)) (DoTurns n B T s1)))))
 
   -- the results of a statement in a state
   abbrev mutual
@@ -179,9 +186,12 @@ module _ (counted : Bool) (C : Callee) where
     Exec (ignore e) s = Counted counted (Then (Eval e s) (λ v. Gives (normal s)))
     Exec (assume e) s = Counted counted (Then (Eval e s) (UnlessZero stopped s))
     Exec (assert id e) s = Counted counted (Then (Eval e s) (UnlessZero (failed id) s))
-    Exec (if_else e a b) s = Counted counted (Then (Eval e s) (λ v. Choice (is_zero v) (Exec b s) (Exec a s)))
-    Exec (loop test step body) s = Counted counted (λ w o. (n : ℕ) × Turns n (Eval test) (Exec step) (Exec body) s w o)
-    Exec (do_while body test) s = Counted counted (λ w o. (n : ℕ) × DoTurns n (Exec body) (Eval test) s w o)
+    Exec (if_else e a b) s = Counted counted
+        (Then (Eval e s) (λ v. Choice (is_zero v) (Exec b s) (Exec a s)))
+    Exec (loop test step body) s = Counted counted (λ w o. (n : ℕ) × Turns n (Eval test) (Exec step)
+        (Exec body) s w o)
+    Exec (do_while body test) s = Counted counted
+        (λ w o. (n : ℕ) × DoTurns n (Exec body) (Eval test) s w o)
     Exec break s = Counted counted (Gives (broken s))
     Exec continue s = Counted counted (Gives (continued s))
     Exec (return o) s = Counted counted (Returns o s)
@@ -194,7 +204,8 @@ module _ (counted : Bool) (C : Callee) where
 abbrev pub entered : List ℤ → State
 entered args i = get_or args i (pos 0)
 
--- what a call comes to, where its body goes on so. (No Break and no Continue stands outside a loop.)
+-- what a call comes to, where its body goes on so. (No Break and no Continue stands outside a
+-- loop.)
 abbrev pub returned_value : Bool → Flow → ℤ
 returned_value gives (normal s) = pos 0
 returned_value gives (broken s) = pos 0
@@ -203,12 +214,14 @@ returned_value gives (returned v) = cond gives v (pos 0)
 
 abbrev pub Enters : Bool → Callee → Option PureProcedure → List ℤ → Relation ℤ
 Enters counted C None args w o = ⊥
-Enters counted C (Some p) args w o = Then (Execs counted C p.body (entered args)) (λ f. Gives (returned_value p.gives f)) w o
+Enters counted C (Some p) args w o = Then (Execs counted C p.body (entered args))
+    (λ f. Gives (returned_value p.gives f)) w o
 
 -- the results of a call of depth at most d
 abbrev pub Run : Bool → PureProgram → ℕ → Callee
 Run counted P zero p args w o = ⊥
-Run counted P (suc d) p args w o = Enters counted (Run counted P d) (slice_get P.procedures p) args w o
+Run counted P (suc d) p args w o = Enters counted (Run counted P d) (slice_get P.procedures p) args
+    w o
 
 -- how a run comes out
 pub data Outcome : Type 0 where
@@ -227,7 +240,8 @@ ComesOut out (ends w spent) = ⊥
 abbrev pub uncounted : List ℤ → World
 uncounted ins = record { inputs = ins; steps_left = 0 }
 
--- A call of this procedure with these arguments, of depth at most d, consumes exactly these inputs and comes out so.
+-- A call of this procedure with these arguments, of depth at most d, consumes exactly these inputs
+-- and comes out so.
 abbrev pub Runs : PureProgram → ℕ → ℕ → List ℤ → List ℤ → Outcome → Type 0
 Runs P d p args ins out = (r : Progress ℤ) × Run false P d p args (uncounted ins) r × ComesOut out r
 
@@ -255,5 +269,6 @@ world_of (ends w e) = w
 -- With these inputs and this fuel a run of `main` comes out so, and uses so many inputs.
 abbrev pub Replays : PureProgram → List ℤ → ℕ → ReplayOutcome → ℕ → Type 0
 Replays P ins fuel out used =
-    (d : ℕ) × (r : Progress ℤ) × Run true P d P.main [] (record { inputs = ins; steps_left = fuel }) r
+    (d : ℕ) × (r : Progress ℤ) × Run true P d P.main [] (record { inputs = ins; steps_left = fuel })
+    r
     × (out ≡ replay_of r) × (used + length (world_of r).inputs ≡ length ins)

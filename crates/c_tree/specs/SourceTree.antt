@@ -49,7 +49,8 @@ mutual
     if_else : ExpressionTree → StatementTree → StatementTree → StatementTree
     while_loop : ExpressionTree → StatementTree → StatementTree
     do_while : StatementTree → ExpressionTree → StatementTree
-    for_loop : ForInit → Option ExpressionTree → Option SimpleStatement → StatementTree → StatementTree
+    for_loop : ForInit → Option ExpressionTree → Option SimpleStatement → StatementTree →
+        StatementTree
     break : Pos → StatementTree
     continue : Pos → StatementTree
     return : Pos → Option ExpressionTree → StatementTree

@@ -35,7 +35,8 @@ mutual
     no_statements : Statements
     statement : Statement → Statements → Statements
 
--- A procedure. Its parameters are the slots from 0; `gives` says that it gives a value (it is no `void` procedure).
+-- A procedure. Its parameters are the slots from 0; `gives` says that it gives a value (it is no
+-- `void` procedure).
 pub record PureProcedure : Type 0 where
   pub name : List ℕ
   pub params : ℕ

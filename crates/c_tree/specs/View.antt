@@ -38,7 +38,8 @@ abbrev mutual
   statement_of (Assume e) = assume (expression_of e)
   statement_of (Assert id e) = assert id (expression_of e)
   statement_of (If' e p a q b) = if_else (expression_of e) (statement_of a) (statement_of b)
-  statement_of (Loop' e p step q body) = loop (expression_of e) (statement_of step) (statement_of body)
+  statement_of (Loop' e p step q body) = loop (expression_of e) (statement_of step)
+      (statement_of body)
   statement_of (DoWhile' p s e) = do_while (statement_of s) (expression_of e)
   statement_of Break = break
   statement_of Continue = continue
@@ -53,8 +54,18 @@ statements_of [] = no_statements
 statements_of (s ∷ ss) = statement (statement_of s) (statements_of ss)
 
 abbrev pub procedure_of : Procedure → PureProcedure
-procedure_of p = record { name = string_bytes p.name; params = p.params; slots = p.slots; gives = p.gives; body = statements_of p.body.items }
+procedure_of p = record {
+  name = string_bytes p.name;
+  params = p.params;
+  slots = p.slots;
+  gives = p.gives;
+  body = statements_of p.body.items;
+}
 
 -- what contracts see of the fields of a program
 abbrev pub program_from : List Procedure → ℕ → List AssertPlace → PureProgram
-program_from procedures main asserts = record { procedures = map procedure_of procedures; main = main; asserts = asserts }
+program_from procedures main asserts = record {
+  procedures = map procedure_of procedures;
+  main = main;
+  asserts = asserts;
+}

@@ -13,14 +13,16 @@ abbrev pub takes : Option PureProcedure → ℕ → Bool
 takes None n = false
 takes (Some p) n = p.params == n
 
--- In a procedure with so many slots: each name exists, a call has an argument for each parameter, and `main` isn't called.
+-- In a procedure with so many slots: each name exists, a call has an argument for each parameter,
+-- and `main` isn't called.
 module _ (P : PureProgram) (slots : ℕ) where
   abbrev mutual
     pub is_well_scoped : Expression → Bool
     is_well_scoped (literal n) = true
     is_well_scoped (read x) = nat_lt x slots
     is_well_scoped input = true
-    is_well_scoped (call p es) = takes (slice_get P.procedures p) (count es) && not_bool (p == P.main) && are_well_scoped es
+    is_well_scoped (call p es) = takes (slice_get P.procedures p) (count es) && not_bool
+        (p == P.main) && are_well_scoped es
     is_well_scoped (negate e) = is_well_scoped e
     is_well_scoped (not_of e) = is_well_scoped e
     is_well_scoped (binary op a b) = is_well_scoped a && is_well_scoped b
@@ -41,8 +43,12 @@ module _ (P : PureProgram) (slots : ℕ) where
     runs_well_scoped l (ignore e) = is_well_scoped e
     runs_well_scoped l (assume e) = is_well_scoped e
     runs_well_scoped l (assert id e) = nat_lt id (length P.asserts) && is_well_scoped e
-    runs_well_scoped l (if_else e a b) = is_well_scoped e && runs_well_scoped l a && runs_well_scoped l b
-    runs_well_scoped l (loop e s b) = is_well_scoped e && runs_well_scoped true s && runs_well_scoped true b
+    runs_well_scoped l (if_else e a b) = is_well_scoped e && runs_well_scoped l a &&
+        runs_well_scoped
+        l b
+    runs_well_scoped l (loop e s b) = is_well_scoped e && runs_well_scoped true s &&
+        runs_well_scoped
+        true b
     runs_well_scoped l (do_while s e) = runs_well_scoped true s && is_well_scoped e
     runs_well_scoped l break = l
     runs_well_scoped l continue = l
@@ -71,7 +77,8 @@ abbrev mutual
   is_linear (call p es) = are_linear es
   is_linear (negate e) = is_linear e
   is_linear (not_of e) = is_linear e
-  is_linear (binary op a b) = (not_bool (is_product op) || is_constant a || is_constant b) && is_linear a && is_linear b
+  is_linear (binary op a b) = (not_bool (is_product op) || is_constant a || is_constant b) &&
+      is_linear a && is_linear b
 
   pub are_linear : Expressions → Bool
   are_linear no_expressions = true
@@ -158,7 +165,8 @@ abbrev mutual
 -- what each procedure keeps
 abbrev pub is_well_formed_procedure : PureProgram → PureProcedure → Bool
 is_well_formed_procedure P p =
-    nat_le p.params 8 && nat_le p.params p.slots && nat_le p.slots 24 && all_well_scoped P p.slots false p.body && nat_le (statements_nodes p.body) 8000
+    nat_le p.params 8 && nat_le p.params p.slots && nat_le p.slots 24 && all_well_scoped P p.slots
+    false p.body && nat_le (statements_nodes p.body) 8000
 
 abbrev pub has_no_parameters : Option PureProcedure → Bool
 has_no_parameters p = takes p 0
@@ -167,11 +175,16 @@ pub record IsWellFormed (P : PureProgram) : Type 0 where
   pub few_procedures : length P.procedures ≤ 64
   -- `main` is one of the procedures and has no parameters
   pub main_takes_none : IsTrue (takes (slice_get P.procedures P.main) 0)
-  pub names_apart : (i j : ℕ) (p q : PureProcedure) → i < j → slice_get P.procedures i ≡ Some p → slice_get P.procedures j ≡ Some q → p.name ≡ q.name → ⊥
-  pub procedures_well_formed : (i : ℕ) (p : PureProcedure) → slice_get P.procedures i ≡ Some p → IsTrue (is_well_formed_procedure P p)
-  pub products_linear : (i : ℕ) (p : PureProcedure) → slice_get P.procedures i ≡ Some p → IsTrue (all_linear p.body)
+  pub names_apart : (i j : ℕ) (p q : PureProcedure) → i < j → slice_get P.procedures i ≡ Some p →
+      slice_get P.procedures j ≡ Some q → p.name ≡ q.name → ⊥
+  pub procedures_well_formed : (i : ℕ) (p : PureProcedure) → slice_get P.procedures i ≡ Some p →
+      IsTrue (is_well_formed_procedure P p)
+  pub products_linear : (i : ℕ) (p : PureProcedure) → slice_get P.procedures i ≡ Some p →
+      IsTrue (all_linear p.body)
   pub few_asserts : length P.asserts ≤ 64
   -- each assertion stands in exactly one `Assert`, which is in the body of its procedure
-  pub asserts_placed : (k : ℕ) (a : AssertPlace) → slice_get P.asserts k ≡ Some a → a.proc < length P.procedures
-  pub asserted_once : (k i : ℕ) (a : AssertPlace) (p : PureProcedure) → slice_get P.asserts k ≡ Some a → slice_get P.procedures i ≡ Some p →
+  pub asserts_placed : (k : ℕ) (a : AssertPlace) → slice_get P.asserts k ≡ Some a →
+      a.proc < length P.procedures
+  pub asserted_once : (k i : ℕ) (a : AssertPlace) (p : PureProcedure) → slice_get P.asserts k
+      ≡ Some a → slice_get P.procedures i ≡ Some p →
       count_by (λ id. id == k) (asserted_in p.body) ≡ (if i == a.proc then 1 else 0)

@@ -71,7 +71,8 @@ pub enum ForFirst {
     Simple(SimpleTree),
 }
 
-/// An assignment, a change in place, or a call whose value is ignored. The place in `Change` is that of the mark.
+/// An assignment, a change in place, or a call whose value is ignored. The place in `Change` is
+/// that of the mark.
 #[derive(Drop)]
 pub enum SimpleTree {
     Set(Named, ExprTree),

@@ -61,7 +61,8 @@ impl Op {
         )
     }
 
-    /// What an arithmetic operator gives, where its exact result is a value; none for every other operator.
+    /// What an arithmetic operator gives, where its exact result is a value; none for every other
+    /// operator.
     pub fn operation(self, left: i64, right: i64) -> Option<i64>
         ensures { result ≡ operation self left right }
     {

@@ -16,8 +16,10 @@ pub copied : (bytes buf copy : List ℕ) (at count piece : ℕ) → at ≤ lengt
     × (count ≡ 0 → 0 < length (copy ++ drop count buf) → drop (at + count) bytes ≡ [])
 copied bytes buf copy at count piece within some room c e =
     let n : length copy ≡ count = ap length e ∙ length-take count (drop at bytes) ∙ omega (arith, length-drop at bytes, c) in
-    let t : take count (copy ++ drop count buf) ≡ copy = ap (λ k. take k (copy ++ drop count buf)) (sym n) ∙ take-append_seam copy (drop count buf) in (
-      sym (take-append-drop count (drop at bytes)) ∙ ap (λ x. take count (drop at bytes) ++ x) (drop-drop count at bytes) ∙ ap (λ x. x ++ drop (at + count) bytes) (sym (t ∙ e)),
+    let t : take count (copy ++ drop count buf) ≡ copy = ap (λ k. take k (copy ++ drop count buf)) (sym n) ∙ take-append_seam copy
+    (drop count buf) in (
+      sym (take-append-drop count (drop at bytes)) ∙ ap (λ x. take count (drop at bytes) ++ x) (drop-drop count at bytes)
+          ∙ ap (λ x. x ++ drop (at + count) bytes) (sym (t ∙ e)),
       λ z _. drop_of_length-le bytes (omega (arith, c, z)),
     )
 

@@ -13,6 +13,7 @@ returns c =
     let l = c.loop-alloc.invariant in
     let s = c.loop-alloc.search in
     let none : length s.current.items ≡ 0 = grind (arith, c.loop-alloc-test.ensures) in
-    let m = measured s.network.edges.now s.network.shut.now s.network.regions s.target s.depth s.current.items s.far.items s.way.items s.met.items l.layer.layered (none_left s.current.items none) l.alone in
+    let m = measured s.network.edges.now s.network.shut.now s.network.regions s.target s.depth s.current.items s.far.items s.way.items
+    s.met.items l.layer.layered (none_left s.current.items none) l.alone in
     let At : Network → ℕ → Type 0 = λ n t. IsMeasured n.edges.now n.shut.now n.regions t s.far.items s.way.items in
     subst (λ n. At n c.args.target) l.network (subst (λ t. At s.network t) l.target m)

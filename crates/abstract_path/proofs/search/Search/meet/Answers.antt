@@ -9,5 +9,7 @@ unmet_before c = grind (arith, c.index.ensures, c.if-index-eq0.true)
 pub returns-in_ok-push-clause-layer : goal.returns-in_ok-push-clause-layer
 returns-in_ok-push-clause-layer c =
     let s = c.args.self.now in
-    let r = layered_met s.network.edges.now s.network.shut.now s.network.regions s.target s.depth s.current.items s.far.items s.way.items s.met.items c.args.source c.args.number _ c.requires.layer.layered c.requires.source (unmet_before c) c.requires.is_open (Contains-get_or s.current.items c.args.place 0 c.requires.place) in
+    let r = layered_met s.network.edges.now s.network.shut.now s.network.regions s.target s.depth s.current.items s.far.items s.way.items
+    s.met.items c.args.source c.args.number _ c.requires.layer.layered c.requires.source (unmet_before c) c.requires.is_open
+    (Contains-get_or s.current.items c.args.place 0 c.requires.place) in
     record { layered = rw c.in_ok-push.ensures.items r; chained = c.requires.layer.chained }

@@ -7,5 +7,6 @@ abbrev pub invariant-loop-place : goal.invariant-loop-place
 invariant-loop-place l = record {
   layer : IsInLayer l.self;
   keeps : KeepsLayer l.initial.self l.self;
-  settled : (k : ℕ) → k < l.place → IsSettled l.self.network.edges.now l.self.network.shut.now l.self.far.items (slice_index l.self.current.items k);
+  settled : (k : ℕ) → k < l.place → IsSettled l.self.network.edges.now l.self.network.shut.now l.self.far.items
+      (slice_index l.self.current.items k);
 }
