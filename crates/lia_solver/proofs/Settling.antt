@@ -112,13 +112,6 @@ settled-sides atoms e column at h k =
     (k.sides.0, subst (λ (xs : List ℕ). Contains xs column) (columns-are (columns_of (rows_of atoms)) (base_rows atoms) e.stages.items (terms_of e.rows.items) h.passed) k.sides.1)
 
 -- ---- the question of a branch
-terms-append : (as_ bs : List Atom) → IsTrue (are_terms as_) → IsTrue (are_terms bs) → IsTrue (are_terms (as_ ++ bs))
-terms-append [] bs h k = k
-terms-append (a ∷ as_) bs h k = both (is_term a.term) (are_terms as_) (are_terms (as_ ++ bs)) (λ i. terms-append as_ bs i k) h where
-  both : (x y z : Bool) → (IsTrue y → IsTrue z) → IsTrue (x && y) → IsTrue (x && z)
-  both true y z i h = i h
-  both false y z i h = h
-
 -- the rows of a branch, and its columns
 pub record IsAsked (question splits : List Atom) (columns : List ℕ) (rows : List LinearSum) : Type 0 where
   pub columns_are : columns ≡ columns_of (rows_of question)
@@ -132,9 +125,9 @@ asked-rows : (question splits : List Atom) (columns : List ℕ) (rows : List Lin
 asked-rows question splits columns rows h =
     h.rows_are ∙ ap (λ (xs : List ℕ). rows_of (question ++ splits) ++ range_rows xs) (asked-columns question splits columns rows h)
 
-pub asked-eliminated : (question splits : List Atom) (columns : List ℕ) (rows : List LinearSum) (e : Elimination) → IsAsked question splits columns rows → IsTrue (are_terms question) → IsTrue (are_terms splits) → AreStages columns rows e.stages.items (terms_of e.rows.items) → IsEliminated (question ++ splits) e
-asked-eliminated question splits columns rows e h q s p = record {
-  terms = terms-append question splits q s;
+pub asked-eliminated : (question splits : List Atom) (columns : List ℕ) (rows : List LinearSum) (e : Elimination) → IsAsked question splits columns rows → IsTrue (are_terms (question ++ splits)) → AreStages columns rows e.stages.items (terms_of e.rows.items) → IsEliminated (question ++ splits) e
+asked-eliminated question splits columns rows e h t p = record {
+  terms = t;
   passed = subst (λ (ts : List LinearSum). AreStages (columns_of (rows_of (question ++ splits))) ts e.stages.items (terms_of e.rows.items)) (asked-rows question splits columns rows h) (subst (λ (xs : List ℕ). AreStages xs rows e.stages.items (terms_of e.rows.items)) (asked-columns question splits columns rows h) p);
 }
 

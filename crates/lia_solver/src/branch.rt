@@ -129,15 +129,6 @@ fn settled(
     }
 }
 
-/// What is known of the atoms, for the proof.
-fn know_terms(atoms: &[Atom])
-    ensures { IsTrue (are_terms atoms.now) }
-{
-    for atom in atoms {
-        let _ = atom.term.parts();
-    }
-}
-
 /// What the rows of a question, of the splits down to a branch and of the columns' ranges come to.
 pub fn solve_branch(
     alloc: Global,
@@ -147,12 +138,11 @@ pub fn solve_branch(
 ) -> Result<BranchOutcome, OutOfMemory>
     requires columns { columns.now ≡ columns_of (rows_of question.now) }
     requires branch { IsBranch question.now splits.now }
+    requires terms { IsTrue (are_terms (question.now ++ splits.now)) }
     ensures plan { IfOk result (λ o. outcome_of (question.now ++ splits.now) ≡ planned o) }
     ensures right { IfOk result (λ o. IsRightOutcome question.now splits.now o) }
     ensures terms { IfOk result (λ o. AreOutcomeTerms o) }
 {
-    know_terms(question);
-    know_terms(splits);
     let rows = numbered_rows(alloc, question, splits, columns)?;
     let Ok(first) = u32::try_from(rows.len()) else {
         return Err(AllocError);

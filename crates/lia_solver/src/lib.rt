@@ -10,5 +10,3 @@ mod refutation;
 mod search;
 pub mod solve;
 pub mod solved;
-#[cfg(test)]
-mod tests;

@@ -2,7 +2,6 @@
 
 ghost use Rattle.std.specs.Prelude.{◌≡◌, ◌++◌, ◌∷◌, [], ℕ, List, None, Some, option_map, find, not, IfOk, OnOk, IsErrOf, IsTrue};
 ghost use Rattle.linear_formula.specs.LinearSum.{LinearSum};
-ghost use Rattle.linear_formula.specs.Formula.{are_terms};
 ghost use Rattle.infeasible_cert.specs.Right.{AreRightSteps, rows_of, range_rows};
 ghost use Rattle.shadow_elim.specs.Elimination.{elimination, remains, wide, too_many, first_inexact, listed_rows, is_unit, is_inexact, pairs};
 ghost use Rattle.shadow_elim.specs.Making.{terms_of};
@@ -32,23 +31,12 @@ fn push_row(rows: &mut Vec<Row>, term: Term) -> Result<(), OutOfMemory>
     }
 }
 
-/// What is known of a cube's atoms, for the proof.
-fn know_terms(atoms: &[Atom])
-    ensures { IsTrue (are_terms atoms.now) }
-{
-    for atom in atoms {
-        let _ = atom.term.parts();
-    }
-}
-
 /// Adds the atoms as rows.
 pub fn push_atoms(alloc: Global, rows: &mut Vec<Row>, atoms: &[Atom]) -> Result<(), OutOfMemory>
     requires { AreInPlace 0 rows.old.items }
     ensures terms { OnOk result (terms_of rows.new.items ≡ terms_of rows.old.items ++ rows_of atoms.now) }
     ensures numbers { OnOk result (AreInPlace 0 rows.new.items) }
-    ensures kept { IsTrue (are_terms atoms.now) }
 {
-    know_terms(atoms);
     for atom in atoms {
         push_row(rows, atom.term.copy(alloc)?)?;
     }

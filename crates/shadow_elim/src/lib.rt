@@ -13,5 +13,3 @@ mod reduction;
 pub mod row;
 pub mod shadow;
 pub mod sum;
-#[cfg(test)]
-mod tests;

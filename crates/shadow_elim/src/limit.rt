@@ -1,7 +1,6 @@
 //! Limits that a question met.
 
 ghost use Rattle.std.specs.Prelude.{◌≡◌};
-
 ghost use Rattle.shadow_elim.specs.LimitKinds.{kind_of};
 
 use crate::shadow::Pair;
@@ -58,13 +57,13 @@ impl Cubes {
 /// Why a question has no answer.
 #[derive(Debug, Drop)]
 pub enum Limit {
-    /// The cube names more than 256 columns.
+    /// The cube names more than `MAX_COLUMNS` columns.
     Columns,
     /// A sum, or a row of the branch's elimination, is beyond the limits of a term.
     Wide { branch: Question },
-    /// The elimination of the branch leaves more than 4,096 rows after a column.
+    /// The elimination of the branch leaves more than `MAX_ROWS` rows after a column.
     Rows { branch: Cube },
-    /// These cubes were split, and one more split is needed.
+    /// These cubes, `MAX_SPLITS`, were split, and one more split is needed.
     Branches { branches: Cubes },
     /// The first pair of an elimination with neither coefficient 1 or -1.
     Inexact(Pair),

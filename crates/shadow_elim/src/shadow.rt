@@ -8,9 +8,8 @@ use infeasible_cert::certificate::Derived;
 use linear_formula::error::LinError;
 use linear_formula::formula::{Atom, Cube};
 use std::alloc::{AllocError, AllocFailed};
-use std::error::Error;
-use std::fmt;
 use std::marker::Model;
+use thiserror::Error;
 
 /// An upper and a lower row of a column, as they stood when they were combined.
 #[derive(Debug, Drop)]
@@ -75,26 +74,17 @@ pub struct Shadow {
 }
 
 /// Why an elimination has no result.
-#[derive(Clone, Copy, Debug, PartialEq, Eq)]
+#[derive(Clone, Copy, Debug, PartialEq, Eq, Error)]
 pub enum ShadowError {
     /// A new row is beyond the limits of a term.
+    #[error("a row is too wide")]
     Wide,
-    /// More than 4,096 rows are left after a column.
+    /// More than `MAX_ROWS` rows are left after a column.
+    #[error("too many rows")]
     Rows,
+    #[error("out of memory")]
     Memory,
 }
-
-impl fmt::Display for ShadowError {
-    fn fmt<W: fmt::Write>(&self, f: &mut fmt::Formatter<W>) -> fmt::Result {
-        match self {
-            ShadowError::Wide => write!(f, "a row is too wide"),
-            ShadowError::Rows => write!(f, "too many rows"),
-            ShadowError::Memory => write!(f, "out of memory"),
-        }
-    }
-}
-
-impl Error for ShadowError {}
 
 impl From<LinError> for ShadowError {
     ghost from_gives = { λ error e. e ≡ shadow_error_of error };

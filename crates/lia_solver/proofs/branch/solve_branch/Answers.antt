@@ -16,7 +16,7 @@ settled-requires c =
     let base = branch_rows c.args.question.now c.args.splits.now in
     let count : length base ≡ c.in-Ok.first = omega (arith, c.in_ok-rows.ensures.count, c.in_ok-rows.rows.ok.0, c.in-Ok.ensures, c.len.ensures) in
     let d = c.in-Ok-eliminate_columns.ensures.steps base count c.in_ok-rows.ensures.numbers in record {
-      eliminated = (c.args.question.now ++ c.args.splits.now, asked-eliminated c.args.question.now c.args.splits.now c.args.columns.now (terms_of c.in_ok-rows.rows.items) c.in-Ok-eliminate_columns.elimination (record { columns_are = c.requires.columns; branch = c.requires.branch; rows_are = c.in_ok-rows.ensures.terms }) c.know_terms.ensures c.know_terms-2.ensures c.in-Ok-eliminate_columns.ensures.stages);
+      eliminated = (c.args.question.now ++ c.args.splits.now, asked-eliminated c.args.question.now c.args.splits.now c.args.columns.now (terms_of c.in_ok-rows.rows.items) c.in-Ok-eliminate_columns.elimination (record { columns_are = c.requires.columns; branch = c.requires.branch; rows_are = c.in_ok-rows.ensures.terms }) c.requires.terms c.in-Ok-eliminate_columns.ensures.stages);
       earlier = names-earlier base e.steps.items c.in-Ok.first count d.0;
     }
 
@@ -24,7 +24,7 @@ pub returns-in-Ok-eliminate_columns-clause-plan : goal.returns-in-Ok-eliminate_c
 returns-in-Ok-eliminate_columns-clause-plan c =
     let atoms = c.args.question.now ++ c.args.splits.now in
     let e = c.in-Ok-eliminate_columns.elimination in
-    let done = asked-eliminated c.args.question.now c.args.splits.now c.args.columns.now (terms_of c.in_ok-rows.rows.items) e (record { columns_are = c.requires.columns; branch = c.requires.branch; rows_are = c.in_ok-rows.ensures.terms }) c.know_terms.ensures c.know_terms-2.ensures c.in-Ok-eliminate_columns.ensures.stages in
+    let done = asked-eliminated c.args.question.now c.args.splits.now c.args.columns.now (terms_of c.in_ok-rows.rows.items) e (record { columns_are = c.requires.columns; branch = c.requires.branch; rows_are = c.in_ok-rows.ensures.terms }) c.requires.terms c.in-Ok-eliminate_columns.ensures.stages in
     IfOk-weaker c.settled.result (λ o. (as_ : List Atom) → IsEliminated as_ e → outcome_of as_ ≡ planned o) (λ o. outcome_of atoms ≡ planned o) (λ o h. h atoms done) c.settled.ensures.plan
 
 pub returns-in-Ok-eliminate_columns-clause-right : goal.returns-in-Ok-eliminate_columns-clause-right
@@ -34,7 +34,7 @@ returns-in-Ok-eliminate_columns-clause-right c =
     let base = branch_rows question splits in
     let rows = c.in_ok-rows.rows in
     let e = c.in-Ok-eliminate_columns.elimination in
-    let done = asked-eliminated question splits c.args.columns.now (terms_of rows.items) e (record { columns_are = c.requires.columns; branch = c.requires.branch; rows_are = c.in_ok-rows.ensures.terms }) c.know_terms.ensures c.know_terms-2.ensures c.in-Ok-eliminate_columns.ensures.stages in
+    let done = asked-eliminated question splits c.args.columns.now (terms_of rows.items) e (record { columns_are = c.requires.columns; branch = c.requires.branch; rows_are = c.in_ok-rows.ensures.terms }) c.requires.terms c.in-Ok-eliminate_columns.ensures.stages in
     let count : length base ≡ c.in-Ok.first = omega (arith, c.in_ok-rows.ensures.count, rows.ok.0, c.in-Ok.ensures, c.len.ensures) in
     let d = c.in-Ok-eliminate_columns.ensures.steps base count c.in_ok-rows.ensures.numbers in
     let derived : IsDerived base e = record { steps = d.0; numbers = d.1 } in

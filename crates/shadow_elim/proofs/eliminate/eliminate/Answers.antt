@@ -34,7 +34,7 @@ terms : (c : goal.After-drop-stages-2) → AllTerms (listed_rows c.args.cube.now
 terms c =
     let columns = c.args.columns.now in
     let small : All (λ x. x < 2 ^ 32) columns = All-from_get_or (λ x. x < 2 ^ 32) columns 0 (λ k h. (c.type_inv.columns k).fits) in
-    listed-terms c.args.cube.now.atoms columns (subst (λ (atoms : List Atom). IsTrue (are_terms atoms)) c.as_slice.ensures.value c.push_atoms.ensures.kept) small
+    listed-terms c.args.cube.now.atoms columns c.as_slice.ensures.terms small
 
 -- the first pair that isn't exact
 inexact : (c : goal.After-drop-stages-2) → pair_rows c.in_ok-inexact.inexact ≡ first_inexact c.args.columns.now (listed_rows c.args.cube.now.atoms c.args.columns.now)
