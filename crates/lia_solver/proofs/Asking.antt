@@ -20,7 +20,8 @@ use Rattle.shadow_elim.specs.Questions.{with_negation, CanNegate, IsEntailed, Is
 use Rattle.shadow_elim.specs.Entailment.{question_of, StopsAt}
 use Rattle.lia_solver.specs.Entailment.{RefuteEach}
 
--- ---- the atoms that hold
+-- The atoms that hold
+
 holds-append : (v : Valuation) (xs ys : List Atom) → HoldsAll v xs → HoldsAll v ys → HoldsAll v (xs ++ ys)
 holds-append v [] ys h k = k
 holds-append v (x ∷ xs) ys h k = (h.0, holds-append v xs ys h.1 k)
@@ -43,7 +44,8 @@ holds_or_not v atom = by_value (value_of v atom.term) where
   by_value (pos (suc n)) = inr (λ h. omega (arith, ints, h))
   by_value (negsuc n) = inl (omega (arith, ints))
 
--- ---- the negation
+-- The negation
+
 pub on-ok : {T E : Type 0} (P : Type 0) (r : Result T E) (b : Bool) → b ≡ is_err r → b ≡ false → OnOk r P → P
 on-ok P (Ok x) b e f h = h
 on-ok P (Err x) b e f h = absurd (cc)
@@ -52,53 +54,74 @@ pub can-negate : (atom : Atom) (t : LinearSum) → t ≡ negated atom.term → I
 can-negate atom t e h =
     subst (λ u. IsTrue (is_within u)) e (test-from_Within t (IsTerm-from_test t h).within)
 
-pub asked-is : (left asked : List Atom) (atom other : Atom) → asked ≡ left ++ other ∷ [] → other.term ≡ negated atom.term → asked ≡ with_negation left atom
+pub asked-is : (left asked : List Atom) (atom other : Atom) → asked ≡ left ++ other ∷ [] → other.term ≡ negated atom.term →
+    asked ≡ with_negation left atom
 asked-is left asked atom other e f = e ∙ ap (λ t. left ++ record { term = t } ∷ []) f
 
-pub question-is : (left asked : List Atom) (atom : Atom) → CanNegate atom → asked ≡ with_negation left atom → question.Cube (cube_of asked) ≡ question_of left atom
+pub question-is : (left asked : List Atom) (atom : Atom) → CanNegate atom → asked ≡ with_negation left atom → question.Cube (cube_of asked)
+    ≡ question_of left atom
 question-is left asked atom h e =
-    ap (λ as_. question.Cube (cube_of as_)) e ∙ ap (λ b. if b then question.Cube (cube_of (with_negation left atom)) else question.Combine ((negsuc 0, atom.term) ∷ []) (pos 1)) (sym h)
+    ap (λ as_. question.Cube (cube_of as_)) e ∙ ap (λ b. if b then question.Cube (cube_of (with_negation left atom)) else question.Combine
+    ((negsuc 0, atom.term) ∷ []) (pos 1)) (sym h)
 
 -- an atom follows where its negation never holds
-pub follows : (left asked : List Atom) (atom other : Atom) → asked ≡ left ++ other ∷ [] → ((v : Valuation) → Holds v other ↔ (¬ Holds v atom)) → ((v : Valuation) → Is64 v → HoldsAll v asked → ⊥) → (v : Valuation) → Is64 v → HoldsAll v left → Holds v atom
+pub follows : (left asked : List Atom) (atom other : Atom) → asked ≡ left ++ other ∷ [] →
+    ((v : Valuation) → Holds v other ↔ (¬ Holds v atom)) →
+    ((v : Valuation) → Is64 v → HoldsAll v asked → ⊥) → (v : Valuation) → Is64 v → HoldsAll v left → Holds v atom
 follows left asked atom other e law never v w h = by_case (holds_or_not v atom) where
   by_case : Holds v atom ⊎ (¬ Holds v atom) → Holds v atom
   by_case (inl k) = k
   by_case (inr n) =
       absurd (never v w (subst (HoldsAll v) (sym e) (holds-append v left (other ∷ []) h ((law v).1 n, tt))))
 
-pub fails : (left asked : List Atom) (atom other : Atom) (v : Valuation) → asked ≡ left ++ other ∷ [] → (Holds v other ↔ (¬ Holds v atom)) → HoldsAll v asked → HoldsAll v left × (¬ Holds v atom)
+pub fails : (left asked : List Atom) (atom other : Atom) (v : Valuation) → asked ≡ left ++ other ∷ [] → (Holds v other ↔ (¬ Holds v atom)) →
+    HoldsAll v asked → HoldsAll v left × (¬ Holds v atom)
 fails left asked atom other v e law h =
     let r = append-holds v left (other ∷ []) (subst (HoldsAll v) e h) in
     (r.0, law.0 r.1.0)
 
--- ---- one atom after the other
+-- One atom after the other
+
 pub record SoFar (left items : List Atom) (k : ℕ) (cs : List Certificate) : Type 0 where
   pub entailed : IsShownToEntail left (take k items)
   pub refuted : RefuteEach left (take k items) cs
   pub met : (v : Valuation) → Is64 v → HoldsAll v left → HoldsAll v (take k items)
   pub terms : All (λ c. HasTerms (refutation_of c)) cs
 
-entailed-more : (left xs : List Atom) (atom : Atom) → IsShownToEntail left xs → IsEntailed left atom → IsShownToEntail left (xs ++ atom ∷ [])
+entailed-more : (left xs : List Atom) (atom : Atom) → IsShownToEntail left xs → IsEntailed left atom →
+    IsShownToEntail left (xs ++ atom ∷ [])
 entailed-more left [] atom h k = (k, tt)
 entailed-more left (x ∷ xs) atom h k = (h.0, entailed-more left xs atom h.1 k)
 
-refuted-more : (left xs : List Atom) (cs : List Certificate) (atom : Atom) (c : Certificate) → RefuteEach left xs cs → CanNegate atom → Refutes (with_negation left atom) (refutation_of c) → RefuteEach left (xs ++ atom ∷ []) (cs ++ c ∷ [])
+refuted-more : (left xs : List Atom) (cs : List Certificate) (atom : Atom) (c : Certificate) → RefuteEach left xs cs → CanNegate atom →
+    Refutes (with_negation left atom) (refutation_of c) → RefuteEach left (xs ++ atom ∷ []) (cs ++ c ∷ [])
 refuted-more left [] [] atom c h n r = (n, r, tt)
 refuted-more left [] (d ∷ cs) atom c h n r = absurd h
 refuted-more left (x ∷ xs) [] atom c h n r = absurd h
 refuted-more left (x ∷ xs) (d ∷ cs) atom c h n r = (h.0, h.1, refuted-more left xs cs atom c h.2 n r)
 
-pub so-far-more : (left items : List Atom) (k : ℕ) (cs more : List Certificate) (atom : Atom) (c : Certificate) → SoFar left items k cs → k < length items → atom ≡ get_or items k atom → more ≡ cs ++ c ∷ [] → IsEntailed left atom → Refutes (with_negation left atom) (refutation_of c) → HasTerms (refutation_of c) → ((v : Valuation) → Is64 v → HoldsAll v left → Holds v atom) → SoFar left items (k + 1) more
+pub so-far-more : (left items : List Atom) (k : ℕ) (cs more : List Certificate) (atom : Atom) (c : Certificate) → SoFar left items k cs →
+    k < length items → atom ≡ get_or items k atom → more ≡ cs ++ c ∷ [] → IsEntailed left atom → Refutes (with_negation left atom)
+    (refutation_of c) → HasTerms (refutation_of c) → ((v : Valuation) → Is64 v → HoldsAll v left → Holds v atom) →
+    SoFar left items (k + 1) more
 so-far-more left items k cs more atom c s l e em h r terms f =
     let front : take (k + 1) items ≡ take k items ++ atom ∷ [] = take_more items k atom l ∙ ap (λ a. take k items ++ a ∷ []) (sym e) in
     record {
       entailed = subst (IsShownToEntail left) (sym front) (entailed-more left (take k items) atom s.entailed h);
-      refuted = subst (λ (as_ : List Atom). RefuteEach left as_ more) (sym front) (subst (RefuteEach left (take k items ++ atom ∷ [])) (sym em) (refuted-more left (take k items) cs atom c s.refuted h.0 r));
+      refuted = subst (λ (as_ : List Atom). RefuteEach left as_ more) (sym front) (subst (RefuteEach left (take k items ++ atom ∷ []))
+          (sym em) (refuted-more left (take k items) cs atom c s.refuted h.0 r));
       met = λ v w m. subst (HoldsAll v) (sym front) (holds-append v (take k items) (atom ∷ []) (s.met v w m) (f v w m, tt));
       terms = subst (All (λ d. HasTerms (refutation_of d))) (sym em) (All-push (λ d. HasTerms (refutation_of d)) cs c s.terms terms);
     }
 
-pub stops : (left items right : List Atom) (k : ℕ) (cs : List Certificate) (atom : Atom) (P : Atom → Type 0) → items ≡ right → SoFar left items k cs → k < length items → atom ≡ get_or items k atom → P atom → StopsAt left right P
-stops left items right k cs atom P e s l f p =
-    (take k items, atom, drop (k + 1) items, sym e ∙ sym (take-append-drop k items) ∙ ap (λ as_. take k items ++ as_) (drop_more items k atom l) ∙ ap (λ a. take k items ++ a ∷ drop (k + 1) items) (sym f), s.entailed, p)
+pub stops : (left items right : List Atom) (k : ℕ) (cs : List Certificate) (atom : Atom) (P : Atom → Type 0) → items ≡ right →
+    SoFar left items k cs → k < length items → atom ≡ get_or items k atom → P atom → StopsAt left right P
+stops left items right k cs atom P e s l f p = (
+  take k items,
+  atom,
+  drop (k + 1) items,
+  sym e ∙ sym (take-append-drop k items) ∙ ap (λ as_. take k items ++ as_) (drop_more items k atom l)
+      ∙ ap (λ a. take k items ++ a ∷ drop (k + 1) items) (sym f),
+  s.entailed,
+  p,
+)

@@ -13,16 +13,21 @@ use Rattle.infeasible_cert.specs.Right.{row_at, rows_after, Is128, FitsAlong, Is
 use Rattle.shadow_elim.specs.Reduction.{has_no_parts, is_contradiction}
 use Rattle.shadow_elim.proofs.Staying.{same_parts-decides}
 
--- ---- the search
-pub find-here : {X : Type 0} (p : X → Bool) (xs : List X) (k : ℕ) (d : X) → k < length xs → p (get_or xs k d) ≡ true → find p (drop k xs) ≡ Some (get_or xs k d)
+-- The search
+
+pub find-here : {X : Type 0} (p : X → Bool) (xs : List X) (k : ℕ) (d : X) → k < length xs → p (get_or xs k d) ≡ true → find p (drop k xs)
+    ≡ Some (get_or xs k d)
 find-here p xs k d h e =
-    ap (find p) (drop_more xs k d h) ∙ chosen_of_two (λ r. r ≡ Some (get_or xs k d)) (p (get_or xs k d)) (Some (get_or xs k d)) (find p (drop (k + 1) xs)) (λ _. refl) (λ n. absurd (apart (sym n ∙ e))) where
+    ap (find p) (drop_more xs k d h) ∙ chosen_of_two (λ r. r ≡ Some (get_or xs k d)) (p (get_or xs k d)) (Some (get_or xs k d))
+    (find p (drop (k + 1) xs)) (λ _. refl) (λ n. absurd (apart (sym n ∙ e))) where
       apart : false ≡ true → ⊥
       apart h = cc
 
-pub find-past : {X : Type 0} (p : X → Bool) (xs : List X) (k : ℕ) (d : X) → k < length xs → p (get_or xs k d) ≡ false → find p (drop (k + 1) xs) ≡ find p (drop k xs)
+pub find-past : {X : Type 0} (p : X → Bool) (xs : List X) (k : ℕ) (d : X) → k < length xs → p (get_or xs k d) ≡ false →
+    find p (drop (k + 1) xs) ≡ find p (drop k xs)
 find-past p xs k d h e =
-    chosen_of_two (λ r. find p (drop (k + 1) xs) ≡ r) (p (get_or xs k d)) (Some (get_or xs k d)) (find p (drop (k + 1) xs)) (λ n. absurd (apart (sym e ∙ n))) (λ _. refl) ∙ sym (ap (find p) (drop_more xs k d h)) where
+    chosen_of_two (λ r. find p (drop (k + 1) xs) ≡ r) (p (get_or xs k d)) (Some (get_or xs k d)) (find p (drop (k + 1) xs))
+    (λ n. absurd (apart (sym e ∙ n))) (λ _. refl) ∙ sym (ap (find p) (drop_more xs k d h)) where
       apart : false ≡ true → ⊥
       apart h = cc
 
@@ -32,7 +37,8 @@ find-none p [] (suc k) h = refl
 find-none p (x ∷ xs) zero h = absurd (omega (arith, h))
 find-none p (x ∷ xs) (suc k) h = find-none p xs k (omega (arith, h))
 
--- ---- contradictions
+-- Contradictions
+
 no-parts : (ps : List (ℕ × ℤ)) → length ps ≡ 0 → ps ≡ []
 no-parts [] h = refl
 no-parts (p ∷ ps) h = absurd (omega (arith, h))
@@ -49,7 +55,8 @@ both_true false b h k = h
 
 pub is-contradiction : (t : LinearSum) → length t.parts ≡ 0 → pos 0 <ℤ t.constant → is_contradiction t ≡ true
 is-contradiction t h k =
-    both_true (has_no_parts t) (int_lt (pos 0) t.constant) ((same_parts-decides t.parts []).1 (no-parts t.parts h)) (lt_test (pos 0) t.constant k)
+    both_true (has_no_parts t) (int_lt (pos 0) t.constant) ((same_parts-decides t.parts []).1 (no-parts t.parts h))
+    (lt_test (pos 0) t.constant k)
 
 pub not-by_constant : (t : LinearSum) → t.constant ≤ℤ pos 0 → is_contradiction t ≡ false
 not-by_constant t h = fails (has_no_parts t) (int_lt (pos 0) t.constant) (lt_fails (pos 0) t.constant h) where
@@ -83,14 +90,16 @@ contradiction-is t h = record {
   above : (c : ℤ) → int_lt (pos 0) c ≡ true → pos 1 ≤ℤ c
   above c h = grind (arith, ints)
 
--- ---- the last step
+-- The last step
+
 abbrev pub once : ℕ → LinearSum → Derived
 once n t = record { row = record { term = t }; parts = (n, pos 1) ∷ []; divide = pos 1 }
 
 is128 : (z : ℤ) → unsigned_abs z ≤ 2 ^ 84 → Is128 z
 is128 z h = (omega (arith, ints, h), omega (arith, ints, h))
 
-once-right : (rows : List LinearSum) (n : ℕ) (t : LinearSum) → n < length rows → row_at rows n ≡ t → IsTrue (is_term t) → IsNever t → IsRightStep rows (once n t)
+once-right : (rows : List LinearSum) (n : ℕ) (t : LinearSum) → n < length rows → row_at rows n ≡ t → IsTrue (is_term t) → IsNever t →
+    IsRightStep rows (once n t)
 once-right rows n t h e term never =
     let r = row_at rows n in
     let parts : r.parts ≡ [] = ap (λ (s : LinearSum). s.parts) e ∙ never.parts in
@@ -100,24 +109,39 @@ once-right rows n t h e term never =
     let same : pos 1 *ℤ r.constant ≡ t.constant = one-mul r.constant ∙ constant in
     record {
       named = (h, omega (arith, ints), tt);
-      columns_fit = λ x. subst (λ (z : ℤ). FitsAlong (pos 0) (z ∷ [])) (sym (zero_at x)) (is128 (pos 0) (omega arith), is128 (pos 0) (omega arith), tt);
-      constant_fits = subst (λ (z : ℤ). FitsAlong (pos 0) (z ∷ [])) (sym same) (is128 t.constant limit, is128 (pos 0 +ℤ t.constant) (omega (arith, ints, limit)), tt);
+      columns_fit = λ x. subst (λ (z : ℤ). FitsAlong (pos 0) (z ∷ [])) (sym (zero_at x)) (
+        is128 (pos 0) (omega arith),
+        is128 (pos 0) (omega arith),
+        tt,
+      );
+      constant_fits = subst (λ (z : ℤ). FitsAlong (pos 0) (z ∷ [])) (sym same) (
+        is128 t.constant limit,
+        is128 (pos 0 +ℤ t.constant)
+            (omega (arith, ints, limit)),
+        tt,
+      );
       divisor = omega (arith, ints);
       divided = λ x. ap (λ ps. listed_at x (plus_parts (pos 1) ps [])) parts ∙ sym (ap (λ ps. pos 1 *ℤ listed_at x ps) never.parts);
       rounded = (omega (arith, ints, same, one-mul t.constant), omega (arith, ints, same, one-mul t.constant));
     }
 
-pub right-more : (base : List LinearSum) (ds : List Derived) (d : Derived) → AreRightSteps base ds → IsRightStep (rows_after base ds) d → AreRightSteps base (ds ++ d ∷ [])
+pub right-more : (base : List LinearSum) (ds : List Derived) (d : Derived) → AreRightSteps base ds → IsRightStep (rows_after base ds) d →
+    AreRightSteps base (ds ++ d ∷ [])
 right-more base [] d h k = (k, tt)
 right-more base (e ∷ ds) d h k = (h.0, right-more (base ++ e.row.term ∷ []) ds d h.1 k)
 
-pub ends-last : (ds : List Derived) (d : Derived) → (d.row.term.parts ≡ []) × (pos 1 ≤ℤ d.row.term.constant) → EndsInContradiction (ds ++ d ∷ [])
+pub ends-last : (ds : List Derived) (d : Derived) → (d.row.term.parts ≡ []) × (pos 1 ≤ℤ d.row.term.constant) →
+    EndsInContradiction (ds ++ d ∷ [])
 ends-last [] d h = h
 ends-last (e ∷ []) d h = h
 ends-last (e ∷ f ∷ ds) d h = ends-last (f ∷ ds) d h
 
 -- steps and the contradiction once more
-pub closed-right : (base : List LinearSum) (ds : List Derived) (n : ℕ) (t : LinearSum) → IsTrue (is_term t) → IsTrue (is_contradiction t) → AreRightSteps base ds → n < length (rows_after base ds) → row_at (rows_after base ds) n ≡ t → AreRightSteps base (ds ++ once n t ∷ []) × EndsInContradiction (ds ++ once n t ∷ [])
+pub closed-right : (base : List LinearSum) (ds : List Derived) (n : ℕ) (t : LinearSum) → IsTrue (is_term t) → IsTrue (is_contradiction t) →
+    AreRightSteps base ds → n < length (rows_after base ds) → row_at (rows_after base ds) n ≡ t → AreRightSteps base (ds ++ once n t ∷ [])
+    × EndsInContradiction (ds ++ once n t ∷ [])
 closed-right base ds n t term c h k e =
-    let never = contradiction-is t c in
-    (right-more base ds (once n t) h (once-right (rows_after base ds) n t k e term never), ends-last ds (once n t) (never.parts, never.constant))
+    let never = contradiction-is t c in (
+      right-more base ds (once n t) h (once-right (rows_after base ds) n t k e term never),
+      ends-last ds (once n t) (never.parts, never.constant),
+    )

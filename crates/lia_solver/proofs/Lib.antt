@@ -1,7 +1,7 @@
 pub mod NamedColumns
 pub mod Listed
 pub mod Bounding
-pub mod Meets
+pub mod ChosenPoints
 pub mod Splitting
 pub mod Choosing
 pub mod Starting

@@ -15,9 +15,10 @@ use Rattle.lia_solver.specs.Answers.{IsAnswer, IfPoint}
 use Rattle.lia_solver.specs.declared.solved.Solved.{Solved}
 use Rattle.lia_solver.specs.declared.solved.Solved.TheVariants.{Point, Never, Limit}
 use Rattle.lia_solver.specs.declared.search.Searched.{Searched}
-use Rattle.lia_solver.specs.Branches.{branch_rows, IsSearched}
+use Rattle.lia_solver.specs.steps.Branches.{branch_rows, IsSearched}
 
--- ---- how many columns
+-- How many columns
+
 pub too-many-columns : (atoms : List Atom) → 256 < length (columns_of (rows_of atoms)) → solution atoms ≡ limit_met Columns
 too-many-columns atoms h =
     ap (λ b. if b then limit_met Columns else search 512 [] atoms) (lt_test 256 (length (columns_of (rows_of atoms))) h) where
@@ -30,16 +31,22 @@ few-columns atoms h =
       lt_fails : (a b : ℕ) → b ≤ a → nat_lt a b ≡ false
       lt_fails a b h = grind arith
 
--- ---- without splits
+-- Without splits
+
 all-taken : (n : ℕ) (atoms : List Atom) → n ≡ length atoms → (take n atoms ≡ atoms) × (drop n atoms ≡ [])
 all-taken n atoms e =
     let none : drop n atoms ≡ [] = ap (λ k. drop k atoms) e ∙ drop-length atoms in
     (sym (append-nil (take n atoms)) ∙ ap (λ as_. take n atoms ++ as_) (sym none) ∙ take-append-drop n atoms, none)
 
-pub searched-whole : (atoms copied : List Atom) (n depth : ℕ) (splits more : List Cube) (s : Searched) → copied ≡ atoms → n ≡ length atoms → splits ≡ [] → IsSearched (take n copied) (drop n copied) depth more (search depth splits copied) s → IsSearched atoms [] depth more (search depth [] atoms) s
+pub searched-whole : (atoms copied : List Atom) (n depth : ℕ) (splits more : List Cube) (s : Searched) → copied ≡ atoms → n ≡ length atoms →
+    splits ≡ [] → IsSearched (take n copied) (drop n copied) depth more (search depth splits copied) s → IsSearched atoms [] depth more
+    (search depth [] atoms) s
 searched-whole atoms copied n depth splits more s ec en es h =
     let whole = all-taken n copied (en ∙ ap length (sym ec)) in
-    subst (λ (ps : List Cube). IsSearched atoms [] depth more (search depth ps atoms) s) es (subst (λ (as_ : List Atom). IsSearched as_ [] depth more (search depth splits as_) s) ec (subst (λ (as_ : List Atom). IsSearched copied as_ depth more (search depth splits copied) s) whole.1 (subst (λ (as_ : List Atom). IsSearched as_ (drop n copied) depth more (search depth splits copied) s) whole.0 h)))
+    subst (λ (ps : List Cube). IsSearched atoms [] depth more (search depth ps atoms) s) es
+    (subst (λ (as_ : List Atom). IsSearched as_ [] depth more (search depth splits as_) s) ec
+    (subst (λ (as_ : List Atom). IsSearched copied as_ depth more (search depth splits copied) s) whole.1
+    (subst (λ (as_ : List Atom). IsSearched as_ (drop n copied) depth more (search depth splits copied) s) whole.0 h)))
 
 pub refutes-whole : (atoms : List Atom) (c : Refutation) → IsRight (branch_rows atoms []) c → IsRight (base_rows atoms) c
 refutes-whole atoms c h =

@@ -17,17 +17,18 @@ use Rattle.shadow_elim.specs.Points.{chosen, refuted, too_wide, too_many_rows, w
 use Rattle.shadow_elim.specs.Plan.{outcome_of}
 use Rattle.shadow_elim.specs.Reduction.{is_contradiction}
 use Rattle.shadow_elim.specs.Stages.{AreStages}
-use Rattle.lia_solver.specs.Choices.{HasRange, CanChoose, columns_of_values, columns_of_stages}
+use Rattle.lia_solver.specs.steps.Choices.{HasRange, CanChoose, columns_of_values, columns_of_stages}
 use Rattle.shadow_elim.proofs.Members.{Among, among-append_left, among-append_right, among-append_cases, among-contains}
 use Rattle.shadow_elim.proofs.Staying.{met-among, met-from}
 use Rattle.shadow_elim.proofs.Keeping.{met-holds}
 use Rattle.shadow_elim.proofs.Naming.{AllTerms, listed-terms}
 use Rattle.shadow_elim.proofs.Exact.{range-listed}
 use Rattle.lia_solver.proofs.NamedColumns.{IsNamed, named-among}
-use Rattle.lia_solver.proofs.Meets.{test-from_ascends, values-ascend, NamesOnly, outcome-chosen}
+use Rattle.lia_solver.proofs.ChosenPoints.{test-from_ascends, values-ascend, NamesOnly, outcome-chosen}
 use Rattle.lia_solver.proofs.Choosing.{all-from, range-from, columns-are}
 
--- ---- columns
+-- Columns
+
 order-among : (ts : List LinearSum) (t : LinearSum) → RowsInOrder ts → Among t ts → InOrder 0 t.parts
 order-among [] t h k = absurd k
 order-among (s ∷ ts) t h (inl e) = subst (λ (u : LinearSum). InOrder 0 u.parts) e h.0
@@ -42,7 +43,8 @@ range-among x (y ∷ ys) (inr h) = inr (inr (range-among x ys h))
 columns-small : (atoms : List Atom) → IsTrue (are_terms atoms) → (x : ℕ) → Among x (columns_of (rows_of atoms)) → x < 2 ^ 32
 columns-small atoms h x k =
     let xs = columns_of (rows_of atoms) in
-    (order-among (base_rows atoms) (upper_range x) (base-order atoms h) (among-append_right (rows_of atoms) (range_rows xs) (upper_range x) (range-among x xs k))).1
+    (order-among (base_rows atoms) (upper_range x) (base-order atoms h) (among-append_right (rows_of atoms) (range_rows xs) (upper_range x)
+    (range-among x xs k))).1
 
 unnamed : (y : ℕ) (ps : List (ℕ × ℤ)) → (IsNamed y ps → ⊥) → listed_at y ps ≡ pos 0
 unnamed y [] n = refl
@@ -73,9 +75,11 @@ pub base-terms : (atoms : List Atom) → IsTrue (are_terms atoms) → AllTerms (
 base-terms atoms h =
     listed-terms atoms (columns_of (rows_of atoms)) h (all-from (λ x. x < 2 ^ 32) (columns_of (rows_of atoms)) (columns-small atoms h))
 
--- ---- what an elimination comes to
+-- What an elimination comes to
+
 -- the stages of a cube's columns, without a contradiction in the rows that are left
-pub base-can : (atoms : List Atom) (stages : List Stage) (left : List LinearSum) → IsTrue (are_terms atoms) → AreStages (columns_of (rows_of atoms)) (base_rows atoms) stages left → IsTrue (not (list_any is_contradiction left)) → CanChoose stages
+pub base-can : (atoms : List Atom) (stages : List Stage) (left : List LinearSum) → IsTrue (are_terms atoms) →
+    AreStages (columns_of (rows_of atoms)) (base_rows atoms) stages left → IsTrue (not (list_any is_contradiction left)) → CanChoose stages
 base-can atoms stages left h p c =
     let xs = columns_of (rows_of atoms) in
     let rows = base_rows atoms in
@@ -92,20 +96,26 @@ base-can atoms stages left h p c =
     }
 
 -- values of these columns ascend
-pub base-ascending : (atoms : List Atom) (stages : List Stage) (left : List LinearSum) (values : List (ℕ × ℤ)) → AreStages (columns_of (rows_of atoms)) (base_rows atoms) stages left → columns_of_values values ≡ columns_of_stages stages → IsTrue (is_ascending values)
+pub base-ascending : (atoms : List Atom) (stages : List Stage) (left : List LinearSum) (values : List (ℕ × ℤ)) →
+    AreStages (columns_of (rows_of atoms)) (base_rows atoms) stages left → columns_of_values values ≡ columns_of_stages stages →
+    IsTrue (is_ascending values)
 base-ascending atoms stages left values p e =
     let xs = columns_of (rows_of atoms) in
     values-ascend 0 values (subst (Ascends 0) (sym (e ∙ columns-are xs (base_rows atoms) stages left p)) (columns-ascend (rows_of atoms)))
 
 -- all atoms hold at the values that are chosen
-pub base-chosen : (atoms : List Atom) (values : List (ℕ × ℤ)) → IsTrue (are_terms atoms) → outcome_of atoms ≡ chosen values → HoldsAll (valuation values) atoms
+pub base-chosen : (atoms : List Atom) (values : List (ℕ × ℤ)) → IsTrue (are_terms atoms) → outcome_of atoms ≡ chosen values →
+    HoldsAll (valuation values) atoms
 base-chosen atoms values h e =
     let xs = columns_of (rows_of atoms) in
     let met = (outcome-chosen xs (base_rows atoms) values (columns-ascend (rows_of atoms)) (base-terms atoms h) (base-named atoms) e).met in
-    met-holds (valuation values) atoms (met-from (valuation values) (rows_of atoms) (λ t k. met-among (valuation values) (base_rows atoms) t met (among-append_left (rows_of atoms) (range_rows xs) t k)))
+    met-holds (valuation values) atoms (met-from (valuation values) (rows_of atoms) (λ t k. met-among (valuation values) (base_rows atoms) t
+    met (among-append_left (rows_of atoms) (range_rows xs) t k)))
 
--- ---- other outcomes
-pub outcome-refuted : (columns : List ℕ) (rows : List LinearSum) (stages : List Stage) (left : List LinearSum) → AreStages columns rows stages left → list_any is_contradiction left ≡ true → outcome columns rows ≡ refuted
+-- Other outcomes
+
+pub outcome-refuted : (columns : List ℕ) (rows : List LinearSum) (stages : List Stage) (left : List LinearSum) →
+    AreStages columns rows stages left → list_any is_contradiction left ≡ true → outcome columns rows ≡ refuted
 outcome-refuted [] rows [] left h e =
     ap (λ b. if b then refuted else chosen []) (ap (list_any is_contradiction) (sym h) ∙ e)
 outcome-refuted [] rows (s ∷ ss) left h e = absurd h
@@ -116,15 +126,18 @@ outcome-refuted (x ∷ xs) rows (s ∷ ss) left h e =
 pub outcome-wide : (columns : List ℕ) (rows : List LinearSum) → elimination columns rows ≡ wide → outcome columns rows ≡ too_wide
 outcome-wide [] rows h = absurd (cc)
 outcome-wide (x ∷ xs) rows h = by_remainder (λ next. outcome-wide xs next) (after_column x rows) refl h where
-  by_remainder : ((next : List LinearSum) → elimination xs next ≡ wide → outcome xs next ≡ too_wide) → (r : Remainder) → after_column x rows ≡ r → and_then (elimination xs) r ≡ wide → with_value x rows (outcome_after (outcome xs) r) ≡ too_wide
+  by_remainder : ((next : List LinearSum) → elimination xs next ≡ wide → outcome xs next ≡ too_wide) → (r : Remainder) → after_column x rows
+      ≡ r → and_then (elimination xs) r ≡ wide → with_value x rows (outcome_after (outcome xs) r) ≡ too_wide
   by_remainder i (remains next) e k = ap (with_value x rows) (i next k)
   by_remainder i wide e k = refl
   by_remainder i too_many e k = absurd (cc)
 
-pub outcome-too_many : (columns : List ℕ) (rows : List LinearSum) → elimination columns rows ≡ too_many → outcome columns rows ≡ too_many_rows
+pub outcome-too_many : (columns : List ℕ) (rows : List LinearSum) → elimination columns rows ≡ too_many → outcome columns rows
+    ≡ too_many_rows
 outcome-too_many [] rows h = absurd (cc)
 outcome-too_many (x ∷ xs) rows h = by_remainder (λ next. outcome-too_many xs next) (after_column x rows) refl h where
-  by_remainder : ((next : List LinearSum) → elimination xs next ≡ too_many → outcome xs next ≡ too_many_rows) → (r : Remainder) → after_column x rows ≡ r → and_then (elimination xs) r ≡ too_many → with_value x rows (outcome_after (outcome xs) r) ≡ too_many_rows
+  by_remainder : ((next : List LinearSum) → elimination xs next ≡ too_many → outcome xs next ≡ too_many_rows) → (r : Remainder) →
+      after_column x rows ≡ r → and_then (elimination xs) r ≡ too_many → with_value x rows (outcome_after (outcome xs) r) ≡ too_many_rows
   by_remainder i (remains next) e k = ap (with_value x rows) (i next k)
   by_remainder i wide e k = absurd (cc)
   by_remainder i too_many e k = refl

@@ -1,10 +1,3 @@
 pub mod Answers
-pub mod Branches
-pub mod Choices
 pub mod Entailment
-pub mod Numbers
-pub mod Searches
-pub mod Asked
-pub mod Further
-pub mod Settling
-pub mod Pruned
+pub mod steps

@@ -5,14 +5,13 @@ ghost use Rattle.linear_formula.specs.LinearSum.{LinearSum};
 ghost use Rattle.linear_formula.specs.declared.formula.Atom.{Atom};
 ghost use Rattle.linear_formula.specs.Formula.{are_terms};
 ghost use Rattle.infeasible_cert.specs.Right.{columns_of, rows_of, range_rows};
-ghost use Rattle.shadow_elim.specs.Making.{terms_of};
+ghost use Rattle.shadow_elim.specs.Stages.{terms_of, AreNumbered};
 ghost use Rattle.shadow_elim.specs.Plan.{outcome_of};
-ghost use Rattle.shadow_elim.specs.Stages.{AreNumbered};
-ghost use Rattle.lia_solver.specs.Branches.{planned, branch_rows, IsRightOutcome, IsBranch};
-ghost use Rattle.lia_solver.specs.Further.{AreOutcomeTerms};
-ghost use Rattle.lia_solver.specs.Numbers.{numbered_from};
-ghost use Rattle.lia_solver.specs.Pruned.{NameEarlier};
-ghost use Rattle.lia_solver.specs.Settling.{IsEliminated, IsDerived, IsSettled};
+ghost use Rattle.lia_solver.specs.steps.Branches.{planned, branch_rows, IsRightOutcome, IsBranch};
+ghost use Rattle.lia_solver.specs.steps.Further.{AreOutcomeTerms};
+ghost use Rattle.lia_solver.specs.steps.Numbers.{numbered_from};
+ghost use Rattle.lia_solver.specs.steps.Pruned.{NameEarlier};
+ghost use Rattle.lia_solver.specs.steps.Settling.{IsEliminated, IsDerived, IsSettled};
 
 use crate::choice::{Choice, choose};
 use crate::refutation::{contradiction, derivation};
@@ -37,7 +36,9 @@ pub enum BranchOutcome {
 
 /// Adds a row. Where its number is beyond 32 bits, there would be no memory for the rows.
 fn push_row(rows: &mut Vec<Row>, term: Term, number: usize) -> Result<(), OutOfMemory>
-    ensures { OnOk result (rows.new.items ≡ rows.old.items ++ record { term = term; number = number } ∷ []) }
+    ensures { OnOk result (rows.new.items ≡ rows.old.items
+        ++ record { term = term; number = number }
+        ∷ []) }
 {
     match u32::try_from(number) {
         Ok(number) => {
@@ -56,7 +57,8 @@ fn push_atoms(
     first: usize,
 ) -> Result<(), OutOfMemory>
     requires { first + length atoms.now < 2 ^ 63 }
-    ensures { OnOk result (rows.new.items ≡ rows.old.items ++ numbered_from first (rows_of atoms.now)) }
+    ensures { OnOk result (rows.new.items ≡ rows.old.items ++ numbered_from first
+        (rows_of atoms.now)) }
 {
     for (place, atom) in atoms.iter().enumerate() {
         push_row(rows, atom.term.copy(alloc)?, first + place)?;
@@ -72,7 +74,8 @@ fn push_ranges(
     first: usize,
 ) -> Result<(), OutOfMemory>
     requires { first + 2 * length columns.now < 2 ^ 63 }
-    ensures { OnOk result (rows.new.items ≡ rows.old.items ++ numbered_from first (range_rows columns.now)) }
+    ensures { OnOk result (rows.new.items ≡ rows.old.items ++ numbered_from first
+        (range_rows columns.now)) }
 {
     for (place, column) in columns.iter().enumerate() {
         push_row(rows, upper_range(alloc, *column)?, first + 2 * place)?;
@@ -81,7 +84,8 @@ fn push_ranges(
     Ok(())
 }
 
-/// The rows of a branch with their numbers in its certificate: there the ranges come before the rows of the splits.
+/// The rows of a branch with their numbers in its certificate: there the ranges come before the
+/// rows of the splits.
 fn numbered_rows(
     alloc: Global,
     question: &[Atom],
@@ -89,9 +93,12 @@ fn numbered_rows(
     columns: &[u32],
 ) -> Result<Vec<Row>, OutOfMemory>
     requires { columns.now ≡ columns_of (rows_of question.now) }
-    ensures terms { IfOk result (λ rows. terms_of rows.items ≡ rows_of (question.now ++ splits.now) ++ range_rows columns.now) }
-    ensures numbers { IfOk result (λ rows. AreNumbered (branch_rows question.now splits.now) rows.items) }
-    ensures count { IfOk result (λ rows. length rows.items ≡ length (branch_rows question.now splits.now)) }
+    ensures terms { IfOk result (λ rows. terms_of rows.items ≡ rows_of (question.now ++ splits.now)
+        ++ range_rows columns.now) }
+    ensures numbers { IfOk result (λ rows. AreNumbered (branch_rows question.now splits.now)
+        rows.items) }
+    ensures count { IfOk result
+        (λ rows. length rows.items ≡ length (branch_rows question.now splits.now)) }
 {
     let ranges = question.len();
     let further = ranges + 2 * columns.len();
@@ -110,8 +117,10 @@ fn settled(
 ) -> Result<BranchOutcome, OutOfMemory>
     requires eliminated { (atoms : List Atom) × IsEliminated atoms elimination }
     requires earlier { NameEarlier first elimination.steps.items }
-    ensures plan { IfOk result (λ o. (atoms : List Atom) → IsEliminated atoms elimination → outcome_of atoms ≡ planned o) }
-    ensures right { IfOk result (λ o. (atoms : List Atom) (base : List LinearSum) → IsEliminated atoms elimination →
+    ensures plan { IfOk result (λ o. (atoms : List Atom) → IsEliminated atoms elimination →
+        outcome_of atoms ≡ planned o) }
+    ensures right { IfOk result (λ o. (atoms : List Atom) (base : List LinearSum) →
+        IsEliminated atoms elimination →
         length base ≡ first → IsDerived base elimination → IsSettled atoms base o) }
     ensures terms { IfOk result (λ o. AreOutcomeTerms o) }
 {

@@ -7,8 +7,8 @@ ghost use Rattle.shadow_elim.specs.Elimination.{size_of};
 ghost use Rattle.shadow_elim.specs.Points.{outcome, least_value, greatest_value, nearest};
 ghost use Rattle.shadow_elim.specs.Reduction.{is_contradiction};
 ghost use Rattle.shadow_elim.specs.Stages.{AreStages};
-ghost use Rattle.lia_solver.specs.Branches.{chosen_by, IfValues, IfSplit};
-ghost use Rattle.lia_solver.specs.Choices.{stage_low, stage_floor, stage_high, extended, Bounds, CanChoose, columns_of_values, columns_of_stages};
+ghost use Rattle.lia_solver.specs.steps.Branches.{chosen_by, IfValues, IfSplit};
+ghost use Rattle.lia_solver.specs.steps.Choices.{stage_low, stage_floor, stage_high, extended, Bounds, CanChoose, columns_of_values, columns_of_stages};
 
 use linear_formula::assignment::{Assignment, Values};
 use linear_formula::error::OutOfMemory;
@@ -28,7 +28,8 @@ pub enum Choice {
     Split { column: u32, at: i64 },
 }
 
-/// What lower rows say of a column: the least integer that they allow, and the greatest one that is not above their
+/// What lower rows say of a column: the least integer that they allow, and the greatest one that is
+/// not above their
 /// bound.
 struct LowerBound {
     bound: i128,
@@ -109,14 +110,20 @@ fn extend(stage: &Stage, values: Values) -> Result<Choice, OutOfMemory>
     Ok(Choice::Values(Values::from_vec(items)))
 }
 
-/// Values for the columns of the stages, by the rows of the stages. The recursion is as deep as there are columns.
+/// Values for the columns of the stages, by the rows of the stages. The recursion is as deep as
+/// there are columns.
 #[cycle(choose)]
 pub fn choose(alloc: Global, stages: &[Stage]) -> Result<Choice, OutOfMemory>
     requires { CanChoose stages.now }
-    ensures plan { IfOk result (λ c. (columns : List ℕ) (rows left : List LinearSum) → AreStages columns rows stages.now left →
+    ensures plan { IfOk result (λ c. (columns : List ℕ) (rows left : List LinearSum) →
+        AreStages columns rows stages.now left →
         IsTrue (not (list_any is_contradiction left)) → outcome columns rows ≡ chosen_by c) }
-    ensures values { IfOk result (λ c. IfValues c (λ values. columns_of_values values ≡ columns_of_stages stages.now)) }
-    ensures sides { IfOk result (λ c. IfSplit c (λ column at. (at <ℤ greatest_value) × Contains (columns_of_stages stages.now) column)) }
+    ensures values { IfOk result
+        (λ c. IfValues c (λ values. columns_of_values values ≡ columns_of_stages stages.now)) }
+    ensures sides { IfOk result
+        (λ c. IfSplit c (λ column at. (at <ℤ greatest_value)
+        × Contains (columns_of_stages stages.now)
+        column)) }
 {
     let Some((stage, rest)) = stages.split_first() else {
         return Ok(Choice::Values(Values::from_vec(Vec::new(alloc))));

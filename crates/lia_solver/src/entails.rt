@@ -7,8 +7,8 @@ ghost use Rattle.linear_formula.specs.Results.{negated};
 ghost use Rattle.linear_formula.specs.declared.formula.Atom.{Atom};
 ghost use Rattle.infeasible_cert.specs.Refutation.{refutation_of};
 ghost use Rattle.infeasible_cert.specs.Terms.{HasTerms};
-ghost use Rattle.lia_solver.specs.Asked.{IsAnswerTo};
-ghost use Rattle.lia_solver.specs.Further.{IsMeant};
+ghost use Rattle.lia_solver.specs.steps.Asked.{IsAnswerTo};
+ghost use Rattle.lia_solver.specs.steps.Further.{IsMeant};
 ghost use Rattle.shadow_elim.specs.Entailment.{StopsAt, IsPointOf, IsLimitOf};
 ghost use Rattle.shadow_elim.specs.Questions.{IsShownToEntail};
 ghost use Rattle.lia_solver.specs.Entailment.{RefuteEach, IfYes, IfNo, IfLimit};
@@ -17,11 +17,11 @@ use crate::solve::solve;
 use crate::solved::{Certificates, Entailed, Solved};
 use infeasible_cert::certificate::Certificate;
 use linear_formula::assignment::Assignment;
-use linear_formula::error::{LinError, OutOfMemory};
+use linear_formula::error::OutOfMemory;
 use linear_formula::formula::{Atom, Cube};
 use linear_formula::question::{Question, Summands};
 use shadow_elim::limit::{Kept, Limit};
-use std::alloc::{AllocError, Global};
+use std::alloc::Global;
 
 /// What an atom's question comes to.
 enum Answer {
@@ -63,20 +63,26 @@ fn ask(alloc: Global, left: &Cube, atom: &Atom) -> Result<Answer, OutOfMemory>
     }
 }
 
-/// Whether each assignment that meets the left cube meets the right one. The atoms of the right cube are asked in
+/// Whether each assignment that meets the left cube meets the right one. The atoms of the right
+/// cube are asked in
 /// order, until one isn't entailed or meets a limit.
 pub fn entails(alloc: Global, left: &Cube, right: &Cube) -> Result<Entailed, OutOfMemory>
-    ensures yes { IfOk result (λ e. IfYes e (λ certificates. RefuteEach left.now.atoms right.now.atoms certificates)) }
-    ensures plan { IfOk result (λ e. IfYes e (λ certificates. IsShownToEntail left.now.atoms right.now.atoms)) }
-    ensures entailed { IfOk result (λ e. IfYes e (λ certificates. (v : Valuation) → Is64 v → HoldsAll v left.now.atoms →
+    ensures yes { IfOk result
+        (λ e. IfYes e (λ certificates. RefuteEach left.now.atoms right.now.atoms certificates)) }
+    ensures plan { IfOk result
+        (λ e. IfYes e (λ certificates. IsShownToEntail left.now.atoms right.now.atoms)) }
+    ensures entailed { IfOk result
+        (λ e. IfYes e (λ certificates. (v : Valuation) → Is64 v → HoldsAll v left.now.atoms →
         HoldsAll v right.now.atoms)) }
     ensures terms { IfOk result (λ e. IfYes e (All (λ c. HasTerms (refutation_of c)))) }
     ensures values { IfOk result (λ e. IfNo e (λ at. Is64 (valuation at))) }
     ensures left { IfOk result (λ e. IfNo e (λ at. HoldsAll (valuation at) left.now.atoms)) }
     ensures right { IfOk result (λ e. IfNo e (λ at. ¬ HoldsAll (valuation at) right.now.atoms)) }
-    ensures first_no { IfOk result (λ e. IfNo e (λ at. StopsAt left.now.atoms right.now.atoms (IsPointOf left.now.atoms at))) }
+    ensures first_no { IfOk result
+        (λ e. IfNo e (λ at. StopsAt left.now.atoms right.now.atoms (IsPointOf left.now.atoms at))) }
     ensures first_limit { IfOk result
-        (λ e. IfLimit e (λ kept. StopsAt left.now.atoms right.now.atoms (IsLimitOf left.now.atoms kept))) }
+        (λ e. IfLimit e (λ kept. StopsAt left.now.atoms right.now.atoms
+        (IsLimitOf left.now.atoms kept))) }
 {
     let mut certificates = Vec::new(alloc);
     for atom in right.atoms.as_slice() {

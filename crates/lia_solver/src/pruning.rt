@@ -5,7 +5,7 @@ ghost use Rattle.linear_formula.specs.LinearSum.{LinearSum};
 ghost use Rattle.infeasible_cert.specs.declared.certificate.Derived.{Derived};
 ghost use Rattle.infeasible_cert.specs.Right.{AreRightSteps};
 ghost use Rattle.infeasible_cert.specs.Terms.{AreDerivedTerms};
-ghost use Rattle.lia_solver.specs.Pruned.{NameEarlier, new_number, renumbered_parts, renumbered, kept_step, AreClosed, IsLastMark, EndWith, with_named, with_needed};
+ghost use Rattle.lia_solver.specs.steps.Pruned.{NameEarlier, new_number, renumbered_parts, renumbered, kept_step, AreClosed, IsLastMark, EndWith, with_named, with_needed};
 
 use infeasible_cert::certificate::{Derived, Multiples};
 use linear_formula::error::OutOfMemory;
@@ -51,7 +51,9 @@ fn mark_needed(marks: &mut [bool], steps: &[Derived], first: u32)
 
 /// Marks the step at `last` and what it needs.
 fn marked(alloc: Global, steps: &[Derived], last: u32, first: u32) -> Result<Vec<bool>, OutOfMemory>
-    ensures { IfOk result (λ marks. marks.items ≡ with_needed first (slice_set (replicate (length steps.now) false) last true) 0 steps.now) }
+    ensures { IfOk result
+        (λ marks. marks.items ≡ with_needed first (slice_set (replicate (length steps.now) false)
+        last true) 0 steps.now) }
 {
     let mut marks = vec![in alloc; false; steps.len()]?;
     mark_one(&mut marks, last as usize);
@@ -140,8 +142,10 @@ fn add_step(
     needed: bool,
 ) -> Result<(), OutOfMemory>
     requires { needed ≡ true → All (λ p. p.0 < first + length numbers.old.items) step.parts }
-    ensures numbers { OnOk result (numbers.new.items ≡ numbers.old.items ++ (first + length kept.old.items) ∷ []) }
-    ensures kept { OnOk result (kept.new.items ≡ kept.old.items ++ kept_step needed first numbers.old.items step) }
+    ensures numbers { OnOk result (numbers.new.items ≡ numbers.old.items
+        ++ (first + length kept.old.items) ∷ []) }
+    ensures kept { OnOk result (kept.new.items ≡ kept.old.items ++ kept_step needed first
+        numbers.old.items step) }
     ensures terms { OnOk result (AreDerivedTerms kept.old.items → AreDerivedTerms kept.new.items) }
 {
     let number = next_number(first, kept.len())?;
@@ -162,7 +166,8 @@ pub fn pruned(
     requires { AreClosed first steps.items marks.now }
     ensures right { IfOk result (λ kept. (base : List LinearSum) → length base ≡ first →
         AreRightSteps base steps.items → AreRightSteps base kept.items) }
-    ensures ends { IfOk result (λ kept. (last : ℕ) (d : Derived) → IsLastMark marks.now last → last < length steps.items →
+    ensures ends { IfOk result (λ kept. (last : ℕ) (d : Derived) → IsLastMark marks.now last →
+        last < length steps.items →
         EndWith (slice_index_or steps.items last d).row.term kept.items) }
     ensures terms { IfOk result (λ kept. AreDerivedTerms kept.items) }
 {

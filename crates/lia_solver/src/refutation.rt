@@ -5,7 +5,7 @@ ghost use Rattle.linear_formula.specs.LinearSum.{LinearSum};
 ghost use Rattle.infeasible_cert.specs.Right.{row_at, rows_after, AreRightSteps, EndsInContradiction};
 ghost use Rattle.infeasible_cert.specs.Terms.{AreDerivedTerms};
 ghost use Rattle.shadow_elim.specs.Reduction.{is_contradiction};
-ghost use Rattle.lia_solver.specs.Pruned.{NameEarlier};
+ghost use Rattle.lia_solver.specs.steps.Pruned.{NameEarlier};
 
 use crate::pruning::{needed, pruned};
 use infeasible_cert::certificate::{Derived, Multiples};
@@ -30,7 +30,8 @@ pub fn contradiction(rows: &[Row]) -> Option<&Row>
 fn restated(alloc: Global, row: &Row) -> Result<Vec<Derived>, OutOfMemory>
     requires { IsTrue (is_contradiction row.now.term) }
     ensures right { IfOk result (λ steps. (base : List LinearSum) → row.now.number < length base →
-        row_at base row.now.number ≡ row.now.term → (AreRightSteps base steps.items × EndsInContradiction steps.items)) }
+        row_at base row.now.number ≡ row.now.term →
+        (AreRightSteps base steps.items × EndsInContradiction steps.items)) }
     ensures terms { IfOk result (λ steps. AreDerivedTerms steps.items) }
 {
     let _ = row.term.parts();
@@ -54,8 +55,10 @@ pub fn derivation(
 ) -> Result<Vec<Derived>, OutOfMemory>
     requires contradiction { IsTrue (is_contradiction row.now.term) }
     requires earlier { NameEarlier first steps.items }
-    ensures right { IfOk result (λ kept. (base : List LinearSum) → length base ≡ first → AreRightSteps base steps.items →
-        row.now.number < length (rows_after base steps.items) → row_at (rows_after base steps.items) row.now.number ≡ row.now.term →
+    ensures right { IfOk result (λ kept. (base : List LinearSum) → length base ≡ first →
+        AreRightSteps base steps.items →
+        row.now.number < length (rows_after base steps.items) → row_at (rows_after base steps.items)
+        row.now.number ≡ row.now.term →
         (AreRightSteps base kept.items × EndsInContradiction kept.items)) }
     ensures terms { IfOk result (λ kept. AreDerivedTerms kept.items) }
 {

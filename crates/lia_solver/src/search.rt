@@ -3,11 +3,11 @@
 ghost use Rattle.std.specs.Prelude.{◌≡◌, [], ◌<ℤ◌, pos, take, drop, Contains, IfOk};
 ghost use Rattle.shadow_elim.specs.Points.{split};
 ghost use Rattle.shadow_elim.specs.Plan.{search, with_row, outcome_of};
-ghost use Rattle.lia_solver.specs.Branches.{planned, IsRightOutcome, IsSearched};
+ghost use Rattle.lia_solver.specs.steps.Branches.{planned, IsRightOutcome, IsSearched};
 ghost use Rattle.lia_solver.specs.declared.search.Searched.TheVariants as searched;
 ghost use Rattle.lia_solver.specs.declared.solved.Solved.TheVariants as solved;
-ghost use Rattle.lia_solver.specs.Further.{AreOutcomeTerms, AreSearchedTerms, IsAnswered};
-ghost use Rattle.lia_solver.specs.Searches.{IsSearchable};
+ghost use Rattle.lia_solver.specs.steps.Further.{AreOutcomeTerms, AreSearchedTerms, IsAnswered};
+ghost use Rattle.lia_solver.specs.steps.Searches.{IsSearchable};
 
 use crate::branch::{BranchOutcome, solve_branch};
 use crate::solved::Solved;
@@ -28,7 +28,8 @@ pub enum Searched {
     Nothing(Certificate),
 }
 
-/// The search of one question: how many atoms it has, its columns, and the cubes that were split so far.
+/// The search of one question: how many atoms it has, its columns, and the cubes that were split so
+/// far.
 #[derive(Drop)]
 pub struct Search {
     alloc: Global,
@@ -62,7 +63,8 @@ impl Search {
         requires branch { IsSearchable self.now cube.now.atoms }
         ensures plan { IfOk result (λ o. outcome_of cube.now.atoms ≡ planned o) }
         ensures right { IfOk result
-            (λ o. IsRightOutcome (take self.now.atoms cube.now.atoms) (drop self.now.atoms cube.now.atoms) o) }
+            (λ o. IsRightOutcome (take self.now.atoms cube.now.atoms)
+            (drop self.now.atoms cube.now.atoms) o) }
         ensures terms { IfOk result (λ o. AreOutcomeTerms o) }
     {
         let (question, splits) = cube.atoms.as_slice().split_at(self.atoms);
@@ -74,7 +76,8 @@ impl Search {
     pub fn branch(&mut self, cube: Cube, depth: u32) -> Result<Searched, OutOfMemory>
         requires { IsSearchable self.old cube.atoms }
         ensures searched { IfOk result
-            (λ s. IsSearched (take self.old.atoms cube.atoms) (drop self.old.atoms cube.atoms) depth self.new.splits.items
+            (λ s. IsSearched (take self.old.atoms cube.atoms) (drop self.old.atoms cube.atoms) depth
+            self.new.splits.items
             (search depth self.old.splits.items cube.atoms) s) }
         ensures terms { IfOk result (λ s. AreSearchedTerms s) }
         ensures answered { IfOk result (λ s. IsAnswered s) }
@@ -106,7 +109,8 @@ impl Search {
         requires sides { at <ℤ pos 9223372036854775807 }
         requires column { Contains self.old.columns.items column }
         ensures searched { IfOk result
-            (λ s. IsSearched (take self.old.atoms cube.atoms) (drop self.old.atoms cube.atoms) depth self.new.splits.items
+            (λ s. IsSearched (take self.old.atoms cube.atoms) (drop self.old.atoms cube.atoms) depth
+            self.new.splits.items
             (search depth self.old.splits.items cube.atoms) s) }
         ensures terms { IfOk result (λ s. AreSearchedTerms s) }
         ensures answered { IfOk result (λ s. IsAnswered s) }

@@ -1,8 +1,8 @@
 //! Whether a cube has a point.
 
-ghost use Rattle.std.specs.Prelude.{IfOk, IsTrue};
+ghost use Rattle.std.specs.Prelude.{IfOk};
 ghost use Rattle.linear_formula.specs.LinearSum.{Valuation, Is64, valuation};
-ghost use Rattle.linear_formula.specs.Formula.{HoldsAll, are_terms};
+ghost use Rattle.linear_formula.specs.Formula.{HoldsAll};
 ghost use Rattle.infeasible_cert.specs.Refutation.{refutation_of};
 ghost use Rattle.infeasible_cert.specs.Right.{Refutes};
 ghost use Rattle.infeasible_cert.specs.Terms.{HasTerms};
@@ -24,7 +24,8 @@ pub fn solve(alloc: Global, cube: &Cube) -> Result<Solved, OutOfMemory>
     ensures never { IfOk result (λ s. IfNever s (λ c. Refutes cube.now.atoms (refutation_of c))) }
     ensures values { IfOk result (λ s. IfPoint s (λ at. Is64 (valuation at))) }
     ensures terms { IfOk result (λ s. IfNever s (λ c. HasTerms (refutation_of c))) }
-    ensures sound { IfOk result (λ s. IfNever s (λ c. (v : Valuation) → Is64 v → HoldsAll v cube.now.atoms → ⊥)) }
+    ensures sound { IfOk result
+        (λ s. IfNever s (λ c. (v : Valuation) → Is64 v → HoldsAll v cube.now.atoms → ⊥)) }
 {
     let atoms = cube.atoms.as_slice();
     let columns = columns_of(alloc, atoms)?;

@@ -63,7 +63,8 @@ pub enum Solved {
 /// Whether one cube entails another.
 #[derive(Drop)]
 pub enum Entailed {
-    /// For each atom of the right cube a certificate that the left one and its negation are never met together.
+    /// For each atom of the right cube a certificate that the left one and its negation are never
+    /// met together.
     Yes(Certificates),
     /// The left cube holds here, and the right one doesn't.
     No(Assignment),

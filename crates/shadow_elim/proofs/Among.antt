@@ -4,7 +4,8 @@ use Rattle.std.specs.Prelude.{All, Contains, OnOk}
 use Rattle.std.proofs.lemmas.List.Elements.{All-contains_itself}
 use Rattle.shadow_elim.specs.declared.pairing.Candidate.{Candidate}
 
-pub among_all : {E : Type 0} (old new rows : List Candidate) (row : Candidate) (r : Result (Unit {0}) E) → new ≡ rows ++ row ∷ [] → rows ≡ old → OnOk r (All (λ c. Contains (old ++ row ∷ []) c) new)
+pub among_all : {E : Type 0} (old new rows : List Candidate) (row : Candidate) (r : Result (Unit {0}) E) → new ≡ rows ++ row ∷ [] →
+    rows ≡ old → OnOk r (All (λ c. Contains (old ++ row ∷ []) c) new)
 among_all old new rows row (Ok x) e v =
     let same : old ++ row ∷ [] ≡ new = ap (λ (l : List Candidate). l ++ row ∷ []) (sym v) ∙ sym e in
     subst (λ (l : List Candidate). All (λ c. Contains l c) new) (sym same) (All-contains_itself new)

@@ -36,7 +36,8 @@ min-right a b = by_side (min-cases a b) where
   by_side (inl h) = omega (arith, ints, h.0, h.1)
   by_side (inr h) = omega (arith, ints, h.0)
 
--- ---- the greatest
+-- The greatest
+
 pub greatest-start : (z : ℤ) (ys : List ℤ) → z ≤ℤ greatest_of z ys
 greatest-start z [] = omega (arith, ints)
 greatest-start z (y ∷ ys) = omega (arith, ints, max-left z y, greatest-start (int_max z y) ys)
@@ -58,12 +59,14 @@ greatest-limit z (y ∷ ys) m h k = greatest-limit (int_max z y) ys m (by_side (
 pub greatest-reached : (z : ℤ) (ys : List ℤ) (m : ℤ) → m ≤ℤ greatest_of z ys → (m ≤ℤ z) ⊎ ((w : ℤ) × Among w ys × (m ≤ℤ w))
 greatest-reached z [] m h = inl h
 greatest-reached z (y ∷ ys) m h = by_reach (greatest-reached (int_max z y) ys m h) (max-cases z y) where
-  by_reach : (m ≤ℤ int_max z y) ⊎ ((w : ℤ) × Among w ys × (m ≤ℤ w)) → ((int_max z y ≡ z) × (y ≤ℤ z)) ⊎ ((int_max z y ≡ y) × (z ≤ℤ y)) → (m ≤ℤ z) ⊎ ((w : ℤ) × Among w (y ∷ ys) × (m ≤ℤ w))
+  by_reach : (m ≤ℤ int_max z y) ⊎ ((w : ℤ) × Among w ys × (m ≤ℤ w)) → ((int_max z y ≡ z) × (y ≤ℤ z)) ⊎ ((int_max z y ≡ y) × (z ≤ℤ y)) →
+      (m ≤ℤ z) ⊎ ((w : ℤ) × Among w (y ∷ ys) × (m ≤ℤ w))
   by_reach (inl k) (inl e) = inl (omega (arith, ints, e.0, k))
   by_reach (inl k) (inr e) = inr (y, inl refl, omega (arith, ints, e.0, k))
   by_reach (inr k) e = inr (k.0, inr k.1, k.2)
 
--- ---- the least
+-- The least
+
 pub least-start : (z : ℤ) (ys : List ℤ) → least_of z ys ≤ℤ z
 least-start z [] = omega (arith, ints)
 least-start z (y ∷ ys) = omega (arith, ints, min-left z y, least-start (int_min z y) ys)
@@ -80,7 +83,8 @@ least-limit z (y ∷ ys) m h k = least-limit (int_min z y) ys m (by_side (min-ca
   by_side (inl e) = omega (arith, ints, e.0, h)
   by_side (inr e) = omega (arith, ints, e.0, k y (inl refl))
 
--- ---- the nearest
+-- The nearest
+
 pub nearest-within : (low high : ℤ) → low ≤ℤ high → (low ≤ℤ nearest low high) × (nearest low high ≤ℤ high)
 nearest-within low high h = by_tests (int_lt (pos 0) low) (int_lt high (pos 0)) refl refl where
   above : int_lt (pos 0) low ≡ false → low ≤ℤ pos 0
@@ -89,7 +93,8 @@ nearest-within low high h = by_tests (int_lt (pos 0) low) (int_lt high (pos 0)) 
   below : int_lt high (pos 0) ≡ false → pos 0 ≤ℤ high
   below e = grind (arith, ints)
 
-  by_tests : (s t : Bool) → int_lt (pos 0) low ≡ s → int_lt high (pos 0) ≡ t → (low ≤ℤ (if s then low else (if t then high else pos 0))) × ((if s then low else (if t then high else pos 0)) ≤ℤ high)
+  by_tests : (s t : Bool) → int_lt (pos 0) low ≡ s → int_lt high (pos 0) ≡ t → (low ≤ℤ (if s then low else (if t then high else pos 0)))
+      × ((if s then low else (if t then high else pos 0)) ≤ℤ high)
   by_tests true t e f = (omega (arith, ints), h)
   by_tests false true e f = (h, omega (arith, ints))
   by_tests false false e f = (above e, below f)

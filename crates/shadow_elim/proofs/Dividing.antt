@@ -20,15 +20,19 @@ parts_divisor-one (suc k) [] h = h
 parts_divisor-one (suc k) (p ∷ ps) h =
     ap (common_divisor (unsigned_abs p.1)) (parts_divisor-one k ps h) ∙ common_divisor-one (unsigned_abs p.1)
 
-divided_parts-next : (d k : ℕ) (ps : List (ℕ × ℤ)) (q : ℕ × ℤ) → k < length ps → divided_parts d (take (suc k) ps) ≡ divided_parts d (take k ps) ++ ((get_or ps k q).0, floor_quotient (get_or ps k q).1 d) ∷ []
+divided_parts-next : (d k : ℕ) (ps : List (ℕ × ℤ)) (q : ℕ × ℤ) → k < length ps → divided_parts d (take (suc k) ps) ≡ divided_parts d
+    (take k ps) ++ ((get_or ps k q).0, floor_quotient (get_or ps k q).1 d) ∷ []
 divided_parts-next d k [] q h = absurd (omega (arith, h))
 divided_parts-next d zero (p ∷ ps) q h = refl
 divided_parts-next d (suc k) (p ∷ ps) q h =
     ap (λ l. (p.0, floor_quotient p.1 d) ∷ l) (divided_parts-next d k ps q (omega (arith, h)))
 
-pub divided_parts-more : (d k : ℕ) (ps : List (ℕ × ℤ)) (q : ℕ × ℤ) (a : ℤ) (now next : List (ℕ × ℤ)) → k < length ps → a ≡ floor_quotient (get_or ps k q).1 d → now ≡ divided_parts d (take k ps) → next ≡ now ++ ((get_or ps k q).0, a) ∷ [] → next ≡ divided_parts d (take (k + 1) ps)
+pub divided_parts-more : (d k : ℕ) (ps : List (ℕ × ℤ)) (q : ℕ × ℤ) (a : ℤ) (now next : List (ℕ × ℤ)) → k < length ps →
+    a ≡ floor_quotient (get_or ps k q).1 d → now ≡ divided_parts d (take k ps) → next ≡ now ++ ((get_or ps k q).0, a) ∷ [] →
+    next ≡ divided_parts d (take (k + 1) ps)
 divided_parts-more d k ps q a now next h e f g =
-    g ∙ ap (λ l. l ++ ((get_or ps k q).0, a) ∷ []) f ∙ ap (λ z. divided_parts d (take k ps) ++ ((get_or ps k q).0, z) ∷ []) e ∙ sym (divided_parts-next d k ps q h) ∙ ap (λ n. divided_parts d (take n ps)) (sym (add-one k))
+    g ∙ ap (λ l. l ++ ((get_or ps k q).0, a) ∷ []) f ∙ ap (λ z. divided_parts d (take k ps) ++ ((get_or ps k q).0, z) ∷ []) e
+    ∙ sym (divided_parts-next d k ps q h) ∙ ap (λ n. divided_parts d (take n ps)) (sym (add-one k))
 
 -- the number divides each coefficient
 abbrev pub DividesAll : ℕ → List (ℕ × ℤ) → Type 0
@@ -50,7 +54,8 @@ floor-fits (pos a) d h = omega (arith, ints, h, div-le_self a d)
 floor-fits (negsuc a) d h = omega (arith, ints, h, div-le_self a d)
 
 -- a quotient in the code's words
-pub quotient_is : (z q f : ℤ) (d : ℕ) → FitsSigned w128 z → d < 2 ^ 64 → f ≡ pos d → q ≡ int_div_euclid (to_z w128 (of_z w128 z)) (to_z w128 (of_z w128 f)) → to_z w128 (of_z w128 q) ≡ floor_quotient z d
+pub quotient_is : (z q f : ℤ) (d : ℕ) → FitsSigned w128 z → d < 2 ^ 64 → f ≡ pos d → q ≡ int_div_euclid (to_z w128 (of_z w128 z))
+    (to_z w128 (of_z w128 f)) → to_z w128 (of_z w128 q) ≡ floor_quotient z d
 quotient_is z q f d h k e g =
     let same : to_z w128 (of_z w128 z) ≡ z = to_z-of_z h in
     let by : to_z w128 (of_z w128 f) ≡ pos d = omega (arith, ints, e) in
@@ -93,9 +98,12 @@ IsTerm-divided d t h k i = record {
 }
 
 -- the divided row in the code's words
-pub is_term-divided : (d : ℕ) (t : LinearSum) (ps : List (ℕ × ℤ)) (c : ℤ) → 0 < d → d ≡ parts_divisor t.parts → IsTrue (is_term t) → ps ≡ divided_parts d t.parts → c ≡ ceiling_quotient t.constant d → IsTrue (is_term (record { parts = ps; constant = to_z w128 (of_z w128 c) }))
+pub is_term-divided : (d : ℕ) (t : LinearSum) (ps : List (ℕ × ℤ)) (c : ℤ) → 0 < d → d ≡ parts_divisor t.parts → IsTrue (is_term t) →
+    ps ≡ divided_parts d t.parts → c ≡ ceiling_quotient t.constant d →
+    IsTrue (is_term (record { parts = ps; constant = to_z w128 (of_z w128 c) }))
 is_term-divided d t ps c h e k p q =
     let i = IsTerm-from_test t k in
     let small : unsigned_abs c ≤ 2 ^ 84 = omega (arith, ap unsigned_abs q, ceiling-small t.constant d, i.within.constant_limit) in
     let same : divided d t ≡ record { parts = ps; constant = to_z w128 (of_z w128 c) } = cc (cast_wide c (omega (arith, small))) in
-    subst (λ (s : LinearSum). IsTrue (is_term s)) same (test-from_IsTerm (divided d t) (IsTerm-divided d t h (subst (λ (n : ℕ). d ∣ n) e (dvd_refl d)) i))
+    subst (λ (s : LinearSum). IsTrue (is_term s)) same
+    (test-from_IsTerm (divided d t) (IsTerm-divided d t h (subst (λ (n : ℕ). d ∣ n) e (dvd_refl d)) i))

@@ -52,15 +52,18 @@ found-below n a b r e k = record {
       let same : d ≡ suc n = eqb-true d (suc n) f in
       let ld : suc n ∣ a = subst (λ (x : ℕ). x ∣ a) same l in
       let md : suc n ∣ b = subst (λ (x : ℕ). x ∣ b) same m in
-      absurd (no_way (sym (and_from (a % suc n == 0) (b % suc n == 0) (eq-eqb (a % suc n) 0 (mod-eq-zero_of_dvd (suc n) ld)) (eq-eqb (b % suc n) 0 (mod-eq-zero_of_dvd (suc n) md))) ∙ e))
+      absurd (no_way (sym (and_from (a % suc n == 0) (b % suc n == 0) (eq-eqb (a % suc n) 0 (mod-eq-zero_of_dvd (suc n) ld))
+      (eq-eqb (b % suc n) 0 (mod-eq-zero_of_dvd (suc n) md))) ∙ e))
   at_most d h l m false f = k.greatest d (omega (arith, h, eqb_apart d (suc n) f)) l m
 
 found : (n a b : ℕ) → IsFound (suc n) a b (common_divisor_up_to (suc n) a b)
 found zero a b =
-    let one : ((a % 1 == 0) && (b % 1 == 0)) ≡ true = and_from (a % 1 == 0) (b % 1 == 0) (eq-eqb (a % 1) 0 (mod-one a)) (eq-eqb (b % 1) 0 (mod-one b)) in
+    let one : ((a % 1 == 0) && (b % 1 == 0)) ≡ true = and_from (a % 1 == 0) (b % 1 == 0) (eq-eqb (a % 1) 0 (mod-one a))
+    (eq-eqb (b % 1) 0 (mod-one b)) in
     rw one (found-here 0 a b one)
 found (suc n) a b = by_test ((a % suc (suc n) == 0) && (b % suc (suc n) == 0)) refl (found n a b) where
-  by_test : (t : Bool) → ((a % suc (suc n) == 0) && (b % suc (suc n) == 0)) ≡ t → IsFound (suc n) a b (common_divisor_up_to (suc n) a b) → IsFound (suc (suc n)) a b (if t then suc (suc n) else common_divisor_up_to (suc n) a b)
+  by_test : (t : Bool) → ((a % suc (suc n) == 0) && (b % suc (suc n) == 0)) ≡ t → IsFound (suc n) a b (common_divisor_up_to (suc n) a b) →
+      IsFound (suc (suc n)) a b (if t then suc (suc n) else common_divisor_up_to (suc n) a b)
   by_test true e k = found-here (suc n) a b e
   by_test false e k = found-below (suc n) a b (common_divisor_up_to (suc n) a b) e k
 

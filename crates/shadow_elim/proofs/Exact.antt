@@ -22,13 +22,17 @@ use Rattle.shadow_elim.proofs.Staying.{IsAtLeast, at-least-itself, at-least-of, 
 use Rattle.shadow_elim.proofs.Keeping.{met-holds, holds-met, IsPairOf, among-pairs, IsAfter, after-is, elimination-first, remains-same}
 use Rattle.shadow_elim.proofs.Naming.{AllTerms, term-order, after-terms, IsAbsent, after-absent, after-eliminated}
 
--- ---- the rational bounds
--- where the rows after a column are met, each upper bound is at least each lower one
-pub bounds-apart : (v : Valuation) (x : ℕ) (rows next : List LinearSum) → IsAfter x rows next → AllTerms rows → AllMet v next → (u l : LinearSum) → IsPairOf x rows u l → ((pos (size_of x l) *ℤ rest_at v x u) +ℤ (pos (size_of x u) *ℤ rest_at v x l)) ≤ℤ pos 0
-bounds-apart v x rows next a h k u l p =
-    rests-nonpos v x u l (term-order rows u h p.upper) (term-order rows l h p.lower) (upper-is x u p.is_upper) (lower-is x l p.is_lower) ((tightened-meets v (pair_sum x (u, l))).1 (covered-met v next (tightened (pair_sum x (u, l))) k (a.made u l p)))
+-- The rational bounds
 
--- ---- the greatest of a list
+-- where the rows after a column are met, each upper bound is at least each lower one
+pub bounds-apart : (v : Valuation) (x : ℕ) (rows next : List LinearSum) → IsAfter x rows next → AllTerms rows → AllMet v next →
+    (u l : LinearSum) → IsPairOf x rows u l → ((pos (size_of x l) *ℤ rest_at v x u) +ℤ (pos (size_of x u) *ℤ rest_at v x l)) ≤ℤ pos 0
+bounds-apart v x rows next a h k u l p =
+    rests-nonpos v x u l (term-order rows u h p.upper) (term-order rows l h p.lower) (upper-is x u p.is_upper) (lower-is x l p.is_lower)
+    ((tightened-meets v (pair_sum x (u, l))).1 (covered-met v next (tightened (pair_sum x (u, l))) k (a.made u l p)))
+
+-- The greatest of a list
+
 record IsGreatest {X : Type 0} (p : X → Bool) (f : X → ℤ) (xs : List X) (t : X) : Type 0 where
   here : Among t xs
   passes : p t ≡ true
@@ -72,21 +76,24 @@ greatest p f (x ∷ xs) = by_test (p x) refl (greatest p f xs) where
   none n e s (inl d) = ap p (sym d) ∙ e
   none n e s (inr k) = n s k
 
-  by_test : (b : Bool) → p x ≡ b → ((s : _) → Among s xs → p s ≡ false) ⊎ ((t : _) × IsGreatest p f xs t) → ((s : _) → Among s (x ∷ xs) → p s ≡ false) ⊎ ((t : _) × IsGreatest p f (x ∷ xs) t)
+  by_test : (b : Bool) → p x ≡ b → ((s : _) → Among s xs → p s ≡ false) ⊎ ((t : _) × IsGreatest p f xs t) →
+      ((s : _) → Among s (x ∷ xs) → p s ≡ false) ⊎ ((t : _) × IsGreatest p f (x ∷ xs) t)
   by_test true e (inl n) = inr (x, alone n e)
   by_test true e (inr g) =
       by_lt_z (f g.0) (f x) (λ lt. inr (x, itself g.0 g.1 e (omega (arith, ints, lt)))) (λ le. inr (g.0, one_more g.0 g.1 e le))
   by_test false e (inl n) = inl (none n e)
   by_test false e (inr g) = inr (g.0, without g.0 g.1 e)
 
--- ---- the rows of a column's range
+-- The rows of a column's range
+
 -- the range rows, or stronger ones, are among the rows
 pub record HasRange (y : ℕ) (rows : List LinearSum) : Type 0 where
   pub upper : HasAtLeast (upper_range y) rows
   pub lower : HasAtLeast (lower_range y) rows
 
 -- a row with another column alone keeps its bound
-single-kept : (x y : ℕ) (c : ℤ) (t : LinearSum) (rows next : List LinearSum) → IsAfter x rows next → (x ≡ y → ⊥) → t.parts ≡ (y, c) ∷ [] → HasAtLeast t rows → HasAtLeast t next
+single-kept : (x y : ℕ) (c : ℤ) (t : LinearSum) (rows next : List LinearSum) → IsAfter x rows next → (x ≡ y → ⊥) → t.parts ≡ (y, c) ∷ [] →
+    HasAtLeast t rows → HasAtLeast t next
 single-kept x y c t rows next a n e h =
     by_cover (a.free h.0 (record { here = h.1; free = zero_test (coefficient x h.0) (absent_in h.0 h.2) })) where
       absent_in : (s : LinearSum) → IsAtLeast s t → coefficient x s ≡ pos 0
@@ -123,13 +130,15 @@ ranges-listed y (x ∷ xs) (inr h) =
 pub range-listed : (y : ℕ) (atoms : List Atom) (columns : List ℕ) → Among y columns → HasRange y (listed_rows atoms columns)
 range-listed y atoms columns h =
     let r = ranges-listed y columns h in
-    let behind : (t : LinearSum) → Among t (range_rows columns) → Among t (listed_rows atoms columns) = λ t k. among-append_right (rows_of atoms) (range_rows columns) t k in
+    let behind : (t : LinearSum) → Among t (range_rows columns) → Among t (listed_rows atoms columns) = λ t k. among-append_right
+    (rows_of atoms) (range_rows columns) t k in
     record {
       upper = (r.upper.0, behind r.upper.0 r.upper.1, r.upper.2);
       lower = (r.lower.0, behind r.lower.0 r.lower.1, r.lower.2);
     }
 
--- ---- one column
+-- One column
+
 neg-mul : (a b : ℤ) → neg_ℤ a *ℤ b ≡ neg_ℤ (a *ℤ b)
 neg-mul a b = mul-comm (neg_ℤ a) b ∙ mul-neg b a ∙ ap neg_ℤ (mul-comm b a)
 
@@ -162,14 +171,17 @@ lower-holds b r k z c h le e =
       apart s t = omega (arith, ints)
 
 -- the least value that a lower row allows, at an upper row with the coefficient 1
-upper-holds_one : (a b : ℕ) (ru rl z c : ℤ) → a ≡ 1 → 0 < b → ((pos b *ℤ ru) +ℤ (pos a *ℤ rl)) ≤ℤ pos 0 → IsRoundedUp rl (pos b) z → c ≡ pos a → ((c *ℤ z) +ℤ ru) ≤ℤ pos 0
+upper-holds_one : (a b : ℕ) (ru rl z c : ℤ) → a ≡ 1 → 0 < b → ((pos b *ℤ ru) +ℤ (pos a *ℤ rl)) ≤ℤ pos 0 → IsRoundedUp rl (pos b) z →
+    c ≡ pos a → ((c *ℤ z) +ℤ ru) ≤ℤ pos 0
 upper-holds_one a b ru rl z c one h met r e =
     let unit : pos a ≡ pos 1 = ap pos one in
-    let whole = rounded_nonpos (pos b) ru rl z (omega (arith, ints, h)) (omega (arith, ints, met, ap (λ y. y *ℤ rl) unit, one-mul rl)) r.1 in
+    let whole = rounded_nonpos (pos b) ru rl z (omega (arith, ints, h)) (omega (arith, ints, met, ap (λ y. y *ℤ rl) unit, one-mul rl)) r.1
+    in
     omega (arith, ints, whole, ap (λ y. y *ℤ z) (e ∙ unit), one-mul z)
 
 -- and where the lower row has the coefficient -1
-upper-holds_other : (a b : ℕ) (ru rl z c : ℤ) → b ≡ 1 → ((pos b *ℤ ru) +ℤ (pos a *ℤ rl)) ≤ℤ pos 0 → IsRoundedUp rl (pos b) z → c ≡ pos a → ((c *ℤ z) +ℤ ru) ≤ℤ pos 0
+upper-holds_other : (a b : ℕ) (ru rl z c : ℤ) → b ≡ 1 → ((pos b *ℤ ru) +ℤ (pos a *ℤ rl)) ≤ℤ pos 0 → IsRoundedUp rl (pos b) z → c ≡ pos a →
+    ((c *ℤ z) +ℤ ru) ≤ℤ pos 0
 upper-holds_other a b ru rl z c one met r e =
     let unit : pos b ≡ pos 1 = ap pos one in
     let same : z ≡ rl = omega (arith, ints, r.0, r.1, ap (λ y. y *ℤ z) unit, one-mul z) in
@@ -181,7 +193,8 @@ IsExact x rows = (u l : LinearSum) → IsPairOf x rows u l → (size_of x u ≡ 
 
 pub exact-from_none : (x : ℕ) (rows : List LinearSum) → find (is_inexact x) (pairs x rows) ≡ None → IsExact x rows
 exact-from_none x rows h u l p =
-    by_tests (is_unit x u) (is_unit x l) refl refl (none-among (is_inexact x) (pairs x rows) (u, l) h (among-pairs x rows u l p.upper p.lower p.is_upper p.is_lower)) where
+    by_tests (is_unit x u) (is_unit x l) refl refl (none-among (is_inexact x) (pairs x rows) (u, l) h
+    (among-pairs x rows u l p.upper p.lower p.is_upper p.is_lower)) where
       by_tests : (b c : Bool) → is_unit x u ≡ b → is_unit x l ≡ c → (not b && not c) ≡ false → (size_of x u ≡ 1) ⊎ (size_of x l ≡ 1)
       by_tests true c e f k = inl (eqb-true (size_of x u) 1 e)
       by_tests false true e f k = inr (eqb-true (size_of x l) 1 f)
@@ -192,46 +205,66 @@ pub record IsRestored (v : Valuation) (x : ℕ) (rows : List LinearSum) (z : ℤ
   pub bits : IsTrue (is64 z)
   pub met : AllMet (valuation_with v x z) rows
 
-restored-at : (v : Valuation) (x : ℕ) (rows next : List LinearSum) → IsAfter x rows next → AllTerms rows → IsExact x rows → AllMet v next → (l : LinearSum) → Among l rows → IsTrue (is_lower x l) → ((k : LinearSum) → Among k rows → is_lower x k ≡ true → ceiling_quotient (rest_at v x k) (size_of x k) ≤ℤ ceiling_quotient (rest_at v x l) (size_of x l)) → AllMet (valuation_with v x (ceiling_quotient (rest_at v x l) (size_of x l))) rows
-restored-at v x rows next a h exact met l hl il above = met-from w rows (λ t k. omega (arith, ints, value-with_column v x z t (term-order rows t h k), by_sign t k (sign-cases (coefficient x t)))) where
-  z : ℤ
-  z = ceiling_quotient (rest_at v x l) (size_of x l)
+restored-at : (v : Valuation) (x : ℕ) (rows next : List LinearSum) → IsAfter x rows next → AllTerms rows → IsExact x rows → AllMet v next →
+    (l : LinearSum) → Among l rows → IsTrue (is_lower x l) → ((k : LinearSum) → Among k rows → is_lower x k ≡ true →
+    ceiling_quotient (rest_at v x k) (size_of x k) ≤ℤ ceiling_quotient (rest_at v x l) (size_of x l)) → AllMet (valuation_with v x
+    (ceiling_quotient (rest_at v x l) (size_of x l))) rows
+restored-at v x rows next a h exact met l hl il above = met-from w rows
+    (λ t k. omega (arith, ints, value-with_column v x z t (term-order rows t h k), by_sign t k (sign-cases (coefficient x t)))) where
+      z : ℤ
+      z = ceiling_quotient (rest_at v x l) (size_of x l)
 
-  w : Valuation
-  w = valuation_with v x (ceiling_quotient (rest_at v x l) (size_of x l))
+      w : Valuation
+      w = valuation_with v x (ceiling_quotient (rest_at v x l) (size_of x l))
 
-  bound : IsRoundedUp (rest_at v x l) (pos (size_of x l)) (ceiling_quotient (rest_at v x l) (size_of x l))
-  bound = ceiling-bounds (rest_at v x l) (size_of x l) (lower-is x l il).positive
+      bound : IsRoundedUp (rest_at v x l) (pos (size_of x l)) (ceiling_quotient (rest_at v x l) (size_of x l))
+      bound = ceiling-bounds (rest_at v x l) (size_of x l) (lower-is x l il).positive
 
-  at_upper : (t : LinearSum) → Among t rows → IsTrue (is_upper x t) → (size_of x t ≡ 1) ⊎ (size_of x l ≡ 1) → ((coefficient x t *ℤ ceiling_quotient (rest_at v x l) (size_of x l)) +ℤ rest_at v x t) ≤ℤ pos 0
-  at_upper t k i (inl one) =
-      upper-holds_one (size_of x t) (size_of x l) (rest_at v x t) (rest_at v x l) _ (coefficient x t) one (lower-is x l il).positive (bounds-apart v x rows next a h met t l (record {
-        upper = k;
-        lower = hl;
-        is_upper = i;
-        is_lower = il;
-      })) bound (upper-is x t i).same
-  at_upper t k i (inr one) =
-      upper-holds_other (size_of x t) (size_of x l) (rest_at v x t) (rest_at v x l) _ (coefficient x t) one (bounds-apart v x rows next a h met t l (record {
-        upper = k;
-        lower = hl;
-        is_upper = i;
-        is_lower = il;
-      })) bound (upper-is x t i).same
+      at_upper : (t : LinearSum) → Among t rows → IsTrue (is_upper x t) → (size_of x t ≡ 1) ⊎ (size_of x l ≡ 1) →
+          ((coefficient x t *ℤ ceiling_quotient (rest_at v x l) (size_of x l)) +ℤ rest_at v x t) ≤ℤ pos 0
+      at_upper t k i (inl one) =
+          upper-holds_one (size_of x t) (size_of x l) (rest_at v x t) (rest_at v x l) _ (coefficient x t) one (lower-is x l il).positive
+          (bounds-apart v x rows next a h met t l (record {
+            upper = k;
+            lower = hl;
+            is_upper = i;
+            is_lower = il;
+          })) bound (upper-is x t i).same
+      at_upper t k i (inr one) =
+          upper-holds_other (size_of x t) (size_of x l) (rest_at v x t) (rest_at v x l) _ (coefficient x t) one
+          (bounds-apart v x rows next a h met t l (record {
+            upper = k;
+            lower = hl;
+            is_upper = i;
+            is_lower = il;
+          })) bound (upper-is x t i).same
 
-  by_sign : (t : LinearSum) → Among t rows → (int_lt (pos 0) (coefficient x t) ≡ true) ⊎ ((int_lt (coefficient x t) (pos 0) ≡ true) ⊎ (is_zero (coefficient x t) ≡ true)) → ((coefficient x t *ℤ ceiling_quotient (rest_at v x l) (size_of x l)) +ℤ rest_at v x t) ≤ℤ pos 0
-  by_sign t k (inl i) =
-      at_upper t k i (exact t l (record { upper = k; lower = hl; is_upper = i; is_lower = il }))
-  by_sign t k (inr (inl i)) =
-      let o = lower-is x t i in
-      lower-holds (size_of x t) (rest_at v x t) (ceiling_quotient (rest_at v x t) (size_of x t)) _ (coefficient x t) (ceiling-bounds (rest_at v x t) (size_of x t) o.positive).0 (above t k i) o.same
-  by_sign t k (inr (inr i)) =
-      let none = free-is x t i in
-      let here = covered-met v next t met (a.free t (record { here = k; free = i })) in
-      omega (arith, ints, here, value-split v x t (term-order rows t h k), ap (λ y. y *ℤ v x) none, zero-mul (v x), ap (λ y. y *ℤ ceiling_quotient (rest_at v x l) (size_of x l)) none, zero-mul (ceiling_quotient (rest_at v x l) (size_of x l)))
+      by_sign : (t : LinearSum) → Among t rows → (int_lt (pos 0) (coefficient x t) ≡ true)
+          ⊎ ((int_lt (coefficient x t) (pos 0) ≡ true) ⊎ (is_zero (coefficient x t) ≡ true)) →
+          ((coefficient x t *ℤ ceiling_quotient (rest_at v x l) (size_of x l)) +ℤ rest_at v x t) ≤ℤ pos 0
+      by_sign t k (inl i) =
+          at_upper t k i (exact t l (record { upper = k; lower = hl; is_upper = i; is_lower = il }))
+      by_sign t k (inr (inl i)) =
+          let o = lower-is x t i in
+          lower-holds (size_of x t) (rest_at v x t) (ceiling_quotient (rest_at v x t) (size_of x t)) _ (coefficient x t)
+          (ceiling-bounds (rest_at v x t) (size_of x t) o.positive).0 (above t k i) o.same
+      by_sign t k (inr (inr i)) =
+          let none = free-is x t i in
+          let here = covered-met v next t met (a.free t (record { here = k; free = i })) in
+          omega (
+            arith,
+            ints,
+            here,
+            value-split v x t (term-order rows t h k),
+            ap (λ y. y *ℤ v x) none,
+            zero-mul (v x),
+            ap (λ y. y *ℤ ceiling_quotient (rest_at v x l) (size_of x l)) none,
+            zero-mul (ceiling_quotient (rest_at v x l) (size_of x l)),
+          )
 
 -- both bounds of the range
-restored-bits : (v : Valuation) (x : ℕ) (rows : List LinearSum) (z : ℤ) → HasRange x rows → AllMet (valuation_with v x z) rows → IsTrue (is64 z)
+restored-bits : (v : Valuation) (x : ℕ) (rows : List LinearSum) (z : ℤ) → HasRange x rows → AllMet (valuation_with v x z) rows →
+    IsTrue (is64 z)
 restored-bits v x rows z r met =
     let w = valuation_with v x z in
     let here = valuation-here v x z in
@@ -246,13 +279,16 @@ range-is_lower x s h =
     ap (λ c. int_lt c (pos 0)) (ap (listed_at x) h.parts ∙ there)
 
 -- where the rows after an exact column are met, the column has a value of 64 bits with which all rows are met
-pub exact-column : (v : Valuation) (x : ℕ) (rows next : List LinearSum) → IsAfter x rows next → AllTerms rows → IsExact x rows → HasRange x rows → AllMet v next → (z : ℤ) × IsRestored v x rows z
+pub exact-column : (v : Valuation) (x : ℕ) (rows next : List LinearSum) → IsAfter x rows next → AllTerms rows → IsExact x rows →
+    HasRange x rows → AllMet v next → (z : ℤ) × IsRestored v x rows z
 exact-column v x rows next a h exact r met =
     by_side (greatest (is_lower x) (λ k. ceiling_quotient (rest_at v x k) (size_of x k)) rows) where
       two : false ≡ true → ⊥
       two h = cc
 
-      by_side : ((s : LinearSum) → Among s rows → is_lower x s ≡ false) ⊎ ((t : LinearSum) × IsGreatest (is_lower x) (λ k. ceiling_quotient (rest_at v x k) (size_of x k)) rows t) → (z : ℤ) × IsRestored v x rows z
+      by_side : ((s : LinearSum) → Among s rows → is_lower x s ≡ false)
+          ⊎ ((t : LinearSum) × IsGreatest (is_lower x) (λ k. ceiling_quotient (rest_at v x k) (size_of x k)) rows t) →
+          (z : ℤ) × IsRestored v x rows z
       by_side (inl n) =
           absurd (two (sym (n r.lower.0 r.lower.1) ∙ range-is_lower x r.lower.0 r.lower.2))
       by_side (inr g) =
@@ -262,9 +298,11 @@ exact-column v x rows next a h exact r met =
 
 -- where no row names the column, nothing is to be changed
 absent-column : (v : Valuation) (x : ℕ) (rows next : List LinearSum) → IsAfter x rows next → IsAbsent x rows → AllMet v next → AllMet v rows
-absent-column v x rows next a n met = met-from v rows (λ t k. covered-met v next t met (a.free t (record { here = k; free = zero_test (coefficient x t) (n t k) })))
+absent-column v x rows next a n met = met-from v rows
+    (λ t k. covered-met v next t met (a.free t (record { here = k; free = zero_test (coefficient x t) (n t k) })))
 
--- ---- all columns
+-- All columns
+
 -- the column has its range, or no row names it
 abbrev pub IsReady : ℕ → List LinearSum → Type 0
 IsReady y rows = HasRange y rows ⊎ IsAbsent y rows
@@ -276,9 +314,13 @@ ready-after x y rows next a h r = by_test (x == y) refl r where
   by_test false e (inl r) = inl (range-kept x y rows next a (eqb_apart x y e) r)
   by_test false e (inr n) = inr (after-absent y x rows next a h n)
 
-none-of_both : (x : ℕ) (xs : List ℕ) (rows next : List LinearSum) → after_column x rows ≡ remains next → first_inexact (x ∷ xs) rows ≡ None → (find (is_inexact x) (pairs x rows) ≡ None) × (first_inexact xs next ≡ None)
+none-of_both : (x : ℕ) (xs : List ℕ) (rows next : List LinearSum) → after_column x rows ≡ remains next → first_inexact (x ∷ xs) rows
+    ≡ None →
+    (find (is_inexact x) (pairs x rows) ≡ None) × (first_inexact xs next ≡ None)
 none-of_both x xs rows next e h = by_found (find (is_inexact x) (pairs x rows)) refl h where
-  by_found : (o : Option (LinearSum × LinearSum)) → find (is_inexact x) (pairs x rows) ≡ o → option_or (option_map (λ p. (x, p)) o) (inexact_after (first_inexact xs) (after_column x rows)) ≡ None → (find (is_inexact x) (pairs x rows) ≡ None) × (first_inexact xs next ≡ None)
+  by_found : (o : Option (LinearSum × LinearSum)) → find (is_inexact x) (pairs x rows) ≡ o → option_or (option_map (λ p. (x, p)) o)
+      (inexact_after (first_inexact xs) (after_column x rows)) ≡ None → (find (is_inexact x) (pairs x rows) ≡ None)
+      × (first_inexact xs next ≡ None)
   by_found None f k = (f, sym (ap (inexact_after (first_inexact xs)) e) ∙ k)
   by_found (Some p) f k = absurd (cc)
 
@@ -294,7 +336,9 @@ with-bits w x z h k y = by_test (x == y) where
   by_test true = k
   by_test false = h y
 
-pub elimination-extends : (xs : List ℕ) (rows left : List LinearSum) (v : Valuation) → elimination xs rows ≡ remains left → first_inexact xs rows ≡ None → AllTerms rows → ((y : ℕ) → Among y xs → IsReady y rows) → Is64 v → AllMet v left → (w : Valuation) × IsExtended xs v rows w
+pub elimination-extends : (xs : List ℕ) (rows left : List LinearSum) (v : Valuation) → elimination xs rows ≡ remains left →
+    first_inexact xs rows ≡ None → AllTerms rows → ((y : ℕ) → Among y xs → IsReady y rows) → Is64 v → AllMet v left → (w : Valuation)
+    × IsExtended xs v rows w
 elimination-extends [] rows left v h n k r b met = (
   v,
   record {
@@ -307,12 +351,14 @@ elimination-extends (x ∷ xs) rows left v h n k r b met =
     let f = elimination-first x xs rows left h in
     let a = after-is x rows f.next f.column in
     let ns = none-of_both x xs rows f.next f.column n in
-    let i = elimination-extends xs f.next left v f.others ns.1 (after-terms x rows f.next a k) (λ y m. ready-after x y rows f.next a k (r y (inr m))) b met in
+    let i = elimination-extends xs f.next left v f.others ns.1 (after-terms x rows f.next a k)
+    (λ y m. ready-after x y rows f.next a k (r y (inr m))) b met in
     by_ready f.next a ns.0 i.0 i.1 (r x (inl refl)) where
       fewer : (w : Valuation) → AgreesBut xs v w → (y : ℕ) → (Contains (x ∷ xs) y → ⊥) → w y ≡ v y
       fewer w g y m = g y (λ c. m (among-contains (x ∷ xs) y (inr (contains-among xs y c))))
 
-      by_ready : (next : List LinearSum) → IsAfter x rows next → find (is_inexact x) (pairs x rows) ≡ None → (w : Valuation) → IsExtended xs v next w → IsReady x rows → (u : Valuation) × IsExtended (x ∷ xs) v rows u
+      by_ready : (next : List LinearSum) → IsAfter x rows next → find (is_inexact x) (pairs x rows) ≡ None → (w : Valuation) →
+          IsExtended xs v next w → IsReady x rows → (u : Valuation) × IsExtended (x ∷ xs) v rows u
       by_ready next a e w i (inl range) =
           let z = exact-column w x rows next a k (exact-from_none x rows e) range i.met in (
             valuation_with w x z.0,
@@ -332,7 +378,16 @@ elimination-extends (x ∷ xs) rows left v h n k r b met =
       )
 
 -- an exact elimination loses no assignment
-pub loses-none : (columns : List ℕ) (atoms shadow : List Atom) → AllTerms (listed_rows atoms columns) → first_inexact columns (listed_rows atoms columns) ≡ None → elimination columns (listed_rows atoms columns) ≡ remains (rows_of shadow) → LosesNone columns atoms shadow
+pub loses-none : (columns : List ℕ) (atoms shadow : List Atom) → AllTerms (listed_rows atoms columns) →
+    first_inexact columns (listed_rows atoms columns) ≡ None → elimination columns (listed_rows atoms columns) ≡ remains (rows_of shadow) →
+    LosesNone columns atoms shadow
 loses-none columns atoms shadow k n h = λ v b met.
-    let i = elimination-extends columns (listed_rows atoms columns) (rows_of shadow) v h n k (λ y m. inl (range-listed y atoms columns m)) b (holds-met v shadow met) in
-    (i.0, i.1.bits, i.1.agrees, met-holds i.0 atoms (met-from i.0 (rows_of atoms) (λ t m. met-among i.0 (listed_rows atoms columns) t i.1.met (among-append_left (rows_of atoms) (range_rows columns) t m))))
+    let i = elimination-extends columns (listed_rows atoms columns) (rows_of shadow) v h n k (λ y m. inl (range-listed y atoms columns m)) b
+    (holds-met v shadow met) in (
+      i.0,
+      i.1.bits,
+      i.1.agrees,
+      met-holds i.0 atoms
+          (met-from i.0 (rows_of atoms) (λ t m. met-among i.0 (listed_rows atoms columns) t i.1.met
+          (among-append_left (rows_of atoms) (range_rows columns) t m))),
+    )

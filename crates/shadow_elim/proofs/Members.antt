@@ -25,7 +25,8 @@ among-append_cases (x ∷ xs) ys t (inr h) = pass (among-append_cases xs ys t h)
   pass (inl k) = inl (inr k)
   pass (inr k) = inr k
 
--- ---- filters
+-- Filters
+
 pub among-filter : {X : Type 0} (p : X → Bool) (xs : List X) (t : X) → Among t xs → p t ≡ true → Among t (filter p xs)
 among-filter p [] t h k = absurd h
 among-filter p (x ∷ xs) t (inl e) k =
@@ -38,12 +39,14 @@ among-filter p (x ∷ xs) t (inr h) k =
 pub filter-among : {X : Type 0} (p : X → Bool) (xs : List X) (t : X) → Among t (filter p xs) → Among t xs × (p t ≡ true)
 filter-among p [] t h = absurd h
 filter-among p (x ∷ xs) t h = by_test (p x) refl (filter-among p xs t) h where
-  by_test : (b : Bool) → p x ≡ b → (Among t (filter p xs) → Among t xs × (p t ≡ true)) → Among t (cond b (x ∷ filter p xs) (filter p xs)) → Among t (x ∷ xs) × (p t ≡ true)
+  by_test : (b : Bool) → p x ≡ b → (Among t (filter p xs) → Among t xs × (p t ≡ true)) → Among t (cond b (x ∷ filter p xs) (filter p xs)) →
+      Among t (x ∷ xs) × (p t ≡ true)
   by_test true e f (inl s) = (inl s, ap p (sym s) ∙ e)
   by_test true e f (inr k) = (inr (f k).0, (f k).1)
   by_test false e f k = (inr (f k).0, (f k).1)
 
--- ---- maps
+-- Maps
+
 pub among-map : {X Y : Type 0} (f : X → Y) (xs : List X) (t : X) → Among t xs → Among (f t) (map f xs)
 among-map f [] t h = absurd h
 among-map f (x ∷ xs) t (inl e) = inl (ap f e)
@@ -67,15 +70,18 @@ pub flat_map-among : {X Y : Type 0} (f : X → List Y) (xs : List X) (s : Y) →
 flat_map-among f [] s h = absurd h
 flat_map-among f (x ∷ xs) s h =
     by_side (flat_map-among f xs s) (among-append_cases (f x) (flat_map f xs) s h) where
-      by_side : (Among s (flat_map f xs) → (t : _) × Among t xs × Among s (f t)) → Among s (f x) ⊎ Among s (flat_map f xs) → (t : _) × Among t (x ∷ xs) × Among s (f t)
+      by_side : (Among s (flat_map f xs) → (t : _) × Among t xs × Among s (f t)) → Among s (f x) ⊎ Among s (flat_map f xs) →
+          (t : _) × Among t (x ∷ xs) × Among s (f t)
       by_side r (inl k) = (x, inl refl, k)
       by_side r (inr k) = ((r k).0, inr (r k).1, (r k).2)
 
--- ---- tests
+-- Tests
+
 pub any-among : {X : Type 0} (p : X → Bool) (xs : List X) → list_any p xs ≡ true → (t : X) × Among t xs × (p t ≡ true)
 any-among p [] h = absurd (cc)
 any-among p (x ∷ xs) h = by_test (p x) refl (any-among p xs) h where
-  by_test : (b : Bool) → p x ≡ b → (list_any p xs ≡ true → (t : _) × Among t xs × (p t ≡ true)) → (b || list_any p xs) ≡ true → (t : _) × Among t (x ∷ xs) × (p t ≡ true)
+  by_test : (b : Bool) → p x ≡ b → (list_any p xs ≡ true → (t : _) × Among t xs × (p t ≡ true)) → (b || list_any p xs) ≡ true →
+      (t : _) × Among t (x ∷ xs) × (p t ≡ true)
   by_test true e r k = (x, inl refl, e)
   by_test false e r k = ((r k).0, inr (r k).1, (r k).2)
 
@@ -93,12 +99,14 @@ all-among p (x ∷ xs) t h (inr k) = all-among p xs t (back (p x) (list_all p xs
 pub none-among : {X : Type 0} (p : X → Bool) (xs : List X) (t : X) → find p xs ≡ None → Among t xs → p t ≡ false
 none-among p [] t h k = absurd k
 none-among p (x ∷ xs) t h k = by_test (p x) refl (none-among p xs t) h k where
-  by_test : (b : Bool) → p x ≡ b → (find p xs ≡ None → Among t xs → p t ≡ false) → cond b (Some x) (find p xs) ≡ None → Among t (x ∷ xs) → p t ≡ false
+  by_test : (b : Bool) → p x ≡ b → (find p xs ≡ None → Among t xs → p t ≡ false) → cond b (Some x) (find p xs) ≡ None → Among t (x ∷ xs) →
+      p t ≡ false
   by_test true e r h k = absurd (cc)
   by_test false e r h (inl s) = ap p (sym s) ∙ e
   by_test false e r h (inr k) = r h k
 
--- ---- std's word
+-- Std's word
+
 pub contains-among : {X : Type 0} (xs : List X) (t : X) → Contains xs t → Among t xs
 contains-among xs t h = at xs h.0 h.1 h.2 where
   at : (ys : List _) (k : ℕ) → k < length ys → get_or ys k t ≡ t → Among t ys

@@ -13,7 +13,7 @@ use Rattle.shadow_elim.specs.declared.pairing.Candidate.{Candidate}
 use Rattle.shadow_elim.specs.declared.pairing.Origin.TheVariants.{Made}
 use Rattle.shadow_elim.specs.Division.{common_divisor, parts_divisor, tightened, row_divisor}
 use Rattle.shadow_elim.specs.Elimination.{is_upper, size_of, upper_multiple, lower_multiple, pair_sum}
-use Rattle.shadow_elim.specs.Making.{made}
+use Rattle.shadow_elim.specs.steps.Making.{made}
 use Rattle.shadow_elim.proofs.Divisors.{common_divisor-small, common_divisor-positive}
 
 above-size : (z : ℤ) → IsTrue (int_lt (pos 0) z) → 0 < unsigned_abs z
@@ -48,11 +48,18 @@ cast_multiple z h = to_z-of_z (fits_signed_from_abs w64 z (omega (arith, h)))
 pub cast_divisor : (d : ℕ) → d ≤ 2 ^ 40 → to_z w64 d ≡ pos d
 cast_divisor d h = omega (arith, ints, h)
 
-pub made_is : (x : ℕ) (u l : Row) (m n d : ℤ) (t : LinearSum) → m ≡ pos (upper_multiple (size_of x u.term) (size_of x l.term)) → n ≡ pos (lower_multiple (size_of x u.term) (size_of x l.term)) → t ≡ tightened (pair_sum x (u.term, l.term)) → d ≡ pos (row_divisor (pair_sum x (u.term, l.term))) → let c : Candidate = record { term = t; origin = Made (record { upper = u.number; upper_multiple = m; lower = l.number; lower_multiple = n; divide = d }) } in c ≡ made x u l
+pub made_is : (x : ℕ) (u l : Row) (m n d : ℤ) (t : LinearSum) → m ≡ pos (upper_multiple (size_of x u.term) (size_of x l.term)) →
+    n ≡ pos (lower_multiple (size_of x u.term) (size_of x l.term)) → t ≡ tightened (pair_sum x (u.term, l.term)) →
+    d ≡ pos (row_divisor (pair_sum x (u.term, l.term))) →
+    let c : Candidate =
+    record { term = t; origin = Made (record { upper = u.number; upper_multiple = m; lower = l.number; lower_multiple = n; divide = d }) }
+    in
+    c ≡ made x u l
 made_is x u l m n d t e f g h = cc
 
 -- a size as the code measures it
-pub size_is : (x : ℕ) (t : LinearSum) (z : ℤ) (a : ℕ) → z ≡ coefficient x t → unsigned_abs z ≤ 2 ^ 40 → a ≡ unsigned_abs (to_z w128 (of_z w128 z)) → a ≡ size_of x t
+pub size_is : (x : ℕ) (t : LinearSum) (z : ℤ) (a : ℕ) → z ≡ coefficient x t → unsigned_abs z ≤ 2 ^ 40 →
+    a ≡ unsigned_abs (to_z w128 (of_z w128 z)) → a ≡ size_of x t
 size_is x t z a e h f = f ∙ ap unsigned_abs (cast_same z (omega (arith, h)) ∙ e)
 
 pub divisor-positive : (x : ℕ) (u : LinearSum) (a b d : ℕ) → IsTrue (is_upper x u) → a ≡ size_of x u → d ≡ common_divisor a b → 0 < d
@@ -61,6 +68,9 @@ divisor-positive x u a b d h e f =
     omega (arith, f, common_divisor-positive a b p)
 
 -- a sum whose multipliers were cast
-pub sum_is : (x : ℕ) (u l : LinearSum) (m n m' n' : ℤ) (s : LinearSum) → m ≡ pos (upper_multiple (size_of x u) (size_of x l)) → n ≡ pos (lower_multiple (size_of x u) (size_of x l)) → m' ≡ m → n' ≡ n → s ≡ combination ((m', u) ∷ (n', l) ∷ []) (pos 0) → s ≡ pair_sum x (u, l)
+pub sum_is : (x : ℕ) (u l : LinearSum) (m n m' n' : ℤ) (s : LinearSum) → m ≡ pos (upper_multiple (size_of x u) (size_of x l)) →
+    n ≡ pos (lower_multiple (size_of x u) (size_of x l)) → m' ≡ m → n' ≡ n → s ≡ combination ((m', u) ∷ (n', l) ∷ []) (pos 0) →
+    s ≡ pair_sum x (u, l)
 sum_is x u l m n m' n' s e f g h k =
-    k ∙ ap (λ y. combination ((y, u) ∷ (n', l) ∷ []) (pos 0)) (g ∙ e) ∙ ap (λ z. combination ((pos (upper_multiple (size_of x u) (size_of x l)), u) ∷ (z, l) ∷ []) (pos 0)) (h ∙ f)
+    k ∙ ap (λ y. combination ((y, u) ∷ (n', l) ∷ []) (pos 0)) (g ∙ e)
+    ∙ ap (λ z. combination ((pos (upper_multiple (size_of x u) (size_of x l)), u) ∷ (z, l) ∷ []) (pos 0)) (h ∙ f)

@@ -1,5 +1,5 @@
 -- The values that the plan chooses have 64 bits.
-use Rattle.std.proofs.Common.{◌≡◌, ℕ, zero, suc, Bool, true, false, List, [], ◌∷◌, ◌++◌, length, ℤ, pos, arith, refl, subst, ◌∙◌, sym, ap}
+use Rattle.std.proofs.Common.{◌≡◌, ℕ, zero, suc, Bool, true, false, List, [], ◌∷◌, ◌++◌, length, ℤ, pos, arith, refl, subst, ◌∙◌}
 use Rattle.std.specs.Prelude.{◌≤ℤ◌, ◌+ℤ◌, neg_ℤ, map, filter, IsTrue, ◌==◌, int_le, nat_le, nat_lt, if◌then◌else◌}
 use Rattle.std.specs.List.{list_any}
 use Rattle.std.proofs.lemmas.Int.{ints}
@@ -26,14 +26,17 @@ found_same values others h = cc
 ordered : (a b : ℤ) → int_le a b ≡ true → a ≤ℤ b
 ordered a b h = grind (arith, ints)
 
-nearest_64 : (x : ℕ) (values : List (ℕ × ℤ)) (rows : List LinearSum) → int_le (lower_bound x values rows) (upper_bound x values rows) ≡ true →
+nearest_64 : (x : ℕ) (values : List (ℕ × ℤ)) (rows : List LinearSum) → int_le (lower_bound x values rows) (upper_bound x values rows)
+    ≡ true →
     IsTrue (is64 (nearest (lower_bound x values rows) (upper_bound x values rows)))
 nearest_64 x values rows h =
     let low = lower_bound x values rows in
     let high = upper_bound x values rows in
     let within = nearest-within low high (ordered low high h) in
-    let least : least_value ≤ℤ low = greatest-start least_value (map (λ t. ceiling_quotient (rest_of values t) (size_of x t)) (filter (is_lower x) rows)) in
-    let greatest : high ≤ℤ greatest_value = least-start greatest_value (map (λ t. floor_quotient (neg_ℤ (rest_of values t)) (size_of x t)) (filter (is_upper x) rows)) in
+    let least : least_value ≤ℤ low = greatest-start least_value (map (λ t. ceiling_quotient (rest_of values t) (size_of x t))
+    (filter (is_lower x) rows)) in
+    let greatest : high ≤ℤ greatest_value = least-start greatest_value (map (λ t. floor_quotient (neg_ℤ (rest_of values t)) (size_of x t))
+    (filter (is_upper x) rows)) in
     is64-from_bounds (nearest low high) (omega (arith, ints, within.1, greatest)) (omega (arith, ints, within.0, least))
 
 one_more_64 : (x : ℕ) (z : ℤ) (values : List (ℕ × ℤ)) → IsTrue (is64 z) → Is64 (valuation values) → Is64 (valuation ((x, z) ∷ values))
@@ -42,7 +45,8 @@ one_more_64 x z values h k y = by_test (y == x) where
   by_test true = h
   by_test false = k y
 
-chosen_64 : (columns : List ℕ) (rows : List LinearSum) (values : List (ℕ × ℤ)) → outcome columns rows ≡ chosen values → Is64 (valuation values)
+chosen_64 : (columns : List ℕ) (rows : List LinearSum) (values : List (ℕ × ℤ)) → outcome columns rows ≡ chosen values →
+    Is64 (valuation values)
 chosen_64 [] rows values h = by_test (list_any is_contradiction rows) h where
   by_test : (b : Bool) → (if b then refuted else chosen []) ≡ chosen values → Is64 (valuation values)
   by_test true d = absurd (cc)
@@ -53,14 +57,16 @@ chosen_64 (x ∷ xs) rows values h =
       Rest = (next : List LinearSum) (old : List (ℕ × ℤ)) → outcome xs next ≡ chosen old → Is64 (valuation old)
 
       by_order : (old : List (ℕ × ℤ)) (b : Bool) → int_le (lower_bound x old rows) (upper_bound x old rows) ≡ b → Is64 (valuation old) →
-          (if b then chosen ((x, nearest (lower_bound x old rows) (upper_bound x old rows)) ∷ old) else split x (lower_floor x old rows)) ≡ chosen values →
+          (if b then chosen ((x, nearest (lower_bound x old rows) (upper_bound x old rows)) ∷ old) else split x (lower_floor x old rows))
+          ≡ chosen values →
           Is64 (valuation values)
       by_order old true f k d =
           let z = nearest (lower_bound x old rows) (upper_bound x old rows) in
           subst (λ vs. Is64 (valuation vs)) (chosen_same ((x, z) ∷ old) values d) (one_more_64 x z old (nearest_64 x old rows f) k)
       by_order old false f k d = absurd (cc)
 
-      by_outcome : Rest → (next : List LinearSum) (o : Outcome) → outcome xs next ≡ o → with_value x rows o ≡ chosen values → Is64 (valuation values)
+      by_outcome : Rest → (next : List LinearSum) (o : Outcome) → outcome xs next ≡ o → with_value x rows o ≡ chosen values →
+          Is64 (valuation values)
       by_outcome r next (chosen old) i e = by_order old (int_le (lower_bound x old rows) (upper_bound x old rows)) refl (r next old i) e
       by_outcome r next refuted i e = absurd (cc)
       by_outcome r next (split y m) i e = absurd (cc)
@@ -74,7 +80,8 @@ chosen_64 (x ∷ xs) rows values h =
 
 -- what is met without a split, or behind one
 settled_64 : (splits : List Cube) (atoms : List Atom) (divide : ℕ → ℤ → Search) (values : List (ℕ × ℤ)) →
-    ((x : ℕ) (k : ℤ) → divide x k ≡ found values → Is64 (valuation values)) → settled splits atoms divide (outcome_of atoms) ≡ found values →
+    ((x : ℕ) (k : ℤ) → divide x k ≡ found values → Is64 (valuation values)) → settled splits atoms divide (outcome_of atoms)
+    ≡ found values →
     Is64 (valuation values)
 settled_64 splits atoms divide values rest h = by_outcome (outcome_of atoms) refl h where
   by_outcome : (o : Outcome) → outcome_of atoms ≡ o → settled splits atoms divide o ≡ found values → Is64 (valuation values)
@@ -89,7 +96,9 @@ search_64 : (depth : ℕ) (splits : List Cube) (atoms : List Atom) (values : Lis
     Is64 (valuation values)
 search_64 zero splits atoms values h = settled_64 splits atoms (λ x k. limit_met (Branches splits)) values (λ x k d. absurd (cc)) h
 search_64 (suc depth) splits atoms values h =
-    settled_64 splits atoms _ values (λ x k d. by_room x k (λ more side e. search_64 depth more side values e) (nat_le MAX_SPLITS (length splits)) d) h where
+    settled_64 splits atoms _ values (λ x k d. by_room x k (λ more side e. search_64 depth more side values e)
+    (nat_le MAX_SPLITS (length splits)) d)
+    h where
       Rest : Type 0
       Rest = (more : List Cube) (side : List Atom) → search depth more side ≡ found values → Is64 (valuation values)
 
@@ -104,7 +113,8 @@ search_64 (suc depth) splits atoms values h =
       by_low x k r (nothing more) e d = r more (with_row atoms (at_least x (k +ℤ pos 1))) d
       by_low x k r (limit_met m) e d = absurd (cc)
 
-      by_room : (x : ℕ) (k : ℤ) → Rest → (b : Bool) → (if b then limit_met (Branches splits) else search_on (high x k) (low x k)) ≡ found values →
+      by_room : (x : ℕ) (k : ℤ) → Rest → (b : Bool) → (if b then limit_met (Branches splits) else search_on (high x k) (low x k))
+          ≡ found values →
           Is64 (valuation values)
       by_room x k r true d = absurd (cc)
       by_room x k r false d = by_low x k r (low x k) refl d

@@ -7,10 +7,10 @@ use Rattle.std.proofs.lemmas.List.Elements.{filter-append}
 use Rattle.linear_formula.specs.LinearSum.{coefficient, is_zero, is_term}
 use Rattle.shadow_elim.specs.declared.row.Row.{Row}
 use Rattle.shadow_elim.specs.Elimination.{is_upper, is_lower, is_free}
-use Rattle.shadow_elim.specs.Making.{uppers, lowers, frees}
-use Rattle.shadow_elim.specs.Stages.{AreTerms}
+use Rattle.shadow_elim.specs.steps.Making.{uppers, lowers, frees, AreTerms}
 
--- ---- one more element
+-- One more element
+
 filter_in : {X : Type 0} (p : X → Bool) (xs : List X) (x : X) → p x ≡ true → filter p (xs ++ x ∷ []) ≡ filter p xs ++ x ∷ []
 filter_in {X = X} p xs x e =
     filter-append p xs (x ∷ []) ∙ ap (λ (b : Bool). filter p xs ++ cond b (x ∷ []) []) e
@@ -26,7 +26,8 @@ terms-push : (rows : List Row) (r : Row) → AreTerms rows → IsTrue (is_term r
 terms-push [] r h k = (k, tt)
 terms-push (q ∷ rows) r h k = (h.0, terms-push rows r h.1 k)
 
--- ---- signs
+-- Signs
+
 above : (y z : ℤ) → y <ℤ z → int_lt y z ≡ true
 above y z h = grind (arith, ints)
 
@@ -61,34 +62,50 @@ not_zero (pos zero) h = absurd (h refl)
 not_zero (pos (suc n)) h = refl
 not_zero (negsuc n) h = refl
 
--- ---- the rows so far by their relation to the column
+-- The rows so far by their relation to the column
+
 pub record IsSplit (x : ℕ) (rows us ls fs : List Row) : Type 0 where
   pub uppers : us ≡ uppers x rows
   pub lowers : ls ≡ lowers x rows
   pub free : fs ≡ frees x rows
   pub terms : AreTerms rows
 
-pub split-upper : (x : ℕ) (rows us ls fs : List Row) (r : Row) (z : ℤ) (next : List Row) → IsSplit x rows us ls fs → IsTrue (is_term r.term) → z ≡ coefficient x r.term → pos 0 <ℤ z → next ≡ us ++ r ∷ [] → IsSplit x (rows ++ r ∷ []) next ls fs
+pub split-upper : (x : ℕ) (rows us ls fs : List Row) (r : Row) (z : ℤ) (next : List Row) → IsSplit x rows us ls fs →
+    IsTrue (is_term r.term) →
+    z ≡ coefficient x r.term → pos 0 <ℤ z → next ≡ us ++ r ∷ [] → IsSplit x (rows ++ r ∷ []) next ls fs
 split-upper x rows us ls fs r z next s t e h n = record {
-  uppers = n ∙ (ap (λ (qs : List Row). qs ++ r ∷ []) s.uppers ∙ sym (filter_in (λ (q : Row). is_upper x q.term) rows r (ap (λ (y : ℤ). int_lt (pos 0) y) (sym e) ∙ above (pos 0) z h)));
-  lowers = s.lowers ∙ sym (filter_out (λ (q : Row). is_lower x q.term) rows r (ap (λ (y : ℤ). int_lt y (pos 0)) (sym e) ∙ not_above z (pos 0) (omega (arith, ints, h))));
-  free = s.free ∙ sym (filter_out (λ (q : Row). is_free x q.term) rows r (ap is_zero (sym e) ∙ not_zero z (λ k. omega (arith, ints, h, k))));
+  uppers = n ∙ (ap (λ (qs : List Row). qs ++ r ∷ []) s.uppers
+      ∙ sym (filter_in (λ (q : Row). is_upper x q.term) rows r (ap (λ (y : ℤ). int_lt (pos 0) y) (sym e) ∙ above (pos 0) z h)));
+  lowers = s.lowers ∙ sym (filter_out (λ (q : Row). is_lower x q.term) rows r (ap (λ (y : ℤ). int_lt y (pos 0)) (sym e)
+      ∙ not_above z (pos 0) (omega (arith, ints, h))));
+  free = s.free ∙ sym (filter_out (λ (q : Row). is_free x q.term) rows r
+      (ap is_zero (sym e) ∙ not_zero z (λ k. omega (arith, ints, h, k))));
   terms = terms-push rows r s.terms t;
 }
 
-pub split-lower : (x : ℕ) (rows us ls fs : List Row) (r : Row) (z : ℤ) (next : List Row) → IsSplit x rows us ls fs → IsTrue (is_term r.term) → z ≡ coefficient x r.term → z <ℤ pos 0 → next ≡ ls ++ r ∷ [] → IsSplit x (rows ++ r ∷ []) us next fs
+pub split-lower : (x : ℕ) (rows us ls fs : List Row) (r : Row) (z : ℤ) (next : List Row) → IsSplit x rows us ls fs →
+    IsTrue (is_term r.term) →
+    z ≡ coefficient x r.term → z <ℤ pos 0 → next ≡ ls ++ r ∷ [] → IsSplit x (rows ++ r ∷ []) us next fs
 split-lower x rows us ls fs r z next s t e h n = record {
-  uppers = s.uppers ∙ sym (filter_out (λ (q : Row). is_upper x q.term) rows r (ap (λ (y : ℤ). int_lt (pos 0) y) (sym e) ∙ not_above (pos 0) z (omega (arith, ints, h))));
-  lowers = n ∙ (ap (λ (qs : List Row). qs ++ r ∷ []) s.lowers ∙ sym (filter_in (λ (q : Row). is_lower x q.term) rows r (ap (λ (y : ℤ). int_lt y (pos 0)) (sym e) ∙ above z (pos 0) h)));
-  free = s.free ∙ sym (filter_out (λ (q : Row). is_free x q.term) rows r (ap is_zero (sym e) ∙ not_zero z (λ k. omega (arith, ints, h, k))));
+  uppers = s.uppers ∙ sym (filter_out (λ (q : Row). is_upper x q.term) rows r (ap (λ (y : ℤ). int_lt (pos 0) y) (sym e) ∙ not_above (pos 0)
+      z (omega (arith, ints, h))));
+  lowers = n ∙ (ap (λ (qs : List Row). qs ++ r ∷ []) s.lowers
+      ∙ sym (filter_in (λ (q : Row). is_lower x q.term) rows r (ap (λ (y : ℤ). int_lt y (pos 0)) (sym e) ∙ above z (pos 0) h)));
+  free = s.free ∙ sym (filter_out (λ (q : Row). is_free x q.term) rows r
+      (ap is_zero (sym e) ∙ not_zero z (λ k. omega (arith, ints, h, k))));
   terms = terms-push rows r s.terms t;
 }
 
-pub split-free : (x : ℕ) (rows us ls fs : List Row) (r : Row) (z : ℤ) (next : List Row) → IsSplit x rows us ls fs → IsTrue (is_term r.term) → z ≡ coefficient x r.term → z ≤ℤ pos 0 → pos 0 ≤ℤ z → next ≡ fs ++ r ∷ [] → IsSplit x (rows ++ r ∷ []) us ls next
+pub split-free : (x : ℕ) (rows us ls fs : List Row) (r : Row) (z : ℤ) (next : List Row) → IsSplit x rows us ls fs →
+    IsTrue (is_term r.term) →
+    z ≡ coefficient x r.term → z ≤ℤ pos 0 → pos 0 ≤ℤ z → next ≡ fs ++ r ∷ [] → IsSplit x (rows ++ r ∷ []) us ls next
 split-free x rows us ls fs r z next s t e h k n = record {
-  uppers = s.uppers ∙ sym (filter_out (λ (q : Row). is_upper x q.term) rows r (ap (λ (y : ℤ). int_lt (pos 0) y) (sym e) ∙ not_above (pos 0) z h));
-  lowers = s.lowers ∙ sym (filter_out (λ (q : Row). is_lower x q.term) rows r (ap (λ (y : ℤ). int_lt y (pos 0)) (sym e) ∙ not_above z (pos 0) k));
-  free = n ∙ (ap (λ (qs : List Row). qs ++ r ∷ []) s.free ∙ sym (filter_in (λ (q : Row). is_free x q.term) rows r (ap is_zero (sym e ∙ zero_is))));
+  uppers = s.uppers ∙ sym (filter_out (λ (q : Row). is_upper x q.term) rows r (ap (λ (y : ℤ). int_lt (pos 0) y) (sym e) ∙ not_above (pos 0)
+      z h));
+  lowers = s.lowers ∙ sym (filter_out (λ (q : Row). is_lower x q.term) rows r (ap (λ (y : ℤ). int_lt y (pos 0)) (sym e)
+      ∙ not_above z (pos 0) k));
+  free = n ∙ (ap (λ (qs : List Row). qs ++ r ∷ []) s.free
+      ∙ sym (filter_in (λ (q : Row). is_free x q.term) rows r (ap is_zero (sym e ∙ zero_is))));
   terms = terms-push rows r s.terms t;
 } where
   zero_is : z ≡ pos 0

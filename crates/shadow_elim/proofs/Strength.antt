@@ -24,7 +24,8 @@ Decides-same_part p q = (there, back) where
 
   back : p ≡ q → is_same_part p q ≡ true
   back e =
-      and_from (p.0 == q.0) (int_eq p.1 q.1) (eq-eqb p.0 q.0 (ap (λ (x : ℕ × ℤ). x.0) e)) ((Decides-int_eq p.1 q.1).1 (ap (λ (x : ℕ × ℤ). x.1) e))
+      and_from (p.0 == q.0) (int_eq p.1 q.1) (eq-eqb p.0 q.0 (ap (λ (x : ℕ × ℤ). x.0) e))
+      ((Decides-int_eq p.1 q.1).1 (ap (λ (x : ℕ × ℤ). x.1) e))
 
 pub Decides-same_list : (ps qs : List (ℕ × ℤ)) → Decides (pointwise is_same_part ps qs) (ps ≡ qs)
 Decides-same_list ps qs =
@@ -51,7 +52,8 @@ int_lt-from a b h = grind (arith, ints)
 
 pub test-from_AsStrong : (t s : LinearSum) → AsStrong t s → is_as_strong t s ≡ true
 test-from_AsStrong t s h =
-    and_from (same_parts s t) (int_le t.constant s.constant) ((Decides-same_list s.parts t.parts).1 h.parts) (int_le-from t.constant s.constant h.constant)
+    and_from (same_parts s t) (int_le t.constant s.constant) ((Decides-same_list s.parts t.parts).1 h.parts)
+    (int_le-from t.constant s.constant h.constant)
 
 -- s is stronger than t
 pub record Stronger (t s : LinearSum) : Type 0 where
@@ -68,7 +70,8 @@ Stronger-from_test t s h =
 
 pub test-from_Stronger : (t s : LinearSum) → Stronger t s → is_stronger t s ≡ true
 test-from_Stronger t s h =
-    and_from (same_parts s t) (int_lt t.constant s.constant) ((Decides-same_list s.parts t.parts).1 h.parts) (int_lt-from t.constant s.constant h.constant)
+    and_from (same_parts s t) (int_lt t.constant s.constant) ((Decides-same_list s.parts t.parts).1 h.parts)
+    (int_lt-from t.constant s.constant h.constant)
 
 -- what is as strong as one that is as strong or stronger
 pub as_strong-trans : (t s r : LinearSum) → is_as_strong t s ≡ true → is_as_strong s r ≡ true → is_as_strong t r ≡ true
@@ -103,7 +106,9 @@ not_both t s h k =
     let b = AsStrong-from_test s t k in
     omega (arith, ints, a.constant, b.constant)
 
-pub any-weaker : (p q : LinearSum → Bool) (xs : List LinearSum) → ((x : LinearSum) → p x ≡ true → q x ≡ true) → list_any p xs ≡ true → list_any q xs ≡ true
+pub any-weaker : (p q : LinearSum → Bool) (xs : List LinearSum) → ((x : LinearSum) → p x ≡ true → q x ≡ true) → list_any p xs ≡ true →
+    list_any q xs ≡ true
 any-weaker p q [] f h = h
 any-weaker p q (x ∷ xs) f h =
-    ⊎_elim (λ e. or_left (q x) (list_any q xs) (f x e)) (λ e. or_right (q x) (list_any q xs) (any-weaker p q xs f e)) (or_cases (p x) (list_any p xs) h)
+    ⊎_elim (λ e. or_left (q x) (list_any q xs) (f x e)) (λ e. or_right (q x) (list_any q xs) (any-weaker p q xs f e))
+    (or_cases (p x) (list_any p xs) h)

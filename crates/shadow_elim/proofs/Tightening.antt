@@ -25,13 +25,15 @@ second : (s t : Bool) → (s && t) ≡ true → t ≡ true
 second true t h = h
 second false t h = absurd (cc)
 
--- ---- common divisors
+-- Common divisors
+
 one-divides : (n : ℕ) → 1 ∣ n
 one-divides n = dvd_of_mod-eq-zero 1 (omega arith)
 
 pub divides-up_to : (n a b : ℕ) → (common_divisor_up_to (suc n) a b ∣ a) × (common_divisor_up_to (suc n) a b ∣ b)
 divides-up_to zero a b =
-    chosen_of_two (λ r. (r ∣ a) × (r ∣ b)) ((a % 1 == 0) && (b % 1 == 0)) 1 0 (λ _. (one-divides a, one-divides b)) (λ e. absurd (never e)) where
+    chosen_of_two (λ r. (r ∣ a) × (r ∣ b)) ((a % 1 == 0) && (b % 1 == 0)) 1 0 (λ _. (one-divides a, one-divides b))
+    (λ e. absurd (never e)) where
       both_true : (s t : Bool) → s ≡ true → t ≡ true → (s && t) ≡ true
       both_true true t h k = k
       both_true false t h k = h
@@ -42,7 +44,12 @@ divides-up_to zero a b =
           let g : (b % 1 == 0) ≡ true = eq-eqb (b % 1) 0 (omega arith) in
           true≢false (sym (both_true (a % 1 == 0) (b % 1 == 0) f g) ∙ e)
 divides-up_to (suc m) a b =
-    chosen_of_two (λ r. (r ∣ a) × (r ∣ b)) ((a % suc (suc m) == 0) && (b % suc (suc m) == 0)) (suc (suc m)) (common_divisor_up_to (suc m) a b) (λ e. (dvd_of_mod-eq-zero (suc (suc m)) (eqb-true (a % suc (suc m)) 0 (first (a % suc (suc m) == 0) (b % suc (suc m) == 0) e)), dvd_of_mod-eq-zero (suc (suc m)) (eqb-true (b % suc (suc m)) 0 (second (a % suc (suc m) == 0) (b % suc (suc m) == 0) e)))) (λ _. divides-up_to m a b)
+    chosen_of_two (λ r. (r ∣ a) × (r ∣ b)) ((a % suc (suc m) == 0) && (b % suc (suc m) == 0)) (suc (suc m))
+    (common_divisor_up_to (suc m) a b)
+    (λ e. (
+      dvd_of_mod-eq-zero (suc (suc m)) (eqb-true (a % suc (suc m)) 0 (first (a % suc (suc m) == 0) (b % suc (suc m) == 0) e)),
+      dvd_of_mod-eq-zero (suc (suc m)) (eqb-true (b % suc (suc m)) 0 (second (a % suc (suc m) == 0) (b % suc (suc m) == 0) e)),
+    )) (λ _. divides-up_to m a b)
 
 pub divides-common : (a b : ℕ) → (common_divisor a b ∣ a) × (common_divisor a b ∣ b)
 divides-common zero b = (dvd-zero b, dvd_refl b)
@@ -63,9 +70,17 @@ parts_divisor-divides (p ∷ ps) =
     let c = divides-common (unsigned_abs p.1) (parts_divisor ps) in
     (c.0, divides-all_of (common_divisor (unsigned_abs p.1) (parts_divisor ps)) (parts_divisor ps) ps c.1 (parts_divisor-divides ps))
 
--- ---- quotients
+-- Quotients
+
 pub mul-neg : (a b : ℤ) → a *ℤ neg_ℤ b ≡ neg_ℤ (a *ℤ b)
-mul-neg a b = omega (arith, ints, ap (λ n. up a * n) (neg_is b).0, ap (λ n. up a * n) (neg_is b).1, ap (λ n. down a * n) (neg_is b).0, ap (λ n. down a * n) (neg_is b).1)
+mul-neg a b = omega (
+  arith,
+  ints,
+  ap (λ n. up a * n) (neg_is b).0,
+  ap (λ n. up a * n) (neg_is b).1,
+  ap (λ n. down a * n) (neg_is b).0,
+  ap (λ n. down a * n) (neg_is b).1,
+)
 
 pub floor-bounds : (z : ℤ) (d : ℕ) → 0 < d → ((pos d *ℤ floor_quotient z d) ≤ℤ z) × (z <ℤ ((pos d *ℤ floor_quotient z d) +ℤ pos d))
 floor-bounds (pos a) d h = (omega (arith, ints), omega (arith, ints))
@@ -80,8 +95,10 @@ ceiling-bounds z d h =
 -- a number between two multiples that follow is no other multiple
 pub same_quotient : (d : ℕ) (f c : ℤ) → 0 < d → (pos d *ℤ f) ≤ℤ (pos d *ℤ c) → (pos d *ℤ c) <ℤ ((pos d *ℤ f) +ℤ pos d) → f ≡ c
 same_quotient d f c h lo hi =
-    let above = below_multiplier (pos d) (f -ℤ c) (omega (arith, ints, h)) (omega (arith, ints, mul-add (pos d) (f -ℤ c) c, ap (λ z. pos d *ℤ z) (apart f c))) in
-    let below = below_multiplier (pos d) (c -ℤ f) (omega (arith, ints, h)) (omega (arith, ints, mul-add (pos d) (c -ℤ f) f, ap (λ z. pos d *ℤ z) (apart c f))) in
+    let above = below_multiplier (pos d) (f -ℤ c) (omega (arith, ints, h))
+    (omega (arith, ints, mul-add (pos d) (f -ℤ c) c, ap (λ z. pos d *ℤ z) (apart f c))) in
+    let below = below_multiplier (pos d) (c -ℤ f) (omega (arith, ints, h))
+    (omega (arith, ints, mul-add (pos d) (c -ℤ f) f, ap (λ z. pos d *ℤ z) (apart c f))) in
     omega (arith, ints, above, below) where
       apart : (a b : ℤ) → (a -ℤ b) +ℤ b ≡ a
       apart a b = omega (arith, ints)
@@ -102,8 +119,10 @@ floor-exact z d h k =
     let same = same_quotient d (floor_quotient z d) c.0 h (omega (arith, ints, b.0, c.1)) (omega (arith, ints, b.1, c.1)) in
     c.1 ∙ ap (λ y. pos d *ℤ y) (sym same)
 
--- ---- tightened rows
-value-divided : (v : Valuation) (d : ℕ) (ps : List (ℕ × ℤ)) → 0 < d → DividesAll d ps → value_of_parts v ps ≡ pos d *ℤ value_of_parts v (divided_parts d ps)
+-- Tightened rows
+
+value-divided : (v : Valuation) (d : ℕ) (ps : List (ℕ × ℤ)) → 0 < d → DividesAll d ps → value_of_parts v ps ≡ pos d *ℤ value_of_parts v
+    (divided_parts d ps)
 value-divided v d [] h k = omega (arith, ints)
 value-divided v d (p ∷ ps) h k =
     let e = floor-exact p.1 d h k.0 in
@@ -114,7 +133,8 @@ listed-divided : (x d : ℕ) (ps : List (ℕ × ℤ)) → 0 < d → DividesAll d
 listed-divided x d [] h k = omega (arith, ints)
 listed-divided x d (p ∷ ps) h k =
     by_test (x == p.0) (floor-exact p.1 d h k.0) (listed-divided x d ps h k.1) where
-      by_test : (b : Bool) → p.1 ≡ pos d *ℤ floor_quotient p.1 d → listed_at x ps ≡ pos d *ℤ listed_at x (divided_parts d ps) → (if b then p.1 else listed_at x ps) ≡ pos d *ℤ (if b then floor_quotient p.1 d else listed_at x (divided_parts d ps))
+      by_test : (b : Bool) → p.1 ≡ pos d *ℤ floor_quotient p.1 d → listed_at x ps ≡ pos d *ℤ listed_at x (divided_parts d ps) →
+          (if b then p.1 else listed_at x ps) ≡ pos d *ℤ (if b then floor_quotient p.1 d else listed_at x (divided_parts d ps))
       by_test true e i = e
       by_test false e i = i
 
@@ -167,7 +187,8 @@ pub record IsTightened (t s : LinearSum) (d : ℕ) : Type 0 where
 
 pub tightened-is : (t : LinearSum) → IsTightened t (tightened t) (row_divisor t)
 tightened-is t = by_test (nat_lt 1 (parts_divisor t.parts)) refl where
-  by_test : (b : Bool) → nat_lt 1 (parts_divisor t.parts) ≡ b → IsTightened t (if b then divided (parts_divisor t.parts) t else t) (if b then parts_divisor t.parts else 1)
+  by_test : (b : Bool) → nat_lt 1 (parts_divisor t.parts) ≡ b → IsTightened t (if b then divided (parts_divisor t.parts) t else t)
+      (if b then parts_divisor t.parts else 1)
   by_test true e =
       let d = parts_divisor t.parts in
       let h : 0 < parts_divisor t.parts = omega (arith, ltb-true 1 (parts_divisor t.parts) e) in
@@ -200,10 +221,13 @@ tightened-meets v t =
     let k = tightened-is t in
     let d = row_divisor t in
     let s = tightened t in
-    meets (pos (row_divisor t)) (value_of_parts v (tightened t).parts) t.constant (tightened t).constant (value_of_parts v t.parts) (omega (arith, ints, k.positive)) (k.value v) k.constant where
+    meets (pos (row_divisor t)) (value_of_parts v (tightened t).parts) t.constant (tightened t).constant (value_of_parts v t.parts)
+    (omega (arith, ints, k.positive)) (k.value v) k.constant where
       meets : (d s c k p : ℤ) → pos 1 ≤ℤ d → p ≡ d *ℤ s → IsRoundedUp c d k → ((p +ℤ c) ≤ℤ pos 0) ↔ ((s +ℤ k) ≤ℤ pos 0)
-      meets d s c k p h e r =
-          (λ g. rounded_nonpos d s c k h (omega (arith, ints, e, g)) r.1, λ g. omega (arith, ints, e, mul-add d s k, mul_nonpos d (s +ℤ k) (omega (arith, ints, h)) g, r.0))
+      meets d s c k p h e r = (
+        λ g. rounded_nonpos d s c k h (omega (arith, ints, e, g)) r.1,
+        λ g. omega (arith, ints, e, mul-add d s k, mul_nonpos d (s +ℤ k) (omega (arith, ints, h)) g, r.0),
+      )
 
 pub tightened-term : (t : LinearSum) → IsTrue (is_term t) → IsTrue (is_term (tightened t))
 tightened-term t h = (tightened-is t).term h

@@ -24,11 +24,14 @@ is_free x t = is_zero (coefficient x t)
 abbrev pub size_of : ℕ → LinearSum → ℕ
 size_of x t = unsigned_abs (coefficient x t)
 
--- each upper row with each lower row; the upper rows in their order, and for each of them the lower rows in theirs
+-- each upper row with each lower row; the upper rows in their order, and for each of them the lower
+-- rows in theirs
 abbrev pub pairs : ℕ → List LinearSum → List (LinearSum × LinearSum)
-pairs x rows = flat_map (λ u. map (λ l. (u, l)) (filter (is_lower x) rows)) (filter (is_upper x) rows)
+pairs x rows = flat_map (λ u. map (λ l. (u, l)) (filter (is_lower x) rows))
+    (filter (is_upper x) rows)
 
--- the multiples of an upper row with the coefficient a and of a lower row with -b that have no part of the column
+-- the multiples of an upper row with the coefficient a and of a lower row with -b that have no part
+-- of the column
 abbrev pub upper_multiple : (a b : ℕ) → ℕ
 upper_multiple a b = b / common_divisor a b
 
@@ -57,7 +60,8 @@ pub data Remainder : Type 0 where
 abbrev pub counted : List LinearSum → Remainder
 counted rows = if nat_le (length rows) MAX_ROWS then remains rows else too_many
 
--- the rows without the column: those that don't name it, and then the sums of the pairs, tightened. Each sum is measured
+-- the rows without the column: those that don't name it, and then the sums of the pairs, tightened.
+-- Each sum is measured
 -- before it is tightened.
 abbrev pub after_column : ℕ → List LinearSum → Remainder
 after_column x rows =
@@ -87,7 +91,8 @@ is_unit x t = size_of x t == 1
 abbrev pub is_inexact : ℕ → LinearSum × LinearSum → Bool
 is_inexact x p = not (is_unit x p.0) && not (is_unit x p.1)
 
-abbrev pub inexact_after : (List LinearSum → Option (ℕ × (LinearSum × LinearSum))) → Remainder → Option (ℕ × (LinearSum × LinearSum))
+abbrev pub inexact_after : (List LinearSum → Option (ℕ × (LinearSum × LinearSum))) → Remainder →
+    Option (ℕ × (LinearSum × LinearSum))
 inexact_after next (remains rows) = next rows
 inexact_after next wide = None
 inexact_after next too_many = None
@@ -96,4 +101,5 @@ inexact_after next too_many = None
 abbrev pub first_inexact : List ℕ → List LinearSum → Option (ℕ × (LinearSum × LinearSum))
 first_inexact [] rows = None
 first_inexact (x ∷ xs) rows =
-    option_or (option_map (λ p. (x, p)) (find (is_inexact x) (pairs x rows))) (inexact_after (first_inexact xs) (after_column x rows))
+    option_or (option_map (λ p. (x, p)) (find (is_inexact x) (pairs x rows)))
+    (inexact_after (first_inexact xs) (after_column x rows))

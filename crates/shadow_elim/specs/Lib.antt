@@ -2,9 +2,7 @@ pub mod Division
 pub mod Reduction
 pub mod Elimination
 pub mod Errors
-pub mod Making
 pub mod Stages
-pub mod Places
 pub mod Shadows
 pub mod Points
 pub mod Plan
@@ -15,3 +13,4 @@ pub mod Entailment
 pub mod Sums
 pub mod Projection
 pub mod ProjectionLaws
+pub mod steps

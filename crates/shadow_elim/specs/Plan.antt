@@ -21,7 +21,8 @@ cube_of atoms = record { atoms = atoms }
 abbrev pub with_row : List Atom → LinearSum → List Atom
 with_row atoms t = atoms ++ record { term = t } ∷ []
 
--- where the search of a branch stands: a point, nothing in it and the cubes split so far in order, or a limit
+-- where the search of a branch stands: a point, nothing in it and the cubes split so far in order,
+-- or a limit
 pub data Search : Type 0 where
   found : List (ℕ × ℤ) → Search
   nothing : (splits : List Cube) → Search
@@ -40,10 +41,12 @@ settled splits atoms divide (split x k) = divide x k
 settled splits atoms divide too_wide = limit_met (Wide (question.Cube (cube_of atoms)))
 settled splits atoms divide too_many_rows = limit_met (Rows (cube_of atoms))
 
--- The search of a branch after the splits so far, the side at most k of a split first, and then the side at least
+-- The search of a branch after the splits so far, the side at most k of a split first, and then the
+-- side at least
 -- k + 1. The depth only bounds the recursion: that many splits on one way are too many.
 abbrev pub search : (depth : ℕ) → (splits : List Cube) → List Atom → Search
-search zero splits atoms = settled splits atoms (λ x k. limit_met (Branches splits)) (outcome_of atoms)
+search zero splits atoms = settled splits atoms (λ x k. limit_met (Branches splits))
+    (outcome_of atoms)
 search (suc depth) splits atoms =
     settled splits atoms
     (λ x k. if nat_le MAX_SPLITS (length splits)
@@ -55,4 +58,5 @@ search (suc depth) splits atoms =
 -- what a cube comes to
 abbrev pub solution : List Atom → Search
 solution atoms =
-    if nat_lt MAX_COLUMNS (length (columns_of (rows_of atoms))) then limit_met Columns else search MAX_SPLITS [] atoms
+    if nat_lt MAX_COLUMNS (length (columns_of (rows_of atoms))) then limit_met Columns else search
+    MAX_SPLITS [] atoms

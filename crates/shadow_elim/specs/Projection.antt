@@ -12,7 +12,8 @@ use Rattle.shadow_elim.specs.declared.projection.ProjectionError.{ProjectionErro
 use Rattle.shadow_elim.specs.declared.projection.ProjectionError.TheVariants as refusal
 use Rattle.shadow_elim.specs.declared.sum.Sum.{Sum}
 
--- the rows that are left with the first pair of rows that may let other points in, or the limit that was met
+-- the rows that are left with the first pair of rows that may let other points in, or the limit
+-- that was met
 pub data Projected : Type 0 where
   gives : (rows : List Atom) → (pair : Option (ℕ × (LinearSum × LinearSum))) → Projected
   refuses : Kept → Projected

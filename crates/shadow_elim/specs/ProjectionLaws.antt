@@ -20,7 +20,8 @@ Pair = Option (ℕ × (LinearSum × LinearSum))
 -- each assignment that meets the atoms meets the rows
 abbrev pub ProjectionsKeep : Type 0
 ProjectionsKeep =
-    (columns : List ℕ) (atoms rows : List Atom) (pair : Pair) → projected columns atoms ≡ gives rows pair →
+    (columns : List ℕ) (atoms rows : List Atom) (pair : Pair) → projected columns atoms
+    ≡ gives rows pair →
     KeepsAll atoms rows
 
 -- without an inexact pair, each assignment that meets the rows comes of one that meets the atoms
@@ -46,7 +47,8 @@ ProjectionsNameNoOther =
 
 -- each column that atoms name is among those that are listed
 abbrev pub ListsNamed : Type 0
-ListsNamed = (x : ℕ) (atoms : List Atom) → (¬ Contains (columns_of (rows_of atoms)) x) → IsUnnamed x atoms
+ListsNamed = (x : ℕ) (atoms : List Atom) → (¬ Contains (columns_of (rows_of atoms)) x) →
+    IsUnnamed x atoms
 
 abbrev pub ProjectionsAreTerms : Type 0
 ProjectionsAreTerms =
@@ -62,12 +64,15 @@ SumsHold =
 -- the two rows of an equality hold where it does
 abbrev pub EqualRowsHold : Type 0
 EqualRowsHold =
-    (v : Valuation) (s t : LinearSum) → HoldsAll v (rows_of_sums (equal_sums s t)) ↔ (value_of v s ≡ value_of v t)
+    (v : Valuation) (s t : LinearSum) → HoldsAll v (rows_of_sums (equal_sums s t)) ↔
+    (value_of v s ≡ value_of v t)
 
 -- atoms that are renamed by sums are the renamed atoms, and those read column by column stay
 abbrev pub SumsRename : Type 0
 SumsRename =
-    (f : ℕ → ℕ) (atoms : List Atom) → rows_of_sums (row_sums (renaming f) atoms) ≡ renamed_atoms_by f atoms
+    (f : ℕ → ℕ) (atoms : List Atom) → rows_of_sums (row_sums (renaming f) atoms) ≡ renamed_atoms_by
+    f atoms
 
 abbrev pub SumsKeep : Type 0
-SumsKeep = (atoms : List Atom) → IsTrue (are_terms atoms) → rows_of_sums (row_sums column_sum atoms) ≡ atoms
+SumsKeep = (atoms : List Atom) → IsTrue (are_terms atoms) → rows_of_sums (row_sums column_sum atoms)
+    ≡ atoms

@@ -41,4 +41,5 @@ IsShownToEntail left (atom ∷ right) = IsEntailed left atom × IsShownToEntail 
 abbrev pub IsShownNotToEntail : List Atom → List Atom → Type 0
 IsShownNotToEntail left [] = ⊥
 IsShownNotToEntail left (atom ∷ right) =
-    CanNegate atom × (IsMet (with_negation left atom) ⊎ (IsNever (with_negation left atom) × IsShownNotToEntail left right))
+    CanNegate atom × (IsMet (with_negation left atom)
+    ⊎ (IsNever (with_negation left atom) × IsShownNotToEntail left right))

@@ -30,21 +30,25 @@ is_trivial t = has_no_parts t && int_le t.constant (pos 0)
 abbrev pub is_contradiction : LinearSum → Bool
 is_contradiction t = has_no_parts t && int_lt (pos 0) t.constant
 
--- Whether a row stays between those before it and those after it: of rows with the same coefficients the first one
+-- Whether a row stays between those before it and those after it: of rows with the same
+-- coefficients the first one
 -- with the greatest constant, and none that always holds.
 abbrev pub stays : List LinearSum → LinearSum → List LinearSum → Bool
 stays before t after =
-    not (is_trivial t) && (not (list_any (is_as_strong t) before) && not (list_any (is_stronger t) after))
+    not (is_trivial t) && (not (list_any (is_as_strong t) before) && not
+    (list_any (is_stronger t) after))
 
 -- the rows that stay, each in its own place
 abbrev pub reduced_after : List LinearSum → List LinearSum → List LinearSum
 reduced_after before [] = []
 reduced_after before (t ∷ ts) =
-    if stays before t ts then (t ∷ reduced_after (before ++ t ∷ []) ts) else reduced_after (before ++ t ∷ []) ts
+    if stays before t ts then (t ∷ reduced_after (before ++ t ∷ []) ts) else reduced_after
+    (before ++ t ∷ []) ts
 
 abbrev pub reduced : List LinearSum → List LinearSum
 reduced rows = reduced_after [] rows
 
 -- the same rows stay, whatever comes after
 abbrev pub SameReduced : List LinearSum → List LinearSum → Type 0
-SameReduced rows others = (more : List LinearSum) → reduced (rows ++ more) ≡ reduced (others ++ more)
+SameReduced rows others = (more : List LinearSum) → reduced (rows ++ more)
+    ≡ reduced (others ++ more)

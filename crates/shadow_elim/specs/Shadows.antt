@@ -12,7 +12,8 @@ KeepsAll atoms shadow = (v : Valuation) → Is64 v → HoldsAll v atoms → Hold
 
 -- no atom names any of the columns
 abbrev pub NamesNone : List ℕ → List Atom → Type 0
-NamesNone columns atoms = (x : ℕ) → Contains columns x → All (λ a. coefficient x a.term ≡ pos 0) atoms
+NamesNone columns atoms = (x : ℕ) → Contains columns x → All (λ a. coefficient x a.term ≡ pos 0)
+    atoms
 
 -- w has the values of v but at the columns
 abbrev pub AgreesBut : List ℕ → Valuation → Valuation → Type 0
@@ -21,11 +22,13 @@ AgreesBut columns v w = (x : ℕ) → (Contains columns x → ⊥) → w x ≡ v
 -- each assignment that meets the shadow can be changed at the columns so that it meets the cube
 abbrev pub LosesNone : List ℕ → List Atom → List Atom → Type 0
 LosesNone columns atoms shadow =
-    (v : Valuation) → Is64 v → HoldsAll v shadow → (w : Valuation) × Is64 w × AgreesBut columns v w × HoldsAll w atoms
+    (v : Valuation) → Is64 v → HoldsAll v shadow → (w : Valuation) × Is64 w × AgreesBut columns v w
+    × HoldsAll w atoms
 
 -- each atom is one of the rows or is derived
 abbrev pub AreDerived : List LinearSum → List Derived → List Atom → Type 0
-AreDerived rows steps shadow = All (λ a. Contains (rows ++ map (λ d. d.row.term) steps) a.term) shadow
+AreDerived rows steps shadow = All (λ a. Contains (rows ++ map (λ d. d.row.term) steps) a.term)
+    shadow
 
 -- the pair as rows of its column
 abbrev pub pair_rows : Option Pair → Option (ℕ × (LinearSum × LinearSum))

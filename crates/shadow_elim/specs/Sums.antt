@@ -1,5 +1,5 @@
 -- Rows as sums in order, and the first sum that is too wide.
-use Rattle.std.specs.Prelude.{◌≡◌, ℕ, IsTrue, List, [], ◌∷◌, map, Option, None, Some, slice_index_or, ℤ, pos, negsuc, if◌then◌else◌}
+use Rattle.std.specs.Prelude.{◌≡◌, ℕ, IsTrue, List, [], ◌∷◌, map, Option, None, Some, slice_index_or, pos, negsuc, if◌then◌else◌}
 use Rattle.linear_formula.specs.LinearSum.{LinearSum, is_within}
 use Rattle.linear_formula.specs.Results.{combination, constant_sum}
 use Rattle.linear_formula.specs.Replaced.{column_sum, summands_of}

@@ -1,14 +1,13 @@
 //! The elimination of one column.
 
-ghost use Rattle.std.specs.Prelude.{◌≡◌, ◌+◌, ◌++◌, List, [], map, filter, length, All, Contains, IfOk, OnOk, IsErrOf, IsTrue};
-ghost use Rattle.std.specs.List.{list_all};
+ghost use Rattle.std.specs.Prelude.{◌≡◌, ◌+◌, ◌++◌, List, map, length, All, Contains, IfOk, OnOk, IsErrOf, IsTrue};
 ghost use Rattle.linear_formula.specs.LinearSum.{LinearSum, is_within};
 ghost use Rattle.infeasible_cert.specs.Right.{AreRightSteps, rows_after};
 ghost use Rattle.infeasible_cert.specs.declared.certificate.Derived.{Derived};
 ghost use Rattle.shadow_elim.specs.Elimination.{is_upper, is_lower, pair_sum, after_column, remains, wide, too_many};
-ghost use Rattle.shadow_elim.specs.Making.{terms_of, candidate_terms, uppers, lowers, frees, known, made, made_of_all, step_of, steps_of, numbered};
+ghost use Rattle.shadow_elim.specs.steps.Making.{candidate_terms, uppers, lowers, frees, known, made, made_of_all, step_of, steps_of, numbered, AreTerms};
+ghost use Rattle.shadow_elim.specs.Stages.{terms_of, IsStage, AreNumbered};
 ghost use Rattle.shadow_elim.specs.Reduction.{SameReduced};
-ghost use Rattle.shadow_elim.specs.Stages.{IsStage, AreNumbered, AreTerms};
 
 use crate::elimination::Stage;
 use crate::limit::MAX_ROWS;
@@ -57,8 +56,10 @@ fn split_rows(alloc: Global, column: u32, rows: Vec<Row>) -> Result<Sides, OutOf
 
 fn add_free(reduction: &mut Reduction, alloc: Global, rows: Vec<Row>) -> Result<(), OutOfMemory>
     ensures same { OnOk result
-        (SameReduced (candidate_terms (reduction.old ++ map known rows.items)) (candidate_terms reduction.new)) }
-    ensures among { OnOk result (All (λ c. Contains (reduction.old ++ map known rows.items) c) reduction.new) }
+        (SameReduced (candidate_terms (reduction.old ++ map known rows.items))
+        (candidate_terms reduction.new)) }
+    ensures among { OnOk result (All (λ c. Contains (reduction.old ++ map known rows.items) c)
+        reduction.new) }
 {
     for row in rows {
         let Row { term, number } = row;
@@ -82,11 +83,14 @@ fn add_pairs_of(
 ) -> Result<(), LinError>
     requires upper { IsTrue (is_upper column upper.now.term) }
     requires lowers { All (λ l. IsTrue (is_lower column l.term)) lowers.now }
-    ensures within { OnOk result (All (λ l. IsTrue (is_within (pair_sum column (upper.now.term, l.term)))) lowers.now) }
+    ensures within { OnOk result
+        (All (λ l. IsTrue (is_within (pair_sum column (upper.now.term, l.term)))) lowers.now) }
     ensures same { OnOk result
-        (SameReduced (candidate_terms (reduction.old ++ map (made column upper.now) lowers.now)) (candidate_terms reduction.new)) }
+        (SameReduced (candidate_terms (reduction.old ++ map (made column upper.now) lowers.now))
+        (candidate_terms reduction.new)) }
     ensures among { OnOk result
-        (All (λ c. Contains (reduction.old ++ map (made column upper.now) lowers.now) c) reduction.new) }
+        (All (λ c. Contains (reduction.old ++ map (made column upper.now) lowers.now) c)
+        reduction.new) }
     ensures wide { IsErrOf result LinError.Wide → ¬ All
         (λ l. IsTrue (is_within (pair_sum column (upper.now.term, l.term)))) lowers.now }
 {
@@ -107,13 +111,17 @@ fn add_pairs(
     requires uppers { All (λ u. IsTrue (is_upper column u.term)) uppers.now }
     requires lowers { All (λ l. IsTrue (is_lower column l.term)) lowers.now }
     ensures within { OnOk result
-        (All (λ u. All (λ l. IsTrue (is_within (pair_sum column (u.term, l.term)))) lowers.now) uppers.now) }
+        (All (λ u. All (λ l. IsTrue (is_within (pair_sum column (u.term, l.term)))) lowers.now)
+        uppers.now) }
     ensures same { OnOk result
-        (SameReduced (candidate_terms (reduction.old ++ made_of_all column uppers.now lowers.now)) (candidate_terms reduction.new)) }
+        (SameReduced (candidate_terms (reduction.old ++ made_of_all column uppers.now lowers.now))
+        (candidate_terms reduction.new)) }
     ensures among { OnOk result
-        (All (λ c. Contains (reduction.old ++ made_of_all column uppers.now lowers.now) c) reduction.new) }
+        (All (λ c. Contains (reduction.old ++ made_of_all column uppers.now lowers.now) c)
+        reduction.new) }
     ensures wide { IsErrOf result LinError.Wide → ¬ All
-        (λ u. All (λ l. IsTrue (is_within (pair_sum column (u.term, l.term)))) lowers.now) uppers.now }
+        (λ u. All (λ l. IsTrue (is_within (pair_sum column (u.term, l.term)))) lowers.now)
+        uppers.now }
 {
     for upper in uppers {
         add_pairs_of(reduction, alloc, column, upper, lowers)?;
@@ -144,7 +152,8 @@ fn number(
     first: u32,
     steps: &mut Vec<Derived>,
 ) -> Result<Vec<Row>, OutOfMemory>
-    ensures rows { IfOk result (λ rows. rows.items ≡ numbered (first + length steps.old.items) candidates.items) }
+    ensures rows { IfOk result (λ rows. rows.items ≡ numbered (first + length steps.old.items)
+        candidates.items) }
     ensures steps { OnOk result (steps.new.items ≡ steps.old.items ++ steps_of candidates.items) }
 {
     let mut rows = Vec::with_capacity(alloc, candidates.len())?;
@@ -162,7 +171,8 @@ fn number(
     Ok(rows)
 }
 
-/// The number of the next derived row. Where no number is left, there would be no memory for the rows.
+/// The number of the next derived row. Where no number is left, there would be no memory for the
+/// rows.
 fn next_number(first: u32, steps: &Vec<Derived>) -> Result<u32, OutOfMemory>
     ensures { IfOk result (λ n. n ≡ first + length steps.now.items) }
 {
@@ -181,13 +191,17 @@ pub fn eliminate_column(
     steps: &mut Vec<Derived>,
 ) -> Result<(Stage, Vec<Row>), ShadowError>
     ensures stage { IfOk result (λ r. IsStage column (terms_of rows.items) r.0) }
-    ensures rows { IfOk result (λ r. after_column column (terms_of rows.items) ≡ remains (terms_of r.1.items)) }
+    ensures rows { IfOk result (λ r. after_column column (terms_of rows.items)
+        ≡ remains (terms_of r.1.items)) }
     ensures steps { IfOk result (λ r. (base : List LinearSum) → length base ≡ first →
         AreNumbered (rows_after base steps.old.items) rows.items →
         ((more : List Derived) × (steps.new.items ≡ steps.old.items ++ more) ×
-        AreRightSteps (rows_after base steps.old.items) more × AreNumbered (rows_after base steps.new.items) r.1.items)) }
-    ensures wide { IsErrOf result ShadowError.Wide → after_column column (terms_of rows.items) ≡ wide }
-    ensures too_many { IsErrOf result ShadowError.Rows → after_column column (terms_of rows.items) ≡ too_many }
+        AreRightSteps (rows_after base steps.old.items) more
+        × AreNumbered (rows_after base steps.new.items) r.1.items)) }
+    ensures wide { IsErrOf result ShadowError.Wide → after_column column (terms_of rows.items)
+        ≡ wide }
+    ensures too_many { IsErrOf result ShadowError.Rows → after_column column (terms_of rows.items)
+        ≡ too_many }
 {
     let Sides {
         uppers,

@@ -1,7 +1,6 @@
 //! Common divisors, and rows divided by them.
 
-ghost use Rattle.std.specs.Prelude.{◌≡◌, ◌^◌, ◌<◌, ◌≤◌, pos, IfOk, IsTrue, unsigned_abs, nat_lt};
-ghost use Rattle.linear_formula.specs.LinearSum.{is_term};
+ghost use Rattle.std.specs.Prelude.{◌≡◌, ◌^◌, ◌<◌, ◌≤◌, IfOk, unsigned_abs};
 ghost use Rattle.linear_formula.specs.steps.Order.{AllWithin};
 ghost use Rattle.shadow_elim.specs.Division.{common_divisor, parts_divisor, divided_parts, tightened, row_divisor, ceiling_quotient};
 
@@ -61,7 +60,8 @@ fn divide_up(constant: i128, divisor: u64) -> i128
     -((-constant).div_euclid(i128::from(divisor)))
 }
 
-/// The row divided by the greatest common divisor of its coefficients, and this divisor, 1 where nothing is divided.
+/// The row divided by the greatest common divisor of its coefficients, and this divisor, 1 where
+/// nothing is divided.
 pub fn tighten(alloc: Global, term: Term) -> Result<(Term, u64), OutOfMemory>
     ensures row { IfOk result (λ r. r.0 ≡ tightened term) }
     ensures divisor { IfOk result (λ r. r.1 ≡ row_divisor term) }

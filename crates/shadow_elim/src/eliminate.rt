@@ -1,12 +1,12 @@
 //! The elimination of columns from a cube.
 
-ghost use Rattle.std.specs.Prelude.{◌≡◌, ◌++◌, ◌∷◌, [], ℕ, List, None, Some, option_map, find, not, IfOk, OnOk, IsErrOf, IsTrue};
+ghost use Rattle.std.specs.Prelude.{◌≡◌, ◌++◌, ◌∷◌, [], ℕ, List, None, Some, option_map, find, not, IfOk, OnOk, IsErrOf};
 ghost use Rattle.linear_formula.specs.LinearSum.{LinearSum};
 ghost use Rattle.infeasible_cert.specs.Right.{AreRightSteps, rows_of, range_rows};
 ghost use Rattle.shadow_elim.specs.Elimination.{elimination, remains, wide, too_many, first_inexact, listed_rows, is_unit, is_inexact, pairs};
-ghost use Rattle.shadow_elim.specs.Making.{terms_of};
+ghost use Rattle.shadow_elim.specs.Stages.{terms_of, IsStage, AreStages};
 ghost use Rattle.shadow_elim.specs.Shadows.{KeepsAll, NamesNone, LosesNone, AreDerived, pair_rows};
-ghost use Rattle.shadow_elim.specs.Stages.{IsStage, AreStages, AreInPlace};
+ghost use Rattle.shadow_elim.specs.steps.Making.{AreInPlace};
 
 use crate::elimination::{Elimination, Stage, eliminate_columns};
 use crate::row::{Row, lower_range, upper_range};
@@ -34,7 +34,8 @@ fn push_row(rows: &mut Vec<Row>, term: Term) -> Result<(), OutOfMemory>
 /// Adds the atoms as rows.
 pub fn push_atoms(alloc: Global, rows: &mut Vec<Row>, atoms: &[Atom]) -> Result<(), OutOfMemory>
     requires { AreInPlace 0 rows.old.items }
-    ensures terms { OnOk result (terms_of rows.new.items ≡ terms_of rows.old.items ++ rows_of atoms.now) }
+    ensures terms { OnOk result (terms_of rows.new.items ≡ terms_of rows.old.items
+        ++ rows_of atoms.now) }
     ensures numbers { OnOk result (AreInPlace 0 rows.new.items) }
 {
     for atom in atoms {
@@ -46,7 +47,8 @@ pub fn push_atoms(alloc: Global, rows: &mut Vec<Row>, atoms: &[Atom]) -> Result<
 /// Adds the rows of the columns' ranges, for each column the upper one and then the lower one.
 pub fn push_ranges(alloc: Global, rows: &mut Vec<Row>, columns: &[u32]) -> Result<(), OutOfMemory>
     requires { AreInPlace 0 rows.old.items }
-    ensures terms { OnOk result (terms_of rows.new.items ≡ terms_of rows.old.items ++ range_rows columns.now) }
+    ensures terms { OnOk result (terms_of rows.new.items ≡ terms_of rows.old.items
+        ++ range_rows columns.now) }
     ensures numbers { OnOk result (AreInPlace 0 rows.new.items) }
 {
     for column in columns {
@@ -69,7 +71,8 @@ fn first_other(column: u32, rows: &[Row]) -> Option<&Row>
 }
 
 fn pair(alloc: Global, column: u32, upper: &Row, lower: &Row) -> Result<Pair, OutOfMemory>
-    ensures { IfOk result (λ p. pair_rows (Some p) ≡ Some (column, (upper.now.term, lower.now.term))) }
+    ensures { IfOk result
+        (λ p. pair_rows (Some p) ≡ Some (column, (upper.now.term, lower.now.term))) }
 {
     Ok(Pair {
         column,
@@ -99,7 +102,8 @@ fn stage_pair(alloc: Global, stage: &Stage) -> Result<Option<Pair>, OutOfMemory>
 
 /// The first pair with neither coefficient 1 or -1.
 fn first_inexact(alloc: Global, stages: &[Stage]) -> Result<Option<Pair>, OutOfMemory>
-    ensures { IfOk result (λ p. (columns : List ℕ) (rows left : List LinearSum) → AreStages columns rows stages.now left →
+    ensures { IfOk result (λ p. (columns : List ℕ) (rows left : List LinearSum) →
+        AreStages columns rows stages.now left →
         pair_rows p ≡ first_inexact columns rows) }
 {
     for stage in stages {
@@ -123,13 +127,17 @@ fn cube_of(alloc: Global, rows: Vec<Row>) -> Result<Cube, OutOfMemory>
 /// Eliminates the columns, which ascend, from a cube and the ranges of these columns.
 pub fn eliminate(alloc: Global, cube: &Cube, columns: &[u32]) -> Result<Shadow, ShadowError>
     ensures rows { IfOk result
-        (λ s. elimination columns.now (listed_rows cube.now.atoms columns.now) ≡ remains (rows_of s.pre.cube.atoms)) }
+        (λ s. elimination columns.now (listed_rows cube.now.atoms columns.now)
+        ≡ remains (rows_of s.pre.cube.atoms)) }
     ensures keeps { IfOk result (λ s. KeepsAll cube.now.atoms s.pre.cube.atoms) }
     ensures free { IfOk result (λ s. NamesNone columns.now s.pre.cube.atoms) }
-    ensures exact { IfOk result (λ s. s.pre.inexact ≡ None → LosesNone columns.now cube.now.atoms s.pre.cube.atoms) }
+    ensures exact { IfOk result (λ s. s.pre.inexact ≡ None → LosesNone columns.now cube.now.atoms
+        s.pre.cube.atoms) }
     ensures inexact { IfOk result
-        (λ s. pair_rows s.pre.inexact ≡ first_inexact columns.now (listed_rows cube.now.atoms columns.now)) }
-    ensures steps { IfOk result (λ s. AreRightSteps (listed_rows cube.now.atoms columns.now) s.rows) }
+        (λ s. pair_rows s.pre.inexact ≡ first_inexact columns.now
+        (listed_rows cube.now.atoms columns.now)) }
+    ensures steps { IfOk result (λ s. AreRightSteps (listed_rows cube.now.atoms columns.now)
+        s.rows) }
     ensures derived { IfOk result
         (λ s. AreDerived (listed_rows cube.now.atoms columns.now) s.rows s.pre.cube.atoms) }
     ensures wide { IsErrOf result ShadowError.Wide →

@@ -4,8 +4,7 @@ ghost use Rattle.std.specs.Prelude.{◌≡◌, List, length, IfOk, IsErrOf};
 ghost use Rattle.linear_formula.specs.LinearSum.{LinearSum};
 ghost use Rattle.infeasible_cert.specs.Right.{AreRightSteps, rows_after};
 ghost use Rattle.shadow_elim.specs.Elimination.{elimination, wide, too_many};
-ghost use Rattle.shadow_elim.specs.Making.{terms_of};
-ghost use Rattle.shadow_elim.specs.Stages.{AreStages, AreNumbered};
+ghost use Rattle.shadow_elim.specs.Stages.{terms_of, AreStages, AreNumbered};
 
 use crate::column::eliminate_column;
 use crate::row::Row;
@@ -36,11 +35,17 @@ pub fn eliminate_columns(
     rows: Vec<Row>,
     first: u32,
 ) -> Result<Elimination, ShadowError>
-    ensures stages { IfOk result (λ e. AreStages columns.now (terms_of rows.items) e.stages.items (terms_of e.rows.items)) }
-    ensures steps { IfOk result (λ e. (base : List LinearSum) → length base ≡ first → AreNumbered base rows.items →
-        (AreRightSteps base e.steps.items × AreNumbered (rows_after base e.steps.items) e.rows.items)) }
-    ensures wide { IsErrOf result ShadowError.Wide → elimination columns.now (terms_of rows.items) ≡ wide }
-    ensures too_many { IsErrOf result ShadowError.Rows → elimination columns.now (terms_of rows.items) ≡ too_many }
+    ensures stages { IfOk result (λ e. AreStages columns.now (terms_of rows.items) e.stages.items
+        (terms_of e.rows.items)) }
+    ensures steps { IfOk result (λ e. (base : List LinearSum) → length base ≡ first →
+        AreNumbered base rows.items →
+        (AreRightSteps base e.steps.items × AreNumbered (rows_after base e.steps.items)
+        e.rows.items)) }
+    ensures wide { IsErrOf result ShadowError.Wide → elimination columns.now (terms_of rows.items)
+        ≡ wide }
+    ensures too_many { IsErrOf result ShadowError.Rows →
+        elimination columns.now (terms_of rows.items)
+        ≡ too_many }
 {
     let mut stages = Vec::with_capacity(alloc, columns.len())?;
     let mut steps = Vec::new(alloc);

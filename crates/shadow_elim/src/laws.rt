@@ -1,4 +1,5 @@
-//! Laws of the definitions that contracts cite, for the crates above. These functions compute nothing.
+//! Laws of the definitions that contracts cite, for the crates above. These functions compute
+//! nothing.
 
 ghost use Rattle.shadow_elim.specs.ProjectionLaws.{ProjectionsKeep, ProjectionsLoseNone, ProjectionsNameNone, ProjectionsNameNoOther, ProjectionsAreTerms, ListsNamed, SumsHold, EqualRowsHold, SumsRename, SumsKeep};
 

@@ -1,4 +1,5 @@
-//! The elimination of columns from linear rows over the integers, and the plan of a solver that stands on it.
+//! The elimination of columns from linear rows over the integers, and the plan of a solver that
+//! stands on it.
 #![tactic(auto)]
 
 mod column;

@@ -3,7 +3,7 @@
 ghost use Rattle.std.specs.Prelude.{◌≡◌, ◌≤◌, ◌^◌, pos, unsigned_abs, IfOk, IsErrOf, IsTrue};
 ghost use Rattle.linear_formula.specs.LinearSum.{is_within};
 ghost use Rattle.shadow_elim.specs.Elimination.{is_upper, is_lower, size_of, upper_multiple, lower_multiple, pair_sum};
-ghost use Rattle.shadow_elim.specs.Making.{made};
+ghost use Rattle.shadow_elim.specs.steps.Making.{made};
 
 use crate::division::{common_divisor, tighten};
 use crate::row::Row;
@@ -39,8 +39,10 @@ pub struct Candidate {
 fn multiples(column: u32, upper: &Term, lower: &Term) -> (i64, i64)
     requires upper { IsTrue (is_upper column upper.now) }
     requires lower { IsTrue (is_lower column lower.now) }
-    ensures upper { result.0 ≡ pos (upper_multiple (size_of column upper.now) (size_of column lower.now)) }
-    ensures lower { result.1 ≡ pos (lower_multiple (size_of column upper.now) (size_of column lower.now)) }
+    ensures upper { result.0
+        ≡ pos (upper_multiple (size_of column upper.now) (size_of column lower.now)) }
+    ensures lower { result.1
+        ≡ pos (lower_multiple (size_of column upper.now) (size_of column lower.now)) }
     ensures upper_limit { unsigned_abs result.0 ≤ 2 ^ 40 }
     ensures lower_limit { unsigned_abs result.1 ≤ 2 ^ 40 }
 {
@@ -54,9 +56,11 @@ fn multiples(column: u32, upper: &Term, lower: &Term) -> (i64, i64)
 pub fn combine(alloc: Global, column: u32, upper: &Row, lower: &Row) -> Result<Candidate, LinError>
     requires upper { IsTrue (is_upper column upper.now.term) }
     requires lower { IsTrue (is_lower column lower.now.term) }
-    ensures within { IfOk result (λ c. IsTrue (is_within (pair_sum column (upper.now.term, lower.now.term)))) }
+    ensures within { IfOk result
+        (λ c. IsTrue (is_within (pair_sum column (upper.now.term, lower.now.term)))) }
     ensures made { IfOk result (λ c. c ≡ made column upper.now lower.now) }
-    ensures wide { IsErrOf result LinError.Wide → ¬ IsTrue (is_within (pair_sum column (upper.now.term, lower.now.term))) }
+    ensures wide { IsErrOf result LinError.Wide →
+        ¬ IsTrue (is_within (pair_sum column (upper.now.term, lower.now.term))) }
 {
     let (upper_multiple, lower_multiple) = multiples(column, &upper.term, &lower.term);
     let sum = Term::add_multiples(

@@ -5,8 +5,8 @@ ghost use Rattle.std.specs.Cmp.Lexicographic.{pointwise};
 ghost use Rattle.std.specs.List.{list_any};
 ghost use Rattle.std.specs.Map.{lookup};
 ghost use Rattle.shadow_elim.specs.Reduction.{reduced, SameReduced, is_as_strong, is_same_part, is_trivial};
-ghost use Rattle.shadow_elim.specs.Making.{candidate_terms};
-ghost use Rattle.shadow_elim.specs.Places.{is_kept, is_found};
+ghost use Rattle.shadow_elim.specs.steps.Making.{candidate_terms};
+ghost use Rattle.shadow_elim.specs.steps.Places.{is_kept, is_found};
 
 use crate::pairing::Candidate;
 use linear_formula::error::OutOfMemory;
@@ -31,7 +31,7 @@ impl Model for Reduction {
 
     ghost view = { λ r. r.rows.items };
 
-    ghost use Rattle.shadow_elim.specs.Places.{AreLastPlaces};
+    ghost use Rattle.shadow_elim.specs.steps.Places.{AreLastPlaces};
 
     ghost invariant = { λ r. AreLastPlaces r.places.entries r.rows.items };
 }
@@ -58,7 +58,8 @@ impl Reduction {
 
     /// Adds a row at the end, unless an earlier one is as strong.
     pub fn add(&mut self, alloc: Global, row: Candidate) -> Result<(), OutOfMemory>
-        ensures same { OnOk result (SameReduced (candidate_terms (self.old ++ row ∷ [])) (candidate_terms self.new)) }
+        ensures same { OnOk result (SameReduced (candidate_terms (self.old ++ row ∷ []))
+            (candidate_terms self.new)) }
         ensures among { OnOk result (All (λ c. Contains (self.old ++ row ∷ []) c) self.new) }
     {
         if self.is_needless(&row.term) {
@@ -78,7 +79,8 @@ impl Reduction {
 
     /// The rows that stay, each in its own place.
     pub fn finish(self, alloc: Global) -> Result<Vec<Candidate>, OutOfMemory>
-        ensures rows { IfOk result (λ rows. candidate_terms rows.items ≡ reduced (candidate_terms self)) }
+        ensures rows { IfOk result (λ rows. candidate_terms rows.items
+            ≡ reduced (candidate_terms self)) }
         ensures among { IfOk result (λ rows. All (λ c. Contains self c) rows.items) }
     {
         let Reduction { rows, places } = self;
@@ -108,7 +110,8 @@ fn is_trivial(term: &Term) -> bool
 
 /// Whether the place is the last one of these coefficients.
 fn is_last(places: &HashMap<Vec<(u32, i128)>, usize>, place: usize, parts: &[(u32, i128)]) -> bool
-    ensures { result ≡ is_found place (lookup (λ k. pointwise is_same_part parts.now k.items) places.now.entries) }
+    ensures { result ≡ is_found place (lookup (λ k. pointwise is_same_part parts.now k.items)
+        places.now.entries) }
 {
     match places.get(parts) {
         Some(last) => *last == place,

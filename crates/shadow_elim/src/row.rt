@@ -23,7 +23,8 @@ pub fn single_term(
 ) -> Result<Term, OutOfMemory>
     requires coefficient_limit { unsigned_abs coefficient ≡ 1 }
     requires constant_limit { unsigned_abs constant ≤ 2 ^ 63 }
-    ensures { IfOk result (λ t. t ≡ record { parts = (column, coefficient) ∷ []; constant = constant }) }
+    ensures { IfOk result
+        (λ t. t ≡ record { parts = (column, coefficient) ∷ []; constant = constant }) }
 {
     let parts = vec![in alloc; (column, coefficient)]?;
     Ok(Term::new(Parts::from_vec(parts), constant))

@@ -76,7 +76,8 @@ pub fn push_read<R: Reading>(
     reading: &R,
     atoms: &[Atom],
 ) -> Result<(), OutOfMemory>
-    ensures { OnOk result (sums.new.items ≡ sums.old.items ++ row_sums (R.term_at reading.now) atoms.now) }
+    ensures { OnOk result (sums.new.items ≡ sums.old.items ++ row_sums (R.term_at reading.now)
+        atoms.now) }
 {
     for atom in atoms {
         sums.push(Sum {
@@ -89,7 +90,10 @@ pub fn push_read<R: Reading>(
 
 fn difference(alloc: Global, left: &Term, right: &Term) -> Result<Sum, OutOfMemory>
     ensures { IfOk result
-        (λ s. s ≡ record { summands = (pos 1, left.now) ∷ (negsuc 0, right.now) ∷ []; constant = pos 0 }) }
+        (λ s. s ≡ record {
+          summands = (pos 1, left.now) ∷ (negsuc 0, right.now) ∷ [];
+          constant = pos 0;
+        }) }
 {
     let items = vec![in alloc; (1, left.copy(alloc)?), (-1, right.copy(alloc)?)]?;
     Ok(Sum {

@@ -4,4 +4,10 @@
 #[cfg(test)]
 mod certificates;
 #[cfg(test)]
+mod eliminations;
+#[cfg(test)]
 mod linear;
+#[cfg(test)]
+mod rows;
+#[cfg(test)]
+mod solving;

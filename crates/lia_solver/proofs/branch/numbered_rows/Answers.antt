@@ -1,6 +1,6 @@
 use Rattle.std.proofs.Common.{◌+◌, ◌*◌, length}
 use Rattle.infeasible_cert.specs.Right.{rows_of, range_rows}
-use Rattle.lia_solver.specs.Numbers.{numbered_from}
+use Rattle.lia_solver.specs.steps.Numbers.{numbered_from}
 use Rattle.lia_solver.proofs.Branching.{ArePushed, pushed-in_order, pushed-terms, pushed-numbers, pushed-count}
 use Rattle.lia_solver.proofs.branch.numbered_rows.Goals as goal
 
@@ -11,7 +11,11 @@ pushed c =
     let columns = c.args.columns.now in
     record {
       columns_are = c.requires;
-      rows_are = pushed-in_order (numbered_from 0 (rows_of question)) (numbered_from (length question + 2 * length columns) (rows_of splits)) (numbered_from (length question) (range_rows columns)) c.in_ok-rows.rows.items c.push_atoms.new.rows.items c.push_atoms-2.new.rows.items c.push_ranges.new.rows.items c.in_ok-rows.ensures.items c.in_ok-push_atoms.ensures c.in_ok-push_atoms-2.ensures c.in_ok-push_ranges.ensures;
+      rows_are = pushed-in_order (numbered_from 0 (rows_of question)) (numbered_from (length question + 2 * length columns)
+          (rows_of splits))
+          (numbered_from (length question) (range_rows columns)) c.in_ok-rows.rows.items c.push_atoms.new.rows.items
+          c.push_atoms-2.new.rows.items c.push_ranges.new.rows.items c.in_ok-rows.ensures.items c.in_ok-push_atoms.ensures
+          c.in_ok-push_atoms-2.ensures c.in_ok-push_ranges.ensures;
     }
 
 pub returns-clause-terms : goal.returns-clause-terms

@@ -3,7 +3,7 @@ use Rattle.std.specs.Prelude.{int_lt}
 use Rattle.std.specs.Int.{w64, w128}
 use Rattle.std.proofs.lemmas.Int.{ints}
 use Rattle.shadow_elim.specs.Points.{split}
-use Rattle.lia_solver.specs.Choices.{stage_low, stage_floor, stage_high}
+use Rattle.lia_solver.specs.steps.Choices.{stage_low, stage_floor, stage_high}
 use Rattle.lia_solver.proofs.Choosing.{ascending-lower, fits-between, floor-between, low-between, high-between, extended-crossed}
 use Rattle.lia_solver.proofs.choice.extend.Goals as goal
 
@@ -20,10 +20,14 @@ overflow_cast-result c =
     let low_fits : FitsSigned w128 low.bound = search rules in
     let high_fits : FitsSigned w128 c.upper_bound-high.result = search rules in
     let floor_fits : FitsSigned w128 low.floor = search rules in
-    let bound : to_z w128 (of_z w128 low.bound) ≡ stage_low s values = to_z-of_z low_fits ∙ c.lower_bound-bound.ensures.bound ∙ ap (stage_low s) same in
-    let high : to_z w128 (of_z w128 c.upper_bound-high.result) ≡ stage_high s values = to_z-of_z high_fits ∙ c.upper_bound-high.ensures ∙ ap (stage_high s) same in
-    let floor : to_z w128 (of_z w128 low.floor) ≡ stage_floor s values = to_z-of_z floor_fits ∙ c.lower_bound-bound.ensures.floor ∙ ap (stage_floor s) same in
-    let crossed : IsTrue (int_lt (stage_high s values) (stage_low s values)) = sym (λ i. int_lt (high i) (bound i)) ∙ c.if-bound-high.true in
+    let bound : to_z w128 (of_z w128 low.bound) ≡ stage_low s values = to_z-of_z low_fits ∙ c.lower_bound-bound.ensures.bound
+    ∙ ap (stage_low s) same in
+    let high : to_z w128 (of_z w128 c.upper_bound-high.result) ≡ stage_high s values = to_z-of_z high_fits ∙ c.upper_bound-high.ensures
+    ∙ ap (stage_high s) same in
+    let floor : to_z w128 (of_z w128 low.floor) ≡ stage_floor s values = to_z-of_z floor_fits ∙ c.lower_bound-bound.ensures.floor
+    ∙ ap (stage_floor s) same in
+    let crossed : IsTrue (int_lt (stage_high s values) (stage_low s values)) = sym (λ i. int_lt (high i) (bound i)) ∙ c.if-bound-high.true
+    in
     let less = c.requires.sides crossed in
     let most = floor-between s values in
     subst (FitsSigned w64) (sym floor) (fits-between (stage_floor s values) most (omega (arith, ints, less)))
@@ -37,13 +41,18 @@ returns-then-bound-high c =
     let low_fits : FitsSigned w128 low.bound = search rules in
     let high_fits : FitsSigned w128 c.upper_bound-high.result = search rules in
     let floor_fits : FitsSigned w128 low.floor = search rules in
-    let bound : to_z w128 (of_z w128 low.bound) ≡ stage_low s values = to_z-of_z low_fits ∙ c.lower_bound-bound.ensures.bound ∙ ap (stage_low s) same in
-    let high : to_z w128 (of_z w128 c.upper_bound-high.result) ≡ stage_high s values = to_z-of_z high_fits ∙ c.upper_bound-high.ensures ∙ ap (stage_high s) same in
-    let floor : to_z w128 (of_z w128 low.floor) ≡ stage_floor s values = to_z-of_z floor_fits ∙ c.lower_bound-bound.ensures.floor ∙ ap (stage_floor s) same in
-    let crossed : IsTrue (int_lt (stage_high s values) (stage_low s values)) = sym (λ i. int_lt (high i) (bound i)) ∙ c.if-bound-high.true in
+    let bound : to_z w128 (of_z w128 low.bound) ≡ stage_low s values = to_z-of_z low_fits ∙ c.lower_bound-bound.ensures.bound
+    ∙ ap (stage_low s) same in
+    let high : to_z w128 (of_z w128 c.upper_bound-high.result) ≡ stage_high s values = to_z-of_z high_fits ∙ c.upper_bound-high.ensures
+    ∙ ap (stage_high s) same in
+    let floor : to_z w128 (of_z w128 low.floor) ≡ stage_floor s values = to_z-of_z floor_fits ∙ c.lower_bound-bound.ensures.floor
+    ∙ ap (stage_floor s) same in
+    let crossed : IsTrue (int_lt (stage_high s values) (stage_low s values)) = sym (λ i. int_lt (high i) (bound i)) ∙ c.if-bound-high.true
+    in
     let less = c.requires.sides crossed in
     let most = floor-between s values in
-    let fits : FitsSigned w64 (to_z w128 (of_z w128 low.floor)) = subst (FitsSigned w64) (sym floor) (fits-between (stage_floor s values) most (omega (arith, ints, less))) in
+    let fits : FitsSigned w64 (to_z w128 (of_z w128 low.floor)) = subst (FitsSigned w64) (sym floor)
+    (fits-between (stage_floor s values) most (omega (arith, ints, less))) in
     ap (split s.column) (to_z-of_z fits ∙ floor) ∙ sym (extended-crossed s values crossed)
 
 pub nearest-requires-clause-least : goal.nearest-requires-clause-least

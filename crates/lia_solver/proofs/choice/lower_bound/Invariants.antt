@@ -1,6 +1,6 @@
 use Rattle.std.proofs.Common.{◌≡◌, drop, map}
 use Rattle.shadow_elim.specs.Points.{greatest_of}
-use Rattle.lia_solver.specs.Choices.{stage_low, stage_floor}
+use Rattle.lia_solver.specs.steps.Choices.{stage_low, stage_floor}
 use Rattle.lia_solver.proofs.Bounding.{low_of, floor_of}
 use Rattle.lia_solver.proofs.choice.lower_bound.Given as goal
 

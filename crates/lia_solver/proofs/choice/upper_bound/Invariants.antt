@@ -1,6 +1,6 @@
 use Rattle.std.proofs.Common.{◌≡◌, drop, map}
 use Rattle.shadow_elim.specs.Points.{least_of}
-use Rattle.lia_solver.specs.Choices.{stage_high}
+use Rattle.lia_solver.specs.steps.Choices.{stage_high}
 use Rattle.lia_solver.proofs.Bounding.{high_of}
 use Rattle.lia_solver.proofs.choice.upper_bound.Given as goal
 

@@ -16,33 +16,47 @@ use Rattle.lia_solver.proofs.entails.ask.Goals as goal
 
 pub returns-in-Never-clause-answer : goal.returns-in-Never-clause-answer
 returns-in-Never-clause-answer c =
-    let left = c.args.left.now.atoms in let atom = c.args.atom.now in let asked = c.in_ok-cube.cube.atoms in let other = c.negate.new.self in
+    let left = c.args.left.now.atoms in let atom = c.args.atom.now in let asked = c.in_ok-cube.cube.atoms in let other = c.negate.new.self
+    in
     let same : c.in_ok-negated.negated ≡ atom = c.in_ok-negated.ensures in
-    let value = on-ok (other.term ≡ negated c.in_ok-negated.negated.term) c.negate.result c.is_err.result c.is_err.ensures.value c.if-is_err.false c.negate.ensures.value ∙ ap (λ (a : Atom). negated a.term) same in
-    let kept = on-ok (IsTrue (is_term other.term)) c.negate.result c.is_err.result c.is_err.ensures.value c.if-is_err.false c.negate.ensures.kept in
+    let value = on-ok (other.term ≡ negated c.in_ok-negated.negated.term) c.negate.result c.is_err.result c.is_err.ensures.value
+    c.if-is_err.false c.negate.ensures.value ∙ ap (λ (a : Atom). negated a.term) same in
+    let kept = on-ok (IsTrue (is_term other.term)) c.negate.result c.is_err.result c.is_err.ensures.value c.if-is_err.false
+    c.negate.ensures.kept in
     let can = can-negate atom other.term value kept in
     let is : asked ≡ with_negation left atom = asked-is left asked atom other c.in_ok-cube.ensures value in
     let plan = subst (IsAnswer (solution asked)) c.in-Never.is c.in_ok-certificate.ensures.plan in
     let never = subst (λ (s : Solved). IfNever s (λ d. Refutes asked (refutation_of d))) c.in-Never.is c.in_ok-certificate.ensures.never in
-    let terms = subst (λ (s : Solved). IfNever s (λ d. HasTerms (refutation_of d))) c.in-Never.is c.in_ok-certificate.ensures.terms in
-    ((can, (plan.0, ap solution (sym is) ∙ plan.1)), subst (λ (as_ : List Atom). Refutes as_ (refutation_of c.in-Never.certificate)) is never, terms)
+    let terms = subst (λ (s : Solved). IfNever s (λ d. HasTerms (refutation_of d))) c.in-Never.is c.in_ok-certificate.ensures.terms in (
+      (can, (plan.0, ap solution (sym is) ∙ plan.1)),
+      subst (λ (as_ : List Atom). Refutes as_ (refutation_of c.in-Never.certificate)) is never,
+      terms,
+    )
 
 pub returns-in-Never-clause-meant : goal.returns-in-Never-clause-meant
 returns-in-Never-clause-meant c =
-    let left = c.args.left.now.atoms in let atom = c.args.atom.now in let asked = c.in_ok-cube.cube.atoms in let other = c.negate.new.self in
+    let left = c.args.left.now.atoms in let atom = c.args.atom.now in let asked = c.in_ok-cube.cube.atoms in let other = c.negate.new.self
+    in
     let same : c.in_ok-negated.negated ≡ atom = c.in_ok-negated.ensures in
-    let value = on-ok (other.term ≡ negated c.in_ok-negated.negated.term) c.negate.result c.is_err.result c.is_err.ensures.value c.if-is_err.false c.negate.ensures.value ∙ ap (λ (a : Atom). negated a.term) same in
-    let law = on-ok ((v : ℕ → ℤ) → (Holds v other ↔ (¬ Holds v c.in_ok-negated.negated))) c.negate.result c.is_err.result c.is_err.ensures.value c.if-is_err.false c.negate.ensures.law in
-    let law_of : (v : Valuation) → Holds v other ↔ (¬ Holds v atom) = λ v. subst (λ (a : Atom). Holds v other ↔ (¬ Holds v a)) same (law v) in
-    let sound = subst (λ (s : Solved). IfNever s (λ d. (v : Valuation) → Is64 v → HoldsAll v asked → ⊥)) c.in-Never.is c.in_ok-certificate.ensures.sound in
+    let value = on-ok (other.term ≡ negated c.in_ok-negated.negated.term) c.negate.result c.is_err.result c.is_err.ensures.value
+    c.if-is_err.false c.negate.ensures.value ∙ ap (λ (a : Atom). negated a.term) same in
+    let law = on-ok ((v : ℕ → ℤ) → (Holds v other ↔ (¬ Holds v c.in_ok-negated.negated))) c.negate.result c.is_err.result
+    c.is_err.ensures.value c.if-is_err.false c.negate.ensures.law in
+    let law_of : (v : Valuation) → Holds v other ↔ (¬ Holds v atom) = λ v. subst (λ (a : Atom). Holds v other ↔ (¬ Holds v a)) same (law v)
+    in
+    let sound = subst (λ (s : Solved). IfNever s (λ d. (v : Valuation) → Is64 v → HoldsAll v asked → ⊥)) c.in-Never.is
+    c.in_ok-certificate.ensures.sound in
     follows left asked atom other c.in_ok-cube.ensures law_of sound
 
 pub returns-in-Point-clause-answer : goal.returns-in-Point-clause-answer
 returns-in-Point-clause-answer c =
-    let left = c.args.left.now.atoms in let atom = c.args.atom.now in let asked = c.in_ok-cube.cube.atoms in let other = c.negate.new.self in
+    let left = c.args.left.now.atoms in let atom = c.args.atom.now in let asked = c.in_ok-cube.cube.atoms in let other = c.negate.new.self
+    in
     let same : c.in_ok-negated.negated ≡ atom = c.in_ok-negated.ensures in
-    let value = on-ok (other.term ≡ negated c.in_ok-negated.negated.term) c.negate.result c.is_err.result c.is_err.ensures.value c.if-is_err.false c.negate.ensures.value ∙ ap (λ (a : Atom). negated a.term) same in
-    let kept = on-ok (IsTrue (is_term other.term)) c.negate.result c.is_err.result c.is_err.ensures.value c.if-is_err.false c.negate.ensures.kept in
+    let value = on-ok (other.term ≡ negated c.in_ok-negated.negated.term) c.negate.result c.is_err.result c.is_err.ensures.value
+    c.if-is_err.false c.negate.ensures.value ∙ ap (λ (a : Atom). negated a.term) same in
+    let kept = on-ok (IsTrue (is_term other.term)) c.negate.result c.is_err.result c.is_err.ensures.value c.if-is_err.false
+    c.negate.ensures.kept in
     let can = can-negate atom other.term value kept in
     let is : asked ≡ with_negation left atom = asked-is left asked atom other c.in_ok-cube.ensures value in
     let plan = subst (IsAnswer (solution asked)) c.in-Point.is c.in_ok-certificate.ensures.plan in
@@ -51,20 +65,27 @@ returns-in-Point-clause-answer c =
 
 pub returns-in-Point-clause-meant : goal.returns-in-Point-clause-meant
 returns-in-Point-clause-meant c =
-    let left = c.args.left.now.atoms in let atom = c.args.atom.now in let asked = c.in_ok-cube.cube.atoms in let other = c.negate.new.self in
+    let left = c.args.left.now.atoms in let atom = c.args.atom.now in let asked = c.in_ok-cube.cube.atoms in let other = c.negate.new.self
+    in
     let same : c.in_ok-negated.negated ≡ atom = c.in_ok-negated.ensures in
-    let value = on-ok (other.term ≡ negated c.in_ok-negated.negated.term) c.negate.result c.is_err.result c.is_err.ensures.value c.if-is_err.false c.negate.ensures.value ∙ ap (λ (a : Atom). negated a.term) same in
-    let law = on-ok ((v : ℕ → ℤ) → (Holds v other ↔ (¬ Holds v c.in_ok-negated.negated))) c.negate.result c.is_err.result c.is_err.ensures.value c.if-is_err.false c.negate.ensures.law in
-    let law_of : (v : Valuation) → Holds v other ↔ (¬ Holds v atom) = λ v. subst (λ (a : Atom). Holds v other ↔ (¬ Holds v a)) same (law v) in
+    let value = on-ok (other.term ≡ negated c.in_ok-negated.negated.term) c.negate.result c.is_err.result c.is_err.ensures.value
+    c.if-is_err.false c.negate.ensures.value ∙ ap (λ (a : Atom). negated a.term) same in
+    let law = on-ok ((v : ℕ → ℤ) → (Holds v other ↔ (¬ Holds v c.in_ok-negated.negated))) c.negate.result c.is_err.result
+    c.is_err.ensures.value c.if-is_err.false c.negate.ensures.law in
+    let law_of : (v : Valuation) → Holds v other ↔ (¬ Holds v atom) = λ v. subst (λ (a : Atom). Holds v other ↔ (¬ Holds v a)) same (law v)
+    in
     let point = subst (λ (s : Solved). IfPoint s (λ at. HoldsAll (valuation at) asked)) c.in-Point.is c.in_ok-certificate.ensures.point in
     fails left asked atom other (valuation c.in-Point.at) c.in_ok-cube.ensures (law_of (valuation c.in-Point.at)) point
 
 pub returns-in-Limit-clause-answer : goal.returns-in-Limit-clause-answer
 returns-in-Limit-clause-answer c =
-    let left = c.args.left.now.atoms in let atom = c.args.atom.now in let asked = c.in_ok-cube.cube.atoms in let other = c.negate.new.self in
+    let left = c.args.left.now.atoms in let atom = c.args.atom.now in let asked = c.in_ok-cube.cube.atoms in let other = c.negate.new.self
+    in
     let same : c.in_ok-negated.negated ≡ atom = c.in_ok-negated.ensures in
-    let value = on-ok (other.term ≡ negated c.in_ok-negated.negated.term) c.negate.result c.is_err.result c.is_err.ensures.value c.if-is_err.false c.negate.ensures.value ∙ ap (λ (a : Atom). negated a.term) same in
-    let kept = on-ok (IsTrue (is_term other.term)) c.negate.result c.is_err.result c.is_err.ensures.value c.if-is_err.false c.negate.ensures.kept in
+    let value = on-ok (other.term ≡ negated c.in_ok-negated.negated.term) c.negate.result c.is_err.result c.is_err.ensures.value
+    c.if-is_err.false c.negate.ensures.value ∙ ap (λ (a : Atom). negated a.term) same in
+    let kept = on-ok (IsTrue (is_term other.term)) c.negate.result c.is_err.result c.is_err.ensures.value c.if-is_err.false
+    c.negate.ensures.kept in
     let can = can-negate atom other.term value kept in
     let is : asked ≡ with_negation left atom = asked-is left asked atom other c.in_ok-cube.ensures value in
     (question-is left asked atom can is, subst (IsAnswer (solution asked)) c.in-Limit.is c.in_ok-certificate.ensures.plan)

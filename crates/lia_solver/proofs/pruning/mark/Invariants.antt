@@ -1,5 +1,5 @@
 use Rattle.std.proofs.Common.{◌≡◌, drop}
-use Rattle.lia_solver.specs.Pruned.{with_named}
+use Rattle.lia_solver.specs.steps.Pruned.{with_named}
 use Rattle.lia_solver.proofs.pruning.mark.Given as goal
 
 abbrev pub invariant-loop-number : goal.invariant-loop-number

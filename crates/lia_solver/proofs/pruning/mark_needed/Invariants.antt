@@ -1,5 +1,5 @@
 use Rattle.std.proofs.Common.{◌≡◌, drop}
-use Rattle.lia_solver.specs.Pruned.{with_needed}
+use Rattle.lia_solver.specs.steps.Pruned.{with_needed}
 use Rattle.lia_solver.proofs.pruning.mark_needed.Given as goal
 
 abbrev pub invariant-loop-place : goal.invariant-loop-place

@@ -1,5 +1,5 @@
 use Rattle.std.proofs.Common.{length}
-use Rattle.lia_solver.specs.Pruned.{ArePruned}
+use Rattle.lia_solver.specs.steps.Pruned.{ArePruned}
 use Rattle.lia_solver.proofs.pruning.pruned.Given as goal
 
 abbrev pub invariant-loop-step : goal.invariant-loop-step

@@ -1,5 +1,5 @@
 use Rattle.std.proofs.Common.{◌≡◌, take}
-use Rattle.lia_solver.specs.Pruned.{renumbered_parts}
+use Rattle.lia_solver.specs.steps.Pruned.{renumbered_parts}
 use Rattle.lia_solver.proofs.pruning.renumbered_parts.Given as goal
 
 abbrev pub invariant-loop-number : goal.invariant-loop-number

@@ -1,5 +1,5 @@
 use Rattle.std.proofs.Common.{◌++◌, map}
-use Rattle.shadow_elim.specs.Making.{known}
+use Rattle.shadow_elim.specs.steps.Making.{known}
 use Rattle.shadow_elim.proofs.Reductions.{IsGathered}
 use Rattle.shadow_elim.proofs.column.add_free.Given as goal
 

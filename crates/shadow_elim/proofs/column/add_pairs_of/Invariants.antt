@@ -2,7 +2,7 @@ use Rattle.std.proofs.Common.{◌++◌, map, take}
 use Rattle.std.specs.Prelude.{IsTrue, All}
 use Rattle.linear_formula.specs.LinearSum.{is_within}
 use Rattle.shadow_elim.specs.Elimination.{pair_sum}
-use Rattle.shadow_elim.specs.Making.{made}
+use Rattle.shadow_elim.specs.steps.Making.{made}
 use Rattle.shadow_elim.proofs.Reductions.{IsGathered}
 use Rattle.shadow_elim.proofs.column.add_pairs_of.Given as goal
 

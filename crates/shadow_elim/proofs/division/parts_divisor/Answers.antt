@@ -8,7 +8,13 @@ use Rattle.shadow_elim.proofs.division.parts_divisor.Goals as goal
 pub overflow_cast-unsigned_abs : goal.overflow_cast-unsigned_abs
 overflow_cast-unsigned_abs c =
     let small = AllWithin-at c.args.parts.now (c.loop-left.left - 1) (omega arith) c.requires in
-    omega (arith, small, c.unsigned_abs.ensures.value, ap unsigned_abs (cast_same (at c.args.parts.now (c.loop-left.left - 1)).1 (omega (arith, small))))
+    omega (
+      arith,
+      small,
+      c.unsigned_abs.ensures.value,
+      ap unsigned_abs (cast_same (at c.args.parts.now (c.loop-left.left - 1)).1
+          (omega (arith, small))),
+    )
 
 pub returns-else-divisor-ne1 : goal.returns-else-divisor-ne1
 returns-else-divisor-ne1 c =

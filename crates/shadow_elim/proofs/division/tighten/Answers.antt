@@ -12,4 +12,8 @@ parts_divisor-divisor-requires c =
 
 pub new-requires : goal.new-requires
 new-requires c =
-    is_term-divided c.parts_divisor-divisor.result c.args.term c.from_vec.result c.divide_up-constant.result (omega arith) (c.parts_divisor-divisor.ensures ∙ ap parts_divisor c.parts.ensures.value) c.parts.ensures.kept (c.from_vec.ensures ∙ c.in_ok-items.ensures ∙ ap (divided_parts c.parts_divisor-divisor.result) c.parts-2.ensures.value) (c.divide_up-constant.ensures ∙ ap (λ z. ceiling_quotient z c.parts_divisor-divisor.result) (constant_is c.args.term c.constant.result c.constant.ensures.value c.constant.ensures.kept))
+    is_term-divided c.parts_divisor-divisor.result c.args.term c.from_vec.result c.divide_up-constant.result (omega arith)
+    (c.parts_divisor-divisor.ensures ∙ ap parts_divisor c.parts.ensures.value) c.parts.ensures.kept
+    (c.from_vec.ensures ∙ c.in_ok-items.ensures ∙ ap (divided_parts c.parts_divisor-divisor.result) c.parts-2.ensures.value)
+    (c.divide_up-constant.ensures ∙ ap (λ z. ceiling_quotient z c.parts_divisor-divisor.result)
+    (constant_is c.args.term c.constant.result c.constant.ensures.value c.constant.ensures.kept))

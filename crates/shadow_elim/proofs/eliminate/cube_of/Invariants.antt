@@ -1,6 +1,6 @@
 use Rattle.std.proofs.Common.{◌≡◌}
 use Rattle.infeasible_cert.specs.Right.{rows_of}
-use Rattle.shadow_elim.specs.Making.{terms_of}
+use Rattle.shadow_elim.specs.Stages.{terms_of}
 use Rattle.shadow_elim.proofs.eliminate.cube_of.Given as goal
 
 abbrev pub invariant-loop-row : goal.invariant-loop-row

@@ -12,5 +12,6 @@ returns-in_default-first_other c =
 
 pub returns : goal.returns
 returns c =
-    let first = first-of_both c.args.stage.now c.in-Some.upper.now c.in-Some-first_other.lower.now c.deref.result.now c.deref-2.result.now c.deref.ensures.value c.deref-2.ensures.value c.in-Some.ensures c.in-Some-first_other.ensures in
+    let first = first-of_both c.args.stage.now c.in-Some.upper.now c.in-Some-first_other.lower.now c.deref.result.now c.deref-2.result.now
+    c.deref.ensures.value c.deref-2.ensures.value c.in-Some.ensures c.in-Some-first_other.ensures in
     λ x rows h. c.in_ok-pair.ensures ∙ first x rows h

@@ -1,8 +1,7 @@
 use Rattle.std.proofs.Common.{◌≡◌, List, length, take}
 use Rattle.linear_formula.specs.LinearSum.{LinearSum}
 use Rattle.infeasible_cert.specs.Right.{AreRightSteps, rows_after}
-use Rattle.shadow_elim.specs.Making.{terms_of}
-use Rattle.shadow_elim.specs.Stages.{AreStages, AreNumbered}
+use Rattle.shadow_elim.specs.Stages.{terms_of, AreStages, AreNumbered}
 use Rattle.shadow_elim.proofs.elimination.eliminate_columns.Given as goal
 
 abbrev pub invariant-loop-column : goal.invariant-loop-column

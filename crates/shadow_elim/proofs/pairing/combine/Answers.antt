@@ -13,7 +13,9 @@ returns-clause-made c =
     let m = c.multiples-upper_multiple.ensures in
     let f = cast_multiple c.multiples-upper_multiple.result.0 m.upper_limit in
     let g = cast_multiple c.multiples-upper_multiple.result.1 m.lower_limit in
-    let s = sum_is c.args.column c.args.upper.now.term c.args.lower.now.term _ _ _ _ c.in_ok-sum.sum m.upper m.lower f g c.in_ok-sum.ensures.value in
+    let s = sum_is c.args.column c.args.upper.now.term c.args.lower.now.term _ _ _ _ c.in_ok-sum.sum m.upper m.lower f g
+    c.in_ok-sum.ensures.value in
     let small = row_divisor-small c.in_ok-sum.sum c.in_ok-sum.ensures.kept in
     let d = cast_divisor c.in_ok-term.divisor (omega (arith, c.in_ok-term.ensures.divisor, small)) in
-    made_is c.args.column c.args.upper.now c.args.lower.now _ _ _ c.in_ok-term.term (f ∙ m.upper) (g ∙ m.lower) (c.in_ok-term.ensures.row ∙ ap tightened s) (d ∙ ap pos (c.in_ok-term.ensures.divisor ∙ ap row_divisor s))
+    made_is c.args.column c.args.upper.now c.args.lower.now _ _ _ c.in_ok-term.term (f ∙ m.upper) (g ∙ m.lower)
+    (c.in_ok-term.ensures.row ∙ ap tightened s) (d ∙ ap pos (c.in_ok-term.ensures.divisor ∙ ap row_divisor s))

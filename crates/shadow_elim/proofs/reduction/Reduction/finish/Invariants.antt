@@ -5,4 +5,5 @@ use Rattle.shadow_elim.proofs.reduction.Reduction.finish.Given as goal
 
 abbrev pub invariant-loop-place : goal.invariant-loop-place
 invariant-loop-place l =
-    AreDone l.fn.self l.kept.items (into_iter_items l.place-iterator.iter) l.place-iterator.count × (length (into_iter_items l.place-iterator.iter) ≡ into_iter_len l.place-iterator.iter)
+    AreDone l.fn.self l.kept.items (into_iter_items l.place-iterator.iter) l.place-iterator.count
+    × (length (into_iter_items l.place-iterator.iter) ≡ into_iter_len l.place-iterator.iter)

@@ -1,6 +1,6 @@
 -- How rows are made of pairs, numbered and derived.
-use Rattle.std.specs.Prelude.{ℕ, ◌+◌, List, [], ◌∷◌, ◌++◌, map, filter, flat_map, pos}
-use Rattle.linear_formula.specs.LinearSum.{LinearSum}
+use Rattle.std.specs.Prelude.{◌≡◌, ℕ, ◌+◌, IsTrue, List, [], ◌∷◌, ◌++◌, map, filter, flat_map, pos}
+use Rattle.linear_formula.specs.LinearSum.{LinearSum, is_term}
 use Rattle.infeasible_cert.specs.declared.certificate.Derived.{Derived}
 use Rattle.shadow_elim.specs.declared.row.Row.{Row}
 use Rattle.shadow_elim.specs.declared.pairing.Candidate.{Candidate}
@@ -9,9 +9,6 @@ use Rattle.shadow_elim.specs.declared.pairing.Origin.{Origin}
 use Rattle.shadow_elim.specs.declared.pairing.Origin.TheVariants.{Known, Made}
 use Rattle.shadow_elim.specs.Division.{tightened, row_divisor}
 use Rattle.shadow_elim.specs.Elimination.{is_upper, is_lower, is_free, size_of, upper_multiple, lower_multiple, pair_sum}
-
-abbrev pub terms_of : List Row → List LinearSum
-terms_of = map (λ r. r.term)
 
 abbrev pub candidate_terms : List Candidate → List LinearSum
 candidate_terms = map (λ c. c.term)
@@ -79,4 +76,15 @@ next_after next (Made m) = next + 1
 -- the rows with their numbers, where the made ones are numbered in order
 abbrev pub numbered : ℕ → List Candidate → List Row
 numbered next [] = []
-numbered next (c ∷ cs) = record { term = c.term; number = number_of next c.origin } ∷ numbered (next_after next c.origin) cs
+numbered next (c ∷ cs) = record { term = c.term; number = number_of next c.origin }
+    ∷ numbered (next_after next c.origin) cs
+
+-- each row is a term
+abbrev pub AreTerms : List Row → Type 0
+AreTerms [] = Unit {0}
+AreTerms (r ∷ rs) = IsTrue (is_term r.term) × AreTerms rs
+
+-- the rows are numbered from here on
+abbrev pub AreInPlace : ℕ → List Row → Type 0
+AreInPlace next [] = Unit {0}
+AreInPlace next (r ∷ rs) = (r.number ≡ next) × AreInPlace (next + 1) rs

@@ -12,19 +12,24 @@ use Rattle.shadow_elim.specs.Stages.{AreStages}
 -- the bounds of a stage's column at the values chosen so far
 abbrev pub stage_low : Stage → List (ℕ × ℤ) → ℤ
 stage_low s values =
-    greatest_of least_value (map (λ r. ceiling_quotient (rest_of values r.term) (size_of s.column r.term)) s.lowers.items)
+    greatest_of least_value
+    (map (λ r. ceiling_quotient (rest_of values r.term) (size_of s.column r.term)) s.lowers.items)
 
 abbrev pub stage_floor : Stage → List (ℕ × ℤ) → ℤ
 stage_floor s values =
-    greatest_of least_value (map (λ r. floor_quotient (rest_of values r.term) (size_of s.column r.term)) s.lowers.items)
+    greatest_of least_value
+    (map (λ r. floor_quotient (rest_of values r.term) (size_of s.column r.term)) s.lowers.items)
 
 abbrev pub stage_high : Stage → List (ℕ × ℤ) → ℤ
 stage_high s values =
-    least_of greatest_value (map (λ r. floor_quotient (neg_ℤ (rest_of values r.term)) (size_of s.column r.term)) s.uppers.items)
+    least_of greatest_value
+    (map (λ r. floor_quotient (neg_ℤ (rest_of values r.term)) (size_of s.column r.term))
+    s.uppers.items)
 
 -- the rows of a stage bound its column
 abbrev pub Bounds : Stage → Type 0
-Bounds s = All (λ r. IsTrue (is_upper s.column r.term)) s.uppers.items × All (λ r. IsTrue (is_lower s.column r.term)) s.lowers.items
+Bounds s = All (λ r. IsTrue (is_upper s.column r.term)) s.uppers.items
+    × All (λ r. IsTrue (is_lower s.column r.term)) s.lowers.items
 
 -- the values with one for the stage's column, or its split
 abbrev pub extended : Stage → List (ℕ × ℤ) → Outcome
@@ -36,8 +41,10 @@ extended s values =
 -- rows that keep the column in its range, or stronger ones, are among the rows
 abbrev pub HasRange : List LinearSum → ℕ → Type 0
 HasRange rows x =
-    ((t : LinearSum) × Contains rows t × (t.parts ≡ (x, pos 1) ∷ []) × (negsuc 9223372036854775806 ≤ℤ t.constant)) ×
-    ((t : LinearSum) × Contains rows t × (t.parts ≡ (x, negsuc 0) ∷ []) × (negsuc 9223372036854775807 ≤ℤ t.constant))
+    ((t : LinearSum) × Contains rows t × (t.parts ≡ (x, pos 1) ∷ [])
+    × (negsuc 9223372036854775806 ≤ℤ t.constant)) ×
+    ((t : LinearSum) × Contains rows t × (t.parts ≡ (x, negsuc 0) ∷ [])
+    × (negsuc 9223372036854775807 ≤ℤ t.constant))
 
 -- the stages of an elimination of all columns that rows name, which ends without a contradiction
 pub record CanChoose (stages : List Stage) : Type 0 where

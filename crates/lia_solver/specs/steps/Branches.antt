@@ -37,11 +37,14 @@ planned (branch.Split column at) = split column at
 planned branch.Wide = too_wide
 planned branch.Rows = too_many_rows
 
--- the rows of a branch in its certificate: of the question, of the ranges of its columns, and of the splits
+-- the rows of a branch in its certificate: of the question, of the ranges of its columns, and of
+-- the splits
 abbrev pub branch_rows : List Atom → List Atom → List LinearSum
-branch_rows question splits = rows_of question ++ range_rows (columns_of (rows_of question)) ++ rows_of splits
+branch_rows question splits = rows_of question ++ range_rows (columns_of (rows_of question))
+    ++ rows_of splits
 
--- a point meets the branch, a contradiction is derived from its rows, and both sides of a split exist
+-- a point meets the branch, a contradiction is derived from its rows, and both sides of a split
+-- exist
 abbrev pub IsRightOutcome : List Atom → List Atom → BranchOutcome → Type 0
 IsRightOutcome question splits (branch.Point at) = HoldsAll (valuation at) (question ++ splits)
 IsRightOutcome question splits (branch.Refuted rows) =
@@ -60,4 +63,5 @@ abbrev pub IsSearched : List Atom → List Atom → ℕ → List Cube → Search
 IsSearched question splits depth cubes search (searched.Answer solved) =
     IsAnswer search solved × IfPoint solved (λ at. HoldsAll (valuation at) question)
 IsSearched question splits depth cubes search (searched.Nothing certificate) =
-    (search ≡ nothing cubes) × (nesting (refutation_of certificate) ≤ depth) × IsRight (branch_rows question splits) (refutation_of certificate)
+    (search ≡ nothing cubes) × (nesting (refutation_of certificate) ≤ depth)
+    × IsRight (branch_rows question splits) (refutation_of certificate)

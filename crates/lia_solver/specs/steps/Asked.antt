@@ -15,5 +15,6 @@ abbrev pub IsAnswerTo : List Atom → Atom → Answer → Type 0
 IsAnswerTo left atom (Never certificate) =
     IsEntailed left atom × Refutes (with_negation left atom) (refutation_of certificate) ×
     HasTerms (refutation_of certificate)
-IsAnswerTo left atom (Point at) = IsPointOf left at atom × HoldsAll (valuation at) (with_negation left atom)
+IsAnswerTo left atom (Point at) = IsPointOf left at atom × HoldsAll (valuation at)
+    (with_negation left atom)
 IsAnswerTo left atom (Limit kept) = IsLimitOf left kept atom

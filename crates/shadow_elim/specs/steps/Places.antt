@@ -10,13 +10,18 @@ use Rattle.linear_formula.specs.LinearSum.{LinearSum}
 -- a row with these coefficients is at the place, and none after it
 abbrev pub IsLastPlace : List Candidate → List (ℕ × ℤ) → ℕ → Type 0
 IsLastPlace rows ps i =
-    (i < length rows) × ((d : Candidate) → (slice_index_or rows i d).term.parts ≡ ps) × ((j : ℕ) (d : Candidate) → i < j → j < length rows → (slice_index_or rows j d).term.parts ≢ ps)
+    (i < length rows) × ((d : Candidate) → (slice_index_or rows i d).term.parts ≡ ps)
+    × ((j : ℕ) (d : Candidate) → i < j → j < length rows → (slice_index_or rows j d).term.parts ≢
+    ps)
 
--- the map has the last place of each list of coefficients, and of rows with the same ones a later one is stronger
-pub record AreLastPlaces (entries : List (Vec (ℕ × ℤ) Global × ℕ)) (rows : List Candidate) : Type 0 where
+-- the map has the last place of each list of coefficients, and of rows with the same ones a later
+-- one is stronger
+pub record AreLastPlaces (entries : List (Vec (ℕ × ℤ) Global × ℕ)) (rows : List Candidate) : Type
+    0 where
   pub places : (ps : List (ℕ × ℤ)) →
       MatchOption (lookup (λ k. pointwise is_same_part ps k.items) entries)
-      ((j : ℕ) (d : Candidate) → j < length rows → (slice_index_or rows j d).term.parts ≢ ps) (IsLastPlace rows ps)
+      ((j : ℕ) (d : Candidate) → j < length rows → (slice_index_or rows j d).term.parts ≢ ps)
+      (IsLastPlace rows ps)
   pub rising : (i j : ℕ) (d : Candidate) → i < j → j < length rows →
       (slice_index_or rows i d).term.parts ≡ (slice_index_or rows j d).term.parts →
       (slice_index_or rows i d).term.constant <ℤ (slice_index_or rows j d).term.constant

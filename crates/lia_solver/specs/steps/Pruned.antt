@@ -55,13 +55,15 @@ abbrev pub IsFoundAt : (olds news : List LinearSum) → (n m : ℕ) → Type 0
 IsFoundAt olds news n m = (m < length news) × (row_at news m ≡ row_at olds n)
 
 -- the kept steps are right, and each marked row is found under its new number
-pub record IsKept (first : ℕ) (base rows : List LinearSum) (marks : List Bool) (kept : List Derived) (numbers : List ℕ) : Type 0 where
+pub record IsKept (first : ℕ) (base rows : List LinearSum) (marks : List Bool) (kept : List Derived)
+    (numbers : List ℕ) : Type 0 where
   pub right : AreRightSteps base kept
   pub found : (i : ℕ) → i < length numbers → slice_index_or marks i false ≡ true →
       IsFoundAt rows (rows_after base kept) (first + i) (slice_index_or numbers i 0)
 
 -- so far: the first `place` steps have new numbers, and the marked ones among them are kept
-pub record ArePruned (first : ℕ) (steps : List Derived) (marks : List Bool) (place : ℕ) (kept : List Derived) (numbers : List ℕ) : Type 0 where
+pub record ArePruned (first : ℕ) (steps : List Derived) (marks : List Bool) (place : ℕ)
+    (kept : List Derived) (numbers : List ℕ) : Type 0 where
   pub count : length numbers ≡ place
   pub right : (base : List LinearSum) → length base ≡ first → AreRightSteps base steps →
       IsKept first base (rows_after base steps) marks kept numbers

@@ -1,0 +1,220 @@
+//! Questions with known answers, and small boxes by brute force.
+
+use crate::rows::{Row, cube_of, push_row, small_cube};
+use infeasible_cert::certificate::Certificate;
+use infeasible_cert::check::refutes;
+use lia_solver::entails::entails;
+use lia_solver::solve::solve;
+use lia_solver::solved::{Entailed, Solved};
+use linear_formula::assignment::{Assignment, Values};
+use linear_formula::error::LinError;
+use linear_formula::formula::{Atoms, Cube};
+use shadow_elim::limit::{Limit, LimitKind, MAX_SPLITS};
+use std::alloc::Global;
+use std::test::Fail;
+
+/// Whether the certificate is one derived row, the contradiction `1 <= 0`.
+fn is_closed(certificate: &Certificate) -> bool {
+    match certificate {
+        Certificate::Close(rows) => {
+            match rows.last() {
+                Some(last) => {
+                    let term = &last.row.term;
+                    rows.len() == 1 && term.parts().is_empty() && term.constant() == 1
+                }
+                None => false,
+            }
+        }
+        Certificate::Branch { .. } => false,
+    }
+}
+
+/// Whether the certificate is a branch on column 0 at 3, with both sides closed.
+fn is_split_at_three(certificate: &Certificate) -> bool {
+    match certificate {
+        Certificate::Close(_) => false,
+        Certificate::Branch {
+            rows,
+            column,
+            at,
+            low,
+            high,
+        } => rows.is_empty() && *column == 0 && *at == 3 && is_closed(low) && is_closed(high),
+    }
+}
+
+/// Whether the certificate has two derived rows and no branch.
+fn has_two_rows(certificate: &Certificate) -> bool {
+    match certificate {
+        Certificate::Close(rows) => rows.len() == 2,
+        Certificate::Branch { .. } => false,
+    }
+}
+
+/// A certificate that the rows have no point, if the solver gives one that the checker takes.
+fn refuted(alloc: Global, rows: &[Row]) -> Result<Option<Certificate>, LinError> {
+    let cube = cube_of(alloc, rows)?;
+    let certificate = match solve(alloc, &cube)? {
+        Solved::Never(certificate) => certificate,
+        _ => return Ok(None),
+    };
+    if refutes(&cube, &certificate) {
+        Ok(Some(certificate))
+    } else {
+        Ok(None)
+    }
+}
+
+fn splits(alloc: Global) -> Result<bool, LinError> {
+    let certificate = refuted(alloc, &[(&[(2, 0)], -7), (&[(-2, 0)], 7)])?;
+    Ok(certificate.is_some_and(|it| is_split_at_three(&it)))
+}
+
+#[test]
+fn splits_at_the_floor(rt: HostRuntime) -> Result<(), Fail> {
+    let splits = splits(rt.alloc())?;
+    assert!(rt; splits);
+    Ok(())
+}
+
+fn keeps_two(alloc: Global) -> Result<bool, LinError> {
+    let rows: [Row; 4] = [
+        (&[(1, 0), (-1, 1)], 0),
+        (&[(1, 1), (-1, 2)], 0),
+        (&[(1, 2), (-1, 0)], 1),
+        (&[(1, 0), (1, 1), (1, 2)], 0),
+    ];
+    let certificate = refuted(alloc, &rows)?;
+    Ok(certificate.is_some_and(|it| has_two_rows(&it)))
+}
+
+#[test]
+fn keeps_only_needed_rows(rt: HostRuntime) -> Result<(), Fail> {
+    let keeps = keeps_two(rt.alloc())?;
+    assert!(rt; keeps);
+    Ok(())
+}
+
+fn is_point(alloc: Global, rows: &[Row], values: &[(u32, i64)]) -> Result<bool, LinError> {
+    let cube = cube_of(alloc, rows)?;
+    match solve(alloc, &cube)? {
+        Solved::Point(at) => Ok(at.values() == values),
+        _ => Ok(false),
+    }
+}
+
+#[test]
+fn finds_points(rt: HostRuntime) -> Result<(), Fail> {
+    let found = is_point(rt.alloc(), &[(&[(1, 0)], -3), (&[(-1, 0)], 3)], &[(0, 3)])?;
+    assert!(rt; found);
+    Ok(())
+}
+
+/// The limit that the cube meets, if it does.
+fn limit_of(alloc: Global, cube: Result<Cube, LinError>) -> Result<Option<LimitKind>, LinError> {
+    let cube = cube?;
+    match solve(alloc, &cube)? {
+        Solved::Limit(limit) => Ok(Some(limit.kind())),
+        _ => Ok(None),
+    }
+}
+
+#[test]
+fn meets_wide_rows(rt: HostRuntime) -> Result<(), Fail> {
+    let alloc = rt.alloc();
+    let rows: [Row; 2] = [(&[(1 << 40, 0), (-1, 1)], 0), (&[(2, 2), (-3, 0)], 0)];
+    let limit = limit_of(alloc, cube_of(alloc, &rows))?;
+    assert!(rt; limit == Some(LimitKind::Wide));
+    Ok(())
+}
+
+/// A row for each of so many columns.
+fn columns_from_0(alloc: Global, count: u32) -> Result<Cube, LinError> {
+    let mut atoms = Atoms::new(alloc);
+    for column in 0..count {
+        push_row(&mut atoms, alloc, &(&[(1, column)], 0))?;
+    }
+    Ok(Cube { atoms })
+}
+
+#[test]
+fn takes_at_most_256_columns(rt: HostRuntime) -> Result<(), Fail> {
+    let alloc = rt.alloc();
+    for (count, limit) in [(256, None), (257, Some(LimitKind::Columns))] {
+        let met = limit_of(alloc, columns_from_0(alloc, count))?;
+        assert!(rt; met == limit);
+    }
+    Ok(())
+}
+
+/// How many splits there were, where one more is needed.
+fn split_count(alloc: Global, rows: &[Row]) -> Result<usize, LinError> {
+    let cube = cube_of(alloc, rows)?;
+    match solve(alloc, &cube)? {
+        Solved::Limit(Limit::Branches { branches }) => Ok(branches.as_slice().len()),
+        _ => Ok(0),
+    }
+}
+
+#[test]
+fn splits_at_most_512_times(rt: HostRuntime) -> Result<(), Fail> {
+    let rows: [Row; 2] = [(&[(2, 0), (-2, 1)], -1), (&[(-2, 0), (2, 1)], 1)];
+    let count = split_count(rt.alloc(), &rows)?;
+    assert_eq!(rt; count, MAX_SPLITS as usize);
+    Ok(())
+}
+
+/// What `column 0 + left <= 0` says of `column 0 + right <= 0`: how many certificates, or the value of a point.
+fn entailment(alloc: Global, left: i64, right: i64) -> Result<(usize, i64), LinError> {
+    let less = cube_of(alloc, &[(&[(1, 0)], left)])?;
+    let more = cube_of(alloc, &[(&[(1, 0)], right)])?;
+    match entails(alloc, &less, &more)? {
+        Entailed::Yes(certificates) => Ok((certificates.as_slice().len(), 0)),
+        Entailed::No(at) => Ok((0, at.value(0))),
+        Entailed::Limit(_) => Ok((0, 0)),
+    }
+}
+
+#[test]
+fn entails_what_follows(rt: HostRuntime) -> Result<(), Fail> {
+    let alloc = rt.alloc();
+    for (left, right, answer) in [(0, -1, (1, 0)), (-1, 0, (0, 1))] {
+        let found = entailment(alloc, left, right)?;
+        assert!(rt; found == answer);
+    }
+    Ok(())
+}
+
+fn has_point(alloc: Global, cube: &Cube) -> Result<bool, LinError> {
+    for x in -3..4 {
+        for y in -3..4 {
+            let values = vec![in alloc; (0, x), (1, y)]?;
+            if cube.holds(&Assignment::new(Values::from_vec(values))) {
+                return Ok(true);
+            }
+        }
+    }
+    Ok(false)
+}
+
+/// Whether the solver finds a point where there is one, and else a certificate that the checker takes.
+fn agrees(alloc: Global, seed: &mut u64) -> Result<bool, LinError> {
+    let cube = small_cube(alloc, seed)?;
+    let expected = has_point(alloc, &cube)?;
+    match solve(alloc, &cube)? {
+        Solved::Point(at) => Ok(expected && cube.holds(&at)),
+        Solved::Never(certificate) => Ok(!expected && refutes(&cube, &certificate)),
+        Solved::Limit(_) => Ok(false),
+    }
+}
+
+#[test]
+fn agrees_with_small_boxes(rt: HostRuntime) -> Result<(), Fail> {
+    let alloc = rt.alloc();
+    let mut seed = 1;
+    for _ in 0..60 {
+        let agrees = agrees(alloc, &mut seed)?;
+        assert!(rt; agrees);
+    }
+    Ok(())
+}
