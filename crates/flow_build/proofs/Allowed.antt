@@ -63,10 +63,18 @@ module _ (K : ℤ → Type 0) (C : ℕ → ℕ → Type 0) where
     pub call : (p n : ℕ) → IsTrue (called p n) → C p n
 
   pub allows_left : (fs gs : List ℤ) (c d : ℕ → ℕ → Bool) → Allows (fs ++ gs) (λ p n. c p n || d p n) → Allows fs c
-  allows_left fs gs c d a = record { factor = λ x h. a.factor x (Contains-append_left fs gs x h); call = λ p n h. a.call p n (or_left (c p n) (d p n) h) }
+  allows_left fs gs c d a = record {
+    factor = λ x h. a.factor x (Contains-append_left fs gs x h);
+    call = λ p n h. a.call p n
+        (or_left (c p n) (d p n) h);
+  }
 
   pub allows_right : (fs gs : List ℤ) (c d : ℕ → ℕ → Bool) → Allows (fs ++ gs) (λ p n. c p n || d p n) → Allows gs d
-  allows_right fs gs c d a = record { factor = λ x h. a.factor x (Contains-append_right fs gs x h); call = λ p n h. a.call p n (or_right (c p n) (d p n) h) }
+  allows_right fs gs c d a = record {
+    factor = λ x h. a.factor x (Contains-append_right fs gs x h);
+    call = λ p n h. a.call p n
+        (or_right (c p n) (d p n) h);
+  }
 
   abbrev pub AllowsOf : Expression → Type 0
   AllowsOf e = Allows (factors e) (λ p n. calls p n e)
@@ -121,7 +129,8 @@ module _ (K : ℤ → Type 0) (C : ℕ → ℕ → Type 0) where
     multiplied_keeps None None l f = added_keeps l
 
     module _ (a b : Expression) (c d : Test) (i : KeepsTest c) (j : KeepsTest d) (l : Bool) where
-      value_by_keeps : (op : Op) → ((x : ℤ) → Contains (sides op a b) x → K x) → Keeps (value_by op (constant_value a) (constant_value b) l v u c d)
+      value_by_keeps : (op : Op) → ((x : ℤ) → Contains (sides op a b) x → K x) →
+          Keeps (value_by op (constant_value a) (constant_value b) l v u c d)
       value_by_keeps Add f = added_keeps l
       value_by_keeps Subtract f = subtracted_keeps l
       value_by_keeps Multiply f = multiplied_keeps (constant_value a) (constant_value b) l f
@@ -134,7 +143,8 @@ module _ (K : ℤ → Type 0) (C : ℕ → ℕ → Type 0) where
       value_by_keeps And f = (i, j)
       value_by_keeps Or f = (i, j)
 
-      test_by_keeps : (op : Op) → ((x : ℤ) → Contains (sides op a b) x → K x) → KeepsTest (test_by op (constant_value a) (constant_value b) l v u c d)
+      test_by_keeps : (op : Op) → ((x : ℤ) → Contains (sides op a b) x → K x) →
+          KeepsTest (test_by op (constant_value a) (constant_value b) l v u c d)
       test_by_keeps Add f = (added_keeps l, tt)
       test_by_keeps Subtract f = (subtracted_keeps l, tt)
       test_by_keeps Multiply f = (multiplied_keeps (constant_value a) (constant_value b) l f, tt)
@@ -152,7 +162,9 @@ module _ (K : ℤ → Type 0) (C : ℕ → ℕ → Type 0) where
 
   called : (p : ℕ) (es : Expressions) → AllowsOf (call p es) → C p (how_many (values_of es))
   called p es a =
-      a.call p (how_many (values_of es)) (or_left (p == p && count es == how_many (values_of es)) (calls_any p (how_many (values_of es)) es) (both_true (p == p) (count es == how_many (values_of es)) (eq-eqb p p refl) (eq-eqb (count es) (how_many (values_of es)) (sym (as_many es)))))
+      a.call p (how_many (values_of es)) (or_left (p == p && count es == how_many (values_of es)) (calls_any p (how_many (values_of es)) es)
+      (both_true (p == p) (count es == how_many (values_of es)) (eq-eqb p p refl)
+      (eq-eqb (count es) (how_many (values_of es)) (sym (as_many es)))))
 
   module _ (op : Op) (a b : Expression) (w : AllowsOf (binary op a b)) where
     the_sides : (x : ℤ) → Contains (sides op a b) x → K x
@@ -160,13 +172,15 @@ module _ (K : ℤ → Type 0) (C : ℕ → ℕ → Type 0) where
 
     first : AllowsOf a
     first = record {
-      factor = λ x h. w.factor x (Contains-append_right (sides op a b) (factors a ++ factors b) x (Contains-append_left (factors a) (factors b) x h));
+      factor = λ x h. w.factor x (Contains-append_right (sides op a b) (factors a ++ factors b) x
+          (Contains-append_left (factors a) (factors b) x h));
       call = λ p n h. w.call p n (or_left (calls p n a) (calls p n b) h);
     }
 
     second : AllowsOf b
     second = record {
-      factor = λ x h. w.factor x (Contains-append_right (sides op a b) (factors a ++ factors b) x (Contains-append_right (factors a) (factors b) x h));
+      factor = λ x h. w.factor x (Contains-append_right (sides op a b) (factors a ++ factors b) x
+          (Contains-append_right (factors a) (factors b) x h));
       call = λ p n h. w.call p n (or_right (calls p n a) (calls p n b) h);
     }
 
@@ -182,7 +196,8 @@ module _ (K : ℤ → Type 0) (C : ℕ → ℕ → Type 0) where
       value_keeps (binary op a b) w =
           let x = first op a b w in
           let y = second op a b w in
-          value_by_keeps (value_of a) (value_of b) (value_keeps a x) (value_keeps b y) a b (test_of a) (test_of b) (test_keeps a x) (test_keeps b y) (has_call b) op (the_sides op a b w)
+          value_by_keeps (value_of a) (value_of b) (value_keeps a x) (value_keeps b y) a b (test_of a) (test_of b) (test_keeps a x)
+          (test_keeps b y) (has_call b) op (the_sides op a b w)
 
       pub values_keep : (es : Expressions) → AllowsIn es → KeepsAll (values_of es)
       values_keep no_expressions w = tt
@@ -202,7 +217,8 @@ module _ (K : ℤ → Type 0) (C : ℕ → ℕ → Type 0) where
       test_keeps (binary op a b) w =
           let x = first op a b w in
           let y = second op a b w in
-          test_by_keeps (value_of a) (value_of b) (value_keeps a x) (value_keeps b y) a b (test_of a) (test_of b) (test_keeps a x) (test_keeps b y) (has_call b) op (the_sides op a b w)
+          test_by_keeps (value_of a) (value_of b) (value_keeps a x) (value_keeps b y) a b (test_of a) (test_of b) (test_keeps a x)
+          (test_keeps b y) (has_call b) op (the_sides op a b w)
 
     pub result_keeps : (e : Expression) → AllowsOf e → Keeps (result_of e)
     result_keeps e w = in_slot_keeps (value_of e) (value_keeps e w)

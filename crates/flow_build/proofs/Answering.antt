@@ -13,7 +13,7 @@ use Rattle.c_tree.specs.Meaning.{is_value}
 use Rattle.c_tree.specs.Operators.{is_arithmetic}
 use Rattle.flow_build.specs.declared.operand.Operand.{Operand}
 use Rattle.flow_build.specs.declared.operand.Operand.TheVariants.{Variable, Constant}
-use Rattle.flow_build.specs.steps.Forms.{Value, Test}
+use Rattle.flow_build.specs.steps.Forms.{Value}
 use Rattle.flow_build.specs.steps.Forms as form
 use Rattle.flow_build.specs.steps.Translation.{has_call, kept_if, overflows, nonzero, value_of, test_of}
 use Rattle.flow_build.specs.steps.Operands.{is_operand, constant_of, overflows_in_place}
@@ -58,7 +58,8 @@ module _ (a b : Expression) where
   test_is_nonzero And h = absurd cc
   test_is_nonzero Or h = absurd cc
 
-  pub test_is_compared : (op : Op) → is_arithmetic op ≡ false → (op ≡ And → ⊥) → (op ≡ Or → ⊥) → binary_test op a b ≡ form.compare op (kept_if (has_call b) (value_of a)) (value_of b)
+  pub test_is_compared : (op : Op) → is_arithmetic op ≡ false → (op ≡ And → ⊥) → (op ≡ Or → ⊥) → binary_test op a b ≡ form.compare op
+      (kept_if (has_call b) (value_of a)) (value_of b)
   test_is_compared Add h n m = absurd cc
   test_is_compared Subtract h n m = absurd cc
   test_is_compared Multiply h n m = absurd cc
@@ -80,14 +81,16 @@ not_false true h = refl
 not_false false h = cc
 
 -- the test of an expression of the other kinds
-pub other_test : (e : Expr) → ((x : Box Expr Global) → e ≡ Not x → ⊥) → ((o : Op) (x y : Box Expr Global) → e ≡ Binary o x y → ⊥) → test_of (expression_of e) ≡ nonzero (value_of (expression_of e))
+pub other_test : (e : Expr) → ((x : Box Expr Global) → e ≡ Not x → ⊥) → ((o : Op) (x y : Box Expr Global) → e ≡ Binary o x y → ⊥) →
+    test_of (expression_of e) ≡ nonzero (value_of (expression_of e))
 other_test (Literal n) f g = refl
 other_test (Read x) f g = refl
 other_test Input f g = refl
 other_test (Call' p shape all) f g = refl
 other_test (Negate' p e) f g = refl
 other_test (Not' p e) f g = absurd (f (record { ptr = p.ptr; alloc = p.alloc; value = e }) refl)
-other_test (Binary' o p i q j) f g = absurd (g o (record { ptr = p.ptr; alloc = p.alloc; value = i }) (record { ptr = q.ptr; alloc = q.alloc; value = j }) refl)
+other_test (Binary' o p i q j) f g = absurd (g o (record { ptr = p.ptr; alloc = p.alloc; value = i })
+    (record { ptr = q.ptr; alloc = q.alloc; value = j }) refl)
 
 pub first_and_rest : (es : List Expr) (x : Expr) → 1 ≤ length es → x ≡ get_or es 0 x → es ≡ x ∷ take (length es - 1) (drop 1 es)
 first_and_rest [] x few h = absurd (omega arith)
@@ -129,33 +132,37 @@ right_false : (a b : Bool) → (a || b) ≡ false → b ≡ false
 right_false false b h = h
 right_false true b h = cc
 
-not_not_true : (b : Bool) → not b ≡ false → b ≡ true
-not_not_true true h = refl
-not_not_true false h = cc
-
-pub literal_of : (k : Bool) (u : Value) (r : ℕ) (b : Operand) → b ≡ operand_at (kept_if k u) r → (m : ℤ) → b ≡ Constant m → u ≡ form.literal false m
+pub literal_of : (k : Bool) (u : Value) (r : ℕ) (b : Operand) → b ≡ operand_at (kept_if k u) r → (m : ℤ) → b ≡ Constant m →
+    u ≡ form.literal false m
 literal_of k u r b e m h = (not_kept k u m (constant_form (kept_if k u) r m (sym e ∙ h))).1
 
 -- The constant of an operation of both operands is a value.
 module _ (f : ℤ → ℤ → ℤ) (right_zero : (n : ℤ) → f n (pos 0) ≡ n) where
-  pub operation_fits : (later : Bool) (v u : Value) (t : ℕ) (a b : Operand) → a ≡ operand_at (kept_if (later || overflows f v u) v) t → ((m : ℤ) → b ≡ Constant m → u ≡ form.literal false m) → IsTrue (is_operand a) →
+  pub operation_fits : (later : Bool) (v u : Value) (t : ℕ) (a b : Operand) → a ≡ operand_at (kept_if (later || overflows f v u) v) t →
+      ((m : ℤ) → b ≡ Constant m → u ≡ form.literal false m) → IsTrue (is_operand a) →
       IsTrue (is_value (f (pos 0) (constant_of b))) → IsTrue (is_value (f (constant_of a) (constant_of b)))
   operation_fits later v u t (Variable x) b ea eb ha hb = hb
-  operation_fits later v u t (Constant n) (Variable y) ea eb ha hb = let P : ℤ → Type 0 = λ z. IsTrue (is_value z) in subst P (sym (right_zero n)) ha
+  operation_fits later v u t (Constant n) (Variable y) ea eb ha hb = let P : ℤ → Type 0 = λ z. IsTrue (is_value z) in
+      subst P (sym (right_zero n)) ha
   operation_fits later v u t (Constant n) (Constant m) ea eb ha hb =
       let k = not_kept (later || overflows f v u) v n (constant_form (kept_if (later || overflows f v u) v) t n (sym ea)) in
       let w = eb m refl in
       let P : Value → Type 0 = λ x. overflows f x u ≡ false in
       let Q : Value → Type 0 = λ x. overflows f (form.literal false n) x ≡ false in
-      not_not_true (is_value (f n m)) (subst Q w (subst P k.1 (right_false later (overflows f v u) k.0)))
+      not_false (is_value (f n m)) (subst Q w (subst P k.1 (right_false later (overflows f v u) k.0)))
 
 -- The negative of a right side that is kept where it has none is a value.
 pub negated_fits : (node slot : ℕ) (a : Operand) (p : Bool) → IsTrue (is_operand_landed a p) →
-    IsTrue (is_value (pos 0 -ℤ constant_of (copied_operand (overflows_in_place (negsuc 0) a) (record { node = node; operand = a; slot = slot; in_place = p }))))
+    IsTrue (is_value
+    (pos 0 -ℤ constant_of (copied_operand (overflows_in_place (negsuc 0) a)
+    (record { node = node; operand = a; slot = slot; in_place = p }))))
 negated_fits node slot (Variable x) p h = refl
 negated_fits node slot (Constant n) false h = absurd cc
 negated_fits node slot (Constant n) true h = on (is_value (negsuc 0 *ℤ n)) refl
   where
-    on : (b : Bool) → is_value (negsuc 0 *ℤ n) ≡ b → IsTrue (is_value (pos 0 -ℤ constant_of (operand_where (not b && true) (record { node = node; operand = Constant n; slot = slot; in_place = true }))))
-    on true e = let same : negsuc 0 *ℤ n ≡ pos 0 -ℤ n = omega (arith, ints) in let P : ℤ → Type 0 = λ z. IsTrue (is_value z) in subst P same e
+    on : (b : Bool) → is_value (negsuc 0 *ℤ n) ≡ b →
+        IsTrue (is_value
+        (pos 0 -ℤ constant_of (operand_where (not b && true) (record { node = node; operand = Constant n; slot = slot; in_place = true }))))
+    on true e = let same : negsuc 0 *ℤ n ≡ pos 0 -ℤ n = omega (arith, ints) in let P : ℤ → Type 0 = λ z. IsTrue (is_value z) in
+        subst P same e
     on false e = refl

@@ -21,35 +21,41 @@ use Rattle.flow_build.proofs.Coming.{Hears, Comes, then_comes, le_self, lt_le, W
 use Rattle.flow_build.proofs.BackwardValues.{Behind, BehindTest, TestComes, value_comes, test_comes}
 
 -- a number of turns that stands inside comes out
-out_then : {A B : Type 0} (P : Relation A) (Q : ℕ → A → Relation B) (w : World) (o : Progress B) → Then P (λ v w1 o1. (n : ℕ) × Q n v w1 o1) w o → (n : ℕ) × Then P (Q n) w o
+out_then : {A B : Type 0} (P : Relation A) (Q : ℕ → A → Relation B) (w : World) (o : Progress B) → Then P (λ v w1 o1. (n : ℕ) × Q n v w1 o1)
+    w o → (n : ℕ) × Then P (Q n) w o
 out_then {A} {B} P Q w o h = on h.0 h.1 h.2
   where
     on : (r : Progress A) → P w r → Onward (λ v w1 o1. (n : ℕ) × Q n v w1 o1) r o → (n : ℕ) × Then P (Q n) w o
     on (goes w1 v) p k = (k.0, (goes w1 v, p, k.1))
     on (ends w1 e) p k = (0, (ends w1 e, p, k))
 
-out_choice : {A : Type 0} (b : Bool) (P : Relation A) (Q : ℕ → Relation A) (w : World) (o : Progress A) → Choice b P (λ w1 o1. (n : ℕ) × Q n w1 o1) w o → (n : ℕ) × Choice b P (Q n) w o
+out_choice : {A : Type 0} (b : Bool) (P : Relation A) (Q : ℕ → Relation A) (w : World) (o : Progress A) →
+    Choice b P (λ w1 o1. (n : ℕ) × Q n w1 o1) w o → (n : ℕ) × Choice b P (Q n) w o
 out_choice true P Q w o h = (0, h)
 out_choice false P Q w o h = h
 
-out_body : (f : Flow) (Q : ℕ → State → Relation Flow) (w : World) (o : Progress Flow) → AfterBody f (λ s w1 o1. (n : ℕ) × Q n s w1 o1) w o → (n : ℕ) × AfterBody f (Q n) w o
+out_body : (f : Flow) (Q : ℕ → State → Relation Flow) (w : World) (o : Progress Flow) → AfterBody f (λ s w1 o1. (n : ℕ) × Q n s w1 o1) w o →
+    (n : ℕ) × AfterBody f (Q n) w o
 out_body (normal s) Q w o h = h
 out_body (broken s) Q w o h = (0, h)
 out_body (continued s) Q w o h = h
 out_body (returned v) Q w o h = (0, h)
 
-inside_then : {A B : Type 0} (P : Relation A) (Q R : A → Relation B) (w : World) (o : Progress B) → ((v : A) (w1 : World) → Q v w1 o → R v w1 o) → Then P Q w o → Then P R w o
+inside_then : {A B : Type 0} (P : Relation A) (Q R : A → Relation B) (w : World) (o : Progress B) →
+    ((v : A) (w1 : World) → Q v w1 o → R v w1 o) → Then P Q w o → Then P R w o
 inside_then {A} {B} P Q R w o f h = on h.0 h.1 h.2
   where
     on : (r : Progress A) → P w r → Onward Q r o → Then P R w o
     on (goes w1 v) p k = (goes w1 v, p, f v w1 k)
     on (ends w1 e) p k = (ends w1 e, p, k)
 
-inside_choice : {A : Type 0} (b : Bool) (P Q R : Relation A) (w : World) (o : Progress A) → (Q w o → R w o) → Choice b P Q w o → Choice b P R w o
+inside_choice : {A : Type 0} (b : Bool) (P Q R : Relation A) (w : World) (o : Progress A) → (Q w o → R w o) → Choice b P Q w o →
+    Choice b P R w o
 inside_choice true P Q R w o f h = h
 inside_choice false P Q R w o f h = f h
 
-inside_body : (f : Flow) (Q R : State → Relation Flow) (w : World) (o : Progress Flow) → ((s : State) → Q s w o → R s w o) → AfterBody f Q w o → AfterBody f R w o
+inside_body : (f : Flow) (Q R : State → Relation Flow) (w : World) (o : Progress Flow) → ((s : State) → Q s w o → R s w o) →
+    AfterBody f Q w o → AfterBody f R w o
 inside_body (normal s) Q R w o f h = f s h
 inside_body (broken s) Q R w o f h = h
 inside_body (continued s) Q R w o f h = f s h
@@ -61,12 +67,14 @@ module _ (D : Callee) (T : State → Relation ℤ) (S B : State → Relation Flo
   Loops s w o = (n : ℕ) × Turns false D n T S B s w o
 
   abbrev Turn : (State → Relation Flow) → State → Relation Flow
-  Turn L s = Then (T s) (λ v. Choice (is_zero v) (Gives (normal s)) (Then (B s) (λ f. AfterBody f (λ s1. Then (S s1) (λ g. AfterBody g L)))))
+  Turn L s = Then (T s)
+      (λ v. Choice (is_zero v) (Gives (normal s)) (Then (B s) (λ f. AfterBody f (λ s1. Then (S s1) (λ g. AfterBody g L)))))
 
   -- one turn more
   loops_fold : (s : State) (w : World) (o : Progress Flow) → Turn Loops s w o → Loops s w o
   loops_fold s w o h =
-      let a = out_then (T s) (λ n v. Choice (is_zero v) (Gives (normal s)) (Then (B s) (λ f. AfterBody f (λ s1. Then (S s1) (λ g. AfterBody g (Turns false D n T S B)))))) w o
+      let a = out_then (T s) (λ n v. Choice (is_zero v) (Gives (normal s))
+      (Then (B s) (λ f. AfterBody f (λ s1. Then (S s1) (λ g. AfterBody g (Turns false D n T S B)))))) w o
       (inside_then (T s) _ _ w o (λ v w1 k1. out_choice (is_zero v) _ _ w1 o (inside_choice (is_zero v) _ _ _ w1 o (λ k2.
       out_then (B s) (λ n f. AfterBody f (λ s1. Then (S s1) (λ g. AfterBody g (Turns false D n T S B)))) w1 o
       (inside_then (B s) _ _ w1 o (λ f w2 k3. out_body f _ w2 o (inside_body f _ _ w2 o (λ s1 k4.
@@ -144,9 +152,12 @@ module _ (C : Called) (g : List Edge) (rest : List ℤ) (end : End) (gives : Boo
   wider j K n w s le b = (b.0, b.1, b.2, (b.3.0, le_by b.3.0 j K b.3.1 le, b.3.2))
 
   -- one behind the other
-  sequence_comes : (P S : State → Relation Flow) (from mid to brk con : ℕ) → RunComes P from mid brk con → RunComes S mid to brk con → RunComes (λ s. Then (P s) (λ f. AfterNormal f S)) from to brk con
+  sequence_comes : (P S : State → Relation Flow) (from mid to brk con : ℕ) → RunComes P from mid brk con → RunComes S mid to brk con →
+      RunComes (λ s. Then (P s) (λ f. AfterNormal f S)) from to brk con
   sequence_comes P S from mid to brk con first second s σ m vals w K k le h =
-      then_comes C g rest end (P s) (λ f. AfterNormal f S) w (BehindFlow K mid brk con) (BehindFlow K to brk con) (first s σ m vals w K k le h) on
+      then_comes C g rest end (P s) (λ f. AfterNormal f S) w (BehindFlow K mid brk con) (BehindFlow K to brk con)
+      (first s σ m vals w K k le h)
+      on
     where
       on : (w1 : World) (f : Flow) → BehindFlow K mid brk con w1 f → Comes C g rest end (AfterNormal f S) w1 (BehindFlow K to brk con)
       on w1 (normal s1) b = second s1 b.0 b.1 b.2 w1 K b.3.0 b.3.1 b.3.2
@@ -155,7 +166,8 @@ module _ (C : Called) (g : List Edge) (rest : List ℤ) (end : End) (gives : Boo
       on w1 (returned v) b = (goes w1 (returned v), refl, b)
 
   -- behind a body whose Break leads to `to`, and whose Continue to where it leads itself
-  after_body : (j K mid to brk con : ℕ) (Q : State → Relation Flow) (w : World) → j ≤ K → ((s : State) → StandsAt j mid w s → Comes C g rest end (Q s) w (BehindFlow K to brk con))
+  after_body : (j K mid to brk con : ℕ) (Q : State → Relation Flow) (w : World) → j ≤ K →
+      ((s : State) → StandsAt j mid w s → Comes C g rest end (Q s) w (BehindFlow K to brk con))
       → (f : Flow) → BehindFlow j mid to mid w f → Comes C g rest end (AfterBody f Q) w (BehindFlow K to brk con)
   after_body j K mid to brk con Q w le next (normal s) b = next s b
   after_body j K mid to brk con Q w le next (broken s) b = (goes w (normal s), refl, wider j K to w s le b)
@@ -164,13 +176,16 @@ module _ (C : Called) (g : List Edge) (rest : List ℤ) (end : End) (gives : Boo
 
   module _ (D : Callee) (t : ℕ) (low : vars ≤ t) where
     -- what follows a test of the source
-    decided_comes : (e : Expression) (from : ℕ) (met unmet : Target) (lo : ℕ) → IsPlain vars e → TestComes C g rest end D vars (test_of e) from met unmet t lo
-        → (P Q : Relation Flow) (L : World → Flow → Type 0) (s σ : State) → Matches vars σ s → AreValues σ → (w : World) (K k : ℕ) → k ≤ K → EndsIn C g k (inside from σ) w.inputs rest end
+    decided_comes : (e : Expression) (from : ℕ) (met unmet : Target) (lo : ℕ) → IsPlain vars e → TestComes C g rest end D vars (test_of e)
+        from met unmet t lo
+        → (P Q : Relation Flow) (L : World → Flow → Type 0) (s σ : State) → Matches vars σ s → AreValues σ → (w : World) (K k : ℕ) → k ≤ K →
+        EndsIn C g k (inside from σ) w.inputs rest end
         → ((w1 : World) (σ1 : State) → Matches vars σ1 s → AreValues σ1 → Led C g rest end K unmet σ1 w1.inputs → Comes C g rest end P w1 L)
         → ((w1 : World) (σ1 : State) → Matches vars σ1 s → AreValues σ1 → Led C g rest end K met σ1 w1.inputs → Comes C g rest end Q w1 L)
         → Comes C g rest end (Then (Eval false D e s) (λ v. Choice (is_zero v) P Q)) w L
     decided_comes e from met unmet lo plain comes P Q L s σ m vals w K k le h otherwise then_so =
-        let c = then_comes C g rest end (Decides D (test_of e) s) (λ b. Choice b Q P) w (BehindTest C g rest end K met unmet t σ) L (comes s σ m vals w K k le h) on in
+        let c = then_comes C g rest end (Decides D (test_of e) s) (λ b. Choice b Q P) w (BehindTest C g rest end K met unmet t σ) L
+        (comes s σ m vals w K k le h) on in
         (c.0, (by_test vars D e s P Q plain).back w c.0 c.1, c.2)
       where
         on : (w1 : World) (b : Bool) → BehindTest C g rest end K met unmet t σ w1 b → Comes C g rest end (Choice b Q P) w1 L
@@ -186,168 +201,259 @@ module _ (C : Called) (g : List Edge) (rest : List ℤ) (end : End) (gives : Boo
 
       loop_comes : (bound from lo lo2 : ℕ) → TestComes C g rest end D vars (test_of e) from (Node lo) (Node to) t lo2
           → RunComes B lo (lo + 1) to (lo + 1) → RunComes S (lo + 1) from to from
-          → (s σ : State) → Matches vars σ s → AreValues σ → (w : World) (K k : ℕ) → k < bound → k ≤ K → EndsIn C g k (inside from σ) w.inputs rest end
+          → (s σ : State) → Matches vars σ s → AreValues σ → (w : World) (K k : ℕ) → k < bound → k ≤ K → EndsIn C g k (inside from σ)
+          w.inputs rest end
           → Comes C g rest end (Looping s) w (BehindFlow K to brk con)
       loop_comes zero from lo lo2 test body step s σ m vals w K k lt le h = absurd (none_below k lt)
       loop_comes (suc bound) from lo lo2 test body step s σ m vals w K k lt le h =
-          let c = decided_comes e from (Node lo) (Node to) lo2 plain test (Gives (normal s)) (Then (B s) (λ f. AfterBody f Stepping)) (BehindFlow K to brk con) s σ m vals w k k (le_self k) h
+          let c = decided_comes e from (Node lo) (Node to) lo2 plain test (Gives (normal s)) (Then (B s) (λ f. AfterBody f Stepping))
+          (BehindFlow K to brk con) s σ m vals w k k (le_self k) h
           (λ w1 σ1 m1 vals1 led. (goes w1 (normal s), refl, (σ1, m1, vals1, (led.0, le_under led.0 k K led.1 le, led.2))))
           (λ w1 σ1 m1 vals1 led.
           let j = led.0 in
           let le1 = le_under j k K led.1 le in
-          then_comes C g rest end (B s) (λ f. AfterBody f Stepping) w1 (BehindFlow j (lo + 1) to (lo + 1)) (BehindFlow K to brk con) (body s σ1 m1 vals1 w1 j j (le_self j) led.2)
+          then_comes C g rest end (B s) (λ f. AfterBody f Stepping) w1 (BehindFlow j (lo + 1) to (lo + 1)) (BehindFlow K to brk con)
+          (body s σ1 m1 vals1 w1 j j (le_self j) led.2)
           (λ w2 f. after_body j K (lo + 1) to brk con Stepping w2 le1 (λ s2 d2.
-          then_comes C g rest end (S s2) (λ f. AfterBody f Looping) w2 (BehindFlow j from to from) (BehindFlow K to brk con) (step s2 d2.0 d2.1 d2.2 w2 j d2.3.0 d2.3.1 d2.3.2)
+          then_comes C g rest end (S s2) (λ f. AfterBody f Looping) w2 (BehindFlow j from to from) (BehindFlow K to brk con)
+          (step s2 d2.0 d2.1 d2.2 w2 j d2.3.0 d2.3.1 d2.3.2)
           (λ w3 f3. after_body j K from to brk con Looping w3 le1 (λ s3 d3.
-          loop_comes bound from lo lo2 test body step s3 d3.0 d3.1 d3.2 w3 K d3.3.0 (lt_bound d3.3.0 j k bound d3.3.1 led.1 lt) (le_by d3.3.0 j K d3.3.1 le1) d3.3.2) f3)) f)) in
+          loop_comes bound from lo lo2 test body step s3 d3.0 d3.1 d3.2 w3 K d3.3.0 (lt_bound d3.3.0 j k bound d3.3.1 led.1 lt)
+          (le_by d3.3.0 j K d3.3.1 le1) d3.3.2) f3)) f)) in
           (c.0, loops_fold D (Eval false D e) S B s w c.0 c.1, c.2)
 
     module _ (e : Expression) (plain : IsPlain vars e) (B : State → Relation Flow) (to brk con : ℕ) where
       abbrev DoLooping : State → Relation Flow
       DoLooping = DoLoops D (Eval false D e) B
 
-      do_comes : (bound from lo lo2 : ℕ) → RunComes B from lo to lo → TestComes C g rest end D vars (test_of e) lo (Node from) (Node to) t lo2
-          → (s σ : State) → Matches vars σ s → AreValues σ → (w : World) (K k : ℕ) → k < bound → k ≤ K → EndsIn C g k (inside from σ) w.inputs rest end
+      do_comes : (bound from lo lo2 : ℕ) → RunComes B from lo to lo → TestComes C g rest end D vars (test_of e) lo (Node from) (Node to) t
+          lo2
+          → (s σ : State) → Matches vars σ s → AreValues σ → (w : World) (K k : ℕ) → k < bound → k ≤ K → EndsIn C g k (inside from σ)
+          w.inputs rest end
           → Comes C g rest end (DoLooping s) w (BehindFlow K to brk con)
       do_comes zero from lo lo2 body test s σ m vals w K k lt le h = absurd (none_below k lt)
       do_comes (suc bound) from lo lo2 body test s σ m vals w K k lt le h =
           let again = TestAgain D (Eval false D e) B DoLooping in
-          let c = then_comes C g rest end (B s) (λ f. AfterBody f again) w (BehindFlow k lo to lo) (BehindFlow K to brk con) (body s σ m vals w k k (le_self k) h)
+          let c = then_comes C g rest end (B s) (λ f. AfterBody f again) w (BehindFlow k lo to lo) (BehindFlow K to brk con)
+          (body s σ m vals w k k (le_self k) h)
           (λ w1 f. after_body k K lo to brk con again w1 le (λ s1 d1.
           let j = d1.3.0 in
           let le1 = le_by j k K d1.3.1 le in
-          decided_comes e lo (Node from) (Node to) lo2 plain test (Gives (normal s1)) (DoLooping s1) (BehindFlow K to brk con) s1 d1.0 d1.1 d1.2 w1 j j (le_self j) d1.3.2
+          decided_comes e lo (Node from) (Node to) lo2 plain test (Gives (normal s1)) (DoLooping s1) (BehindFlow K to brk con) s1 d1.0 d1.1
+          d1.2 w1 j j (le_self j) d1.3.2
           (λ w2 σ2 m2 vals2 led. (goes w2 (normal s1), refl, (σ2, m2, vals2, (led.0, le_under led.0 j K led.1 le1, led.2))))
           (λ w2 σ2 m2 vals2 led.
-          do_comes bound from lo lo2 body test s1 σ2 m2 vals2 w2 K led.0 (lt_bound_do led.0 j k bound led.1 d1.3.1 lt) (le_under led.0 j K led.1 le1) led.2)) f) in
+          do_comes bound from lo lo2 body test s1 σ2 m2 vals2 w2 K led.0 (lt_bound_do led.0 j k bound led.1 d1.3.1 lt)
+          (le_under led.0 j K led.1 le1) led.2)) f) in
           (c.0, do_loops_fold D (Eval false D e) B s w c.0 c.1, c.2)
 
-  module _ (D : Callee) (hears : Hears C D) (t : ℕ) (low : vars ≤ t) (returning : out return_node g ≡ Return return_node exit_node t ∷ []) where
+  module _ (D : Callee) (hears : Hears C D) (t : ℕ) (low : vars ≤ t) (returning : out return_node g ≡ Return return_node exit_node t
+      ∷ []) where
     -- 0 is returned
-    pub zero_returned : (k n : ℕ) (σ : State) (ins : List ℤ) → out n g ≡ Assign n return_node t (constant_lin (pos 0)) ∷ [] → EndsIn C g k (inside n σ) ins rest end → (end ≡ came (pos 0 ∷ [])) × (rest ≡ ins)
+    pub zero_returned : (k n : ℕ) (σ : State) (ins : List ℤ) → out n g ≡ Assign n return_node t (constant_lin (pos 0)) ∷ [] →
+        EndsIn C g k (inside n σ) ins rest end → (end ≡ came (pos 0 ∷ [])) × (rest ≡ ins)
     zero_returned k n σ ins h f =
         let z = lin_value σ (constant_lin (pos 0)) in
         let is : z ≡ pos 0 = constant_is σ (pos 0) in
-        let b = over_value C g rest end k k n return_node t (constant_lin (pos 0)) σ ins h (subst (λ y. IsTrue (is_value y)) (sym is) refl) (le_self k) f in
+        let b = over_value C g rest end k k n return_node t (constant_lin (pos 0)) σ ins h (subst (λ y. IsTrue (is_value y)) (sym is) refl)
+        (le_self k) f in
         let r = over_return C g rest end b.0 return_node t (with_slot σ t z) ins returning b.2 in
         (r.0 ∙ ap (λ y. came (y ∷ [])) (slot_there σ t z ∙ is), r.1)
 
-    over_result : (b : Bool) (k n slot : ℕ) (σ : State) (ins : List ℤ) → out n g ≡ return_edge b n slot t ∷ [] → EndsIn C g k (inside n σ) ins rest end → (end ≡ came (cond b (σ slot) (pos 0) ∷ [])) × (rest ≡ ins)
+    over_result : (b : Bool) (k n slot : ℕ) (σ : State) (ins : List ℤ) → out n g ≡ return_edge b n slot t ∷ [] → EndsIn C g k (inside n σ)
+        ins rest end → (end ≡ came (cond b (σ slot) (pos 0) ∷ [])) × (rest ≡ ins)
     over_result true k n slot σ ins h f = over_return C g rest end k n slot σ ins h f
     over_result false k n slot σ ins h f = zero_returned k n σ ins h f
 
-    tested : (e : Expression) (from : ℕ) (met unmet : Target) (lo : ℕ) → IsPlain vars e → At g (test_blocks (test_of e) from met unmet t lo) → TestComes C g rest end D vars (test_of e) from met unmet t lo
-    tested e from met unmet lo plain at = test_comes C g rest end D vars hears (test_of e) from met unmet t lo (test_fits vars e plain) low at
+    tested : (e : Expression) (from : ℕ) (met unmet : Target) (lo : ℕ) → IsPlain vars e →
+        At g (test_blocks (test_of e) from met unmet t lo) →
+        TestComes C g rest end D vars (test_of e) from met unmet t lo
+    tested e from met unmet lo plain at = test_comes C g rest end D vars hears (test_of e) from met unmet t lo (test_fits vars e plain) low
+        at
 
-    set_comes : (x : ℕ) (e : Expression) (from to brk con lo : ℕ) → IsPlain vars e → At g (statement_blocks gives t (set x e) from to brk con lo) → RunComes (Exec false D (set x e)) from to brk con
+    set_comes : (x : ℕ) (e : Expression) (from to brk con lo : ℕ) → IsPlain vars e →
+        At g (statement_blocks gives t (set x e) from to brk con lo) → RunComes (Exec false D (set x e)) from to brk con
     set_comes x e from to brk con lo plain at s σ m vals w K k le h =
         let v = value_of e in
         let n = landing v from lo in
         let a = operand_at v t in
         let fits = value_fits vars e plain in
         let node = at_right g (value_blocks v from t lo) _ at in
-        let c = then_comes C g rest end (Yields D v s) (λ z. Gives (normal (with_slot s x z))) w (Behind C g rest end K n a t σ) (BehindFlow K to brk con)
+        let c = then_comes C g rest end (Yields D v s) (λ z. Gives (normal (with_slot s x z))) w (Behind C g rest end K n a t σ)
+        (BehindFlow K to brk con)
         (value_comes C g rest end D vars hears v from t lo fits low (at_left g (value_blocks v from t lo) _ at) s σ m vals w K k le h)
         (λ w1 z b.
         let σ1 = b.0 in
         let y = lin_value σ1 (operand_lin a) in
         let is : y ≡ operand_value σ1 a = operand_is σ1 a in
         let ok = subst (λ u. IsTrue (is_value u)) (sym is) (operand_has vars t v σ1 fits b.2) in
-        let σ2 = with_slot σ1 x y in
-        (goes w1 (normal (with_slot s x z)), refl, (σ2, matches_with vars x z y σ1 s (is ∙ b.3) (matches_on vars t σ σ1 s low b.1 m), values_with σ1 x y b.2 ok, within C g rest end K (inside to σ2) w1.inputs (over_value C g rest end K b.4.0 n to x (operand_lin a) σ1 w1.inputs node.0 ok b.4.1 b.4.2)))) in
+        let σ2 = with_slot σ1 x y in (
+          goes w1 (normal (with_slot s x z)),
+          refl,
+          (
+            σ2,
+            matches_with vars x z y σ1 s (is ∙ b.3) (matches_on vars t σ σ1 s low b.1 m),
+            values_with σ1 x y b.2 ok,
+            within C g rest end K (inside to σ2) w1.inputs (over_value C g rest end K b.4.0 n to x (operand_lin a) σ1 w1.inputs node.0 ok
+                b.4.1 b.4.2),
+          ),
+        )) in
         (c.0, (by_value vars D e s (λ z. Gives (normal (with_slot s x z))) plain).back w c.0 c.1, c.2)
 
-    ignore_comes : (e : Expression) (from to brk con lo : ℕ) → IsPlain vars e → At g (statement_blocks gives t (ignore e) from to brk con lo) → RunComes (Exec false D (ignore e)) from to brk con
+    ignore_comes : (e : Expression) (from to brk con lo : ℕ) → IsPlain vars e →
+        At g (statement_blocks gives t (ignore e) from to brk con lo) →
+        RunComes (Exec false D (ignore e)) from to brk con
     ignore_comes e from to brk con lo plain at s σ m vals w K k le h =
         let v = value_of e in
         let n = landing v from lo in
         let node = at_right g (value_blocks v from t lo) _ at in
-        let c = then_comes C g rest end (Yields D v s) (λ z. Gives (normal s)) w (Behind C g rest end K n (operand_at v t) t σ) (BehindFlow K to brk con)
-        (value_comes C g rest end D vars hears v from t lo (value_fits vars e plain) low (at_left g (value_blocks v from t lo) _ at) s σ m vals w K k le h)
-        (λ w1 z b. (goes w1 (normal s), refl, (b.0, matches_on vars t σ b.0 s low b.1 m, b.2, within C g rest end K (inside to b.0) w1.inputs (over_skip C g rest end K b.4.0 n to b.0 w1.inputs node.0 b.4.1 b.4.2)))) in
+        let c = then_comes C g rest end (Yields D v s) (λ z. Gives (normal s)) w (Behind C g rest end K n (operand_at v t) t σ)
+        (BehindFlow K to brk con)
+        (value_comes C g rest end D vars hears v from t lo (value_fits vars e plain) low (at_left g (value_blocks v from t lo) _ at) s σ m
+        vals w K k le h)
+        (λ w1 z b. (
+          goes w1 (normal s),
+          refl,
+          (
+            b.0,
+            matches_on vars t σ b.0 s low b.1 m,
+            b.2,
+            within C g rest end K (inside to b.0) w1.inputs
+                (over_skip C g rest end K b.4.0 n to b.0 w1.inputs node.0 b.4.1 b.4.2),
+          ),
+        )) in
         (c.0, (by_value vars D e s (λ z. Gives (normal s)) plain).back w c.0 c.1, c.2)
 
-    assume_comes : (e : Expression) (from to brk con lo : ℕ) → IsPlain vars e → At g (statement_blocks gives t (assume e) from to brk con lo) → RunComes (Exec false D (assume e)) from to brk con
+    assume_comes : (e : Expression) (from to brk con lo : ℕ) → IsPlain vars e →
+        At g (statement_blocks gives t (assume e) from to brk con lo) →
+        RunComes (Exec false D (assume e)) from to brk con
     assume_comes e from to brk con lo plain at s σ m vals w K k le h =
-        decided_comes D t low e from (Node to) Nowhere lo plain (tested e from (Node to) Nowhere lo plain at) (Ends source_stopped) (Gives (normal s)) (BehindFlow K to brk con) s σ m vals w K k le h
+        decided_comes D t low e from (Node to) Nowhere lo plain (tested e from (Node to) Nowhere lo plain at) (Ends source_stopped)
+        (Gives (normal s)) (BehindFlow K to brk con) s σ m vals w K k le h
         (λ w1 σ1 m1 vals1 led. (ends w1 source_stopped, refl, led))
         (λ w1 σ1 m1 vals1 led. (goes w1 (normal s), refl, (σ1, m1, vals1, within C g rest end K (inside to σ1) w1.inputs led)))
 
-    assert_comes : (id : ℕ) (e : Expression) (from to brk con lo : ℕ) → IsPlain vars e → At g (statement_blocks gives t (assert id e) from to brk con lo) → RunComes (Exec false D (assert id e)) from to brk con
+    assert_comes : (id : ℕ) (e : Expression) (from to brk con lo : ℕ) → IsPlain vars e →
+        At g (statement_blocks gives t (assert id e) from to brk con lo) → RunComes (Exec false D (assert id e)) from to brk con
     assert_comes id e from to brk con lo plain at s σ m vals w K k le h =
-        decided_comes D t low e from (Node to) (Fails id) lo plain (tested e from (Node to) (Fails id) lo plain at) (Ends (source_failed id)) (Gives (normal s)) (BehindFlow K to brk con) s σ m vals w K k le h
+        decided_comes D t low e from (Node to) (Fails id) lo plain (tested e from (Node to) (Fails id) lo plain at)
+        (Ends (source_failed id))
+        (Gives (normal s)) (BehindFlow K to brk con) s σ m vals w K k le h
         (λ w1 σ1 m1 vals1 led. (ends w1 (source_failed id), refl, led))
         (λ w1 σ1 m1 vals1 led. (goes w1 (normal s), refl, (σ1, m1, vals1, within C g rest end K (inside to σ1) w1.inputs led)))
 
-    branches_come : (e : Expression) (P Q : State → Relation Flow) (from one other lo to brk con : ℕ) → IsPlain vars e → TestComes C g rest end D vars (test_of e) from (Node one) (Node other) t lo → RunComes P one to brk con → RunComes Q other to brk con
+    branches_come : (e : Expression) (P Q : State → Relation Flow) (from one other lo to brk con : ℕ) → IsPlain vars e →
+        TestComes C g rest end D vars (test_of e) from (Node one) (Node other) t lo → RunComes P one to brk con →
+        RunComes Q other to brk con
         → RunComes (λ s. Then (Eval false D e s) (λ v. Choice (is_zero v) (Q s) (P s))) from to brk con
     branches_come e P Q from one other lo to brk con plain test first second s σ m vals w K k le h =
         decided_comes D t low e from (Node one) (Node other) lo plain test (Q s) (P s) (BehindFlow K to brk con) s σ m vals w K k le h
         (λ w1 σ1 m1 vals1 led. second s σ1 m1 vals1 w1 K led.0 (lt_le led.0 K led.1) led.2)
         (λ w1 σ1 m1 vals1 led. first s σ1 m1 vals1 w1 K led.0 (lt_le led.0 K led.1) led.2)
 
-    return_comes : (e : Expression) (from to brk con lo : ℕ) → IsPlain vars e → At g (statement_blocks gives t (return (Some e)) from to brk con lo) → RunComes (Exec false D (return (Some e))) from to brk con
+    return_comes : (e : Expression) (from to brk con lo : ℕ) → IsPlain vars e →
+        At g (statement_blocks gives t (return (Some e)) from to brk con lo) → RunComes (Exec false D (return (Some e))) from to brk con
     return_comes e from to brk con lo plain at s σ m vals w K k le h =
         let v = result_of e in
         let n = landing v from lo in
         let slot = argument_slot v t in
         let node = at_right g (value_blocks v from t lo) _ at in
-        let c = then_comes C g rest end (Yields D v s) (λ z. Gives (returned z)) w (Behind C g rest end K n (operand_at v t) t σ) (BehindFlow K to brk con)
-        (value_comes C g rest end D vars hears v from t lo (result_fits vars e plain) low (at_left g (value_blocks v from t lo) _ at) s σ m vals w K k le h)
+        let c = then_comes C g rest end (Yields D v s) (λ z. Gives (returned z)) w (Behind C g rest end K n (operand_at v t) t σ)
+        (BehindFlow K to brk con)
+        (value_comes C g rest end D vars hears v from t lo (result_fits vars e plain) low (at_left g (value_blocks v from t lo) _ at) s σ m
+        vals w K k le h)
         (λ w1 z b.
         let r = over_result gives b.4.0 n slot b.0 w1.inputs node.0 b.4.2 in
         let is : b.0 slot ≡ z = argument_is t v b.0 (result_in_slot vars e) ∙ b.3 in
         (goes w1 (returned z), refl, (r.0 ∙ ap (λ y. came (cond gives y (pos 0) ∷ [])) is, r.1))) in
         (c.0, (by_result vars D e s (λ z. Gives (returned z)) plain).back w c.0 c.1, c.2)
 
-    skip_stands : (K k from n : ℕ) (s σ : State) (w : World) → out from g ≡ Guard from n (record { atoms = [] }) ∷ [] → Matches vars σ s → AreValues σ → k ≤ K → EndsIn C g k (inside from σ) w.inputs rest end → StandsAt K n w s
-    skip_stands K k from n s σ w h m vals le f = (σ, m, vals, within C g rest end K (inside n σ) w.inputs (over_skip C g rest end K k from n σ w.inputs h le f))
+    skip_stands : (K k from n : ℕ) (s σ : State) (w : World) → out from g ≡ Guard from n (record { atoms = [] }) ∷ [] → Matches vars σ s →
+        AreValues σ → k ≤ K → EndsIn C g k (inside from σ) w.inputs rest end → StandsAt K n w s
+    skip_stands K k from n s σ w h m vals le f = (
+      σ,
+      m,
+      vals,
+      within C g rest end K (inside n σ) w.inputs
+          (over_skip C g rest end K k from n σ w.inputs h le f),
+    )
 
     mutual
-      pub exec_comes : (a : Statement) (from to brk con lo : ℕ) → RunsPlain vars a → At g (statement_blocks gives t a from to brk con lo) → RunComes (Exec false D a) from to brk con
-      exec_comes (block no_statements) from to brk con lo plain at s σ m vals w K k le h = (goes w (normal s), refl, skip_stands K k from to s σ w at.0 m vals le h)
+      pub exec_comes : (a : Statement) (from to brk con lo : ℕ) → RunsPlain vars a → At g (statement_blocks gives t a from to brk con lo) →
+          RunComes (Exec false D a) from to brk con
+      exec_comes (block no_statements) from to brk con lo plain at s σ m vals w K k le h = (
+        goes w (normal s),
+        refl,
+        skip_stands K k from to s σ w at.0 m vals le h,
+      )
       exec_comes (block (statement a ss)) from to brk con lo plain at s σ m vals w K k le h =
           let n = between ss to lo in
           let l = lo + nodes_between ss in
           let blocks = statement_blocks gives t a from n brk con l in
-          sequence_comes (Exec false D a) (Execs false D ss) from n to brk con (exec_comes a from n brk con l plain.0 (at_left g blocks _ at))
-          (execs_come ss n to brk con (l + nodes_of_statement a) (begins_between ss to lo) plain.1 (at_right g blocks _ at)) s σ m vals w K k le h
-      exec_comes (set x e) from to brk con lo plain at s σ m vals w K k le h = set_comes x e from to brk con lo plain.1 at s σ m vals w K k le h
-      exec_comes (ignore e) from to brk con lo plain at s σ m vals w K k le h = ignore_comes e from to brk con lo plain at s σ m vals w K k le h
-      exec_comes (assume e) from to brk con lo plain at s σ m vals w K k le h = assume_comes e from to brk con lo plain at s σ m vals w K k le h
-      exec_comes (assert id e) from to brk con lo plain at s σ m vals w K k le h = assert_comes id e from to brk con lo plain at s σ m vals w K k le h
+          sequence_comes (Exec false D a) (Execs false D ss) from n to brk con
+          (exec_comes a from n brk con l plain.0 (at_left g blocks _ at))
+          (execs_come ss n to brk con (l + nodes_of_statement a) (begins_between ss to lo) plain.1 (at_right g blocks _ at)) s σ m vals w K
+          k le h
+      exec_comes (set x e) from to brk con lo plain at s σ m vals w K k le h = set_comes x e from to brk con lo plain.1 at s σ m vals w K k
+          le h
+      exec_comes (ignore e) from to brk con lo plain at s σ m vals w K k le h = ignore_comes e from to brk con lo plain at s σ m vals w K k
+          le h
+      exec_comes (assume e) from to brk con lo plain at s σ m vals w K k le h = assume_comes e from to brk con lo plain at s σ m vals w K k
+          le h
+      exec_comes (assert id e) from to brk con lo plain at s σ m vals w K k le h = assert_comes id e from to brk con lo plain at s σ m vals
+          w K k le h
       exec_comes (if_else e a b) from to brk con lo plain at s σ m vals w K k le h =
           let i = lo + 2 + nodes_of_test (test_of e) in
           let test = test_blocks (test_of e) from (Node lo) (Node (lo + 1)) t (lo + 2) in
           let blocks = statement_blocks gives t a lo to brk con i in
           let behind = at_right g test _ at in
-          branches_come e (Exec false D a) (Exec false D b) from lo (lo + 1) (lo + 2) to brk con plain.0 (tested e from (Node lo) (Node (lo + 1)) (lo + 2) plain.0 (at_left g test _ at))
-          (exec_comes a lo to brk con i plain.1 (at_left g blocks _ behind)) (exec_comes b (lo + 1) to brk con (i + nodes_of_statement a) plain.2 (at_right g blocks _ behind)) s σ m vals w K k le h
+          branches_come e (Exec false D a) (Exec false D b) from lo (lo + 1) (lo + 2) to brk con plain.0
+          (tested e from (Node lo) (Node (lo + 1)) (lo + 2) plain.0 (at_left g test _ at))
+          (exec_comes a lo to brk con i plain.1 (at_left g blocks _ behind)) (exec_comes b (lo + 1) to brk con (i + nodes_of_statement a)
+          plain.2 (at_right g blocks _ behind)) s σ m vals w K k le h
       exec_comes (loop e step body) from to brk con lo plain at s σ m vals w K k le h =
           let i = lo + 2 + nodes_of_test (test_of e) in
           let test = test_blocks (test_of e) from (Node lo) (Node to) t (lo + 2) in
           let blocks = statement_blocks gives t body lo (lo + 1) to (lo + 1) i in
           let behind = at_right g test _ at in
-          loop_comes D t low e plain.0 (Exec false D step) (Exec false D body) to brk con (suc k) from lo (lo + 2) (tested e from (Node lo) (Node to) (lo + 2) plain.0 (at_left g test _ at))
-          (exec_comes body lo (lo + 1) to (lo + 1) i plain.2 (at_left g blocks _ behind)) (exec_comes step (lo + 1) from to from (i + nodes_of_statement body) plain.1 (at_right g blocks _ behind)) s σ m vals w K k (lt_self k) le h
+          loop_comes D t low e plain.0 (Exec false D step) (Exec false D body) to brk con (suc k) from lo (lo + 2)
+          (tested e from (Node lo) (Node to) (lo + 2) plain.0 (at_left g test _ at))
+          (exec_comes body lo (lo + 1) to (lo + 1) i plain.2 (at_left g blocks _ behind))
+          (exec_comes step (lo + 1) from to from (i + nodes_of_statement body) plain.1 (at_right g blocks _ behind)) s σ m vals w K k
+          (lt_self k) le h
       exec_comes (do_while body e) from to brk con lo plain at s σ m vals w K k le h =
           let i = lo + 1 + nodes_of_statement body in
           let blocks = statement_blocks gives t body from lo to lo (lo + 1) in
-          do_comes D t low e plain.1 (Exec false D body) to brk con (suc k) from lo i (exec_comes body from lo to lo (lo + 1) plain.0 (at_left g blocks _ at))
+          do_comes D t low e plain.1 (Exec false D body) to brk con (suc k) from lo i (exec_comes body from lo to lo (lo + 1) plain.0
+          (at_left g blocks _ at))
           (tested e lo (Node from) (Node to) i plain.1 (at_right g blocks _ at)) s σ m vals w K k (lt_self k) le h
-      exec_comes break from to brk con lo plain at s σ m vals w K k le h = (goes w (broken s), refl, skip_stands K k from brk s σ w at.0 m vals le h)
-      exec_comes continue from to brk con lo plain at s σ m vals w K k le h = (goes w (continued s), refl, skip_stands K k from con s σ w at.0 m vals le h)
+      exec_comes break from to brk con lo plain at s σ m vals w K k le h = (
+        goes w (broken s),
+        refl,
+        skip_stands K k from brk s σ w at.0 m
+            vals le h,
+      )
+      exec_comes continue from to brk con lo plain at s σ m vals w K k le h = (
+        goes w (continued s),
+        refl,
+        skip_stands K k from con s σ w
+            at.0 m vals le h,
+      )
       exec_comes (return None) from to brk con lo plain at s σ m vals w K k le h =
           let r = zero_returned k from σ w.inputs at.0 h in
           (goes w (returned (pos 0)), refl, (r.0 ∙ ap (λ y. came (y ∷ [])) (sym (cond_same gives (pos 0))), r.1))
-      exec_comes (return (Some e)) from to brk con lo plain at s σ m vals w K k le h = return_comes e from to brk con lo plain at s σ m vals w K k le h
+      exec_comes (return (Some e)) from to brk con lo plain at s σ m vals w K k le h = return_comes e from to brk con lo plain at s σ m vals
+          w K k le h
 
-      pub execs_come : (ss : Statements) (from to brk con lo : ℕ) → Begins ss from to → AllPlain vars ss → At g (statements_blocks gives t ss from to brk con lo) → RunComes (Execs false D ss) from to brk con
+      pub execs_come : (ss : Statements) (from to brk con lo : ℕ) → Begins ss from to → AllPlain vars ss →
+          At g (statements_blocks gives t ss from to brk con lo) → RunComes (Execs false D ss) from to brk con
       execs_come no_statements from to brk con lo begins plain at s σ m vals w K k le h =
           (goes w (normal s), refl, (σ, m, vals, (k, le, subst (λ n. EndsIn C g k (inside n σ) w.inputs rest end) begins h)))
       execs_come (statement a ss) from to brk con lo begins plain at s σ m vals w K k le h =
           let n = between ss to lo in
           let l = lo + nodes_between ss in
           let blocks = statement_blocks gives t a from n brk con l in
-          sequence_comes (Exec false D a) (Execs false D ss) from n to brk con (exec_comes a from n brk con l plain.0 (at_left g blocks _ at))
-          (execs_come ss n to brk con (l + nodes_of_statement a) (begins_between ss to lo) plain.1 (at_right g blocks _ at)) s σ m vals w K k le h
+          sequence_comes (Exec false D a) (Execs false D ss) from n to brk con
+          (exec_comes a from n brk con l plain.0 (at_left g blocks _ at))
+          (execs_come ss n to brk con (l + nodes_of_statement a) (begins_between ss to lo) plain.1 (at_right g blocks _ at)) s σ m vals w K
+          k le h

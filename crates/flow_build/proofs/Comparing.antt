@@ -3,6 +3,7 @@ use Rattle.std.proofs.Common.{◌≡◌, zero, suc, List, [], ◌∷◌, Bool, t
 use Rattle.std.specs.Prelude.{int_lt, int_le}
 use Rattle.std.proofs.lemmas.Int.{ints}
 use Rattle.std.specs.Int.Signed.{lt_z_yes, lt_z_no, le_z_yes}
+use Rattle.flow_graph.proofs.Numbers.{is_true}
 use Rattle.c_tree.specs.declared.tree.Op.{Op}
 use Rattle.c_tree.specs.declared.tree.Op.TheVariants.{Add, Subtract, Multiply, Less, LessEqual, Greater, GreaterEqual, Equal, Unequal, And, Or}
 use Rattle.c_tree.specs.Meaning.{State, is_zero}
@@ -53,10 +54,6 @@ lt_yes x y h = lt_z_yes (subst T (sym h) tt)
 le_yes : (x y : ℤ) → int_le x y ≡ true → x ≤ℤ y
 le_yes x y h = le_z_yes (subst T (sym h) tt)
 
-is_true : (b : Bool) → T b → b ≡ true
-is_true true h = refl
-is_true false h = absurd h
-
 yes_lt : (x y : ℤ) → x <ℤ y → int_lt x y ≡ true
 yes_lt x y h = is_true (int_lt x y) h.lt
 
@@ -92,18 +89,29 @@ true_not true h = cc
 
 unequal_rows : (a b : Operand) (σ : State) → not (is_zero (operand_value σ a -ℤ operand_value σ b)) ≡ true →
     (rows : List Atom) × OneOf rows (rows_where Unequal a b) × HoldsAll σ rows
-unequal_rows a b σ e = go (nonzero_sides (operand_value σ a -ℤ operand_value σ b) (not_true (is_zero (operand_value σ a -ℤ operand_value σ b)) e))
+unequal_rows a b σ e = go (nonzero_sides (operand_value σ a -ℤ operand_value σ b)
+    (not_true (is_zero (operand_value σ a -ℤ operand_value σ b)) e))
   where
-    go : (pos 0 <ℤ (operand_value σ a -ℤ operand_value σ b)) ⊎ ((operand_value σ a -ℤ operand_value σ b) <ℤ pos 0) → (rows : List Atom) × OneOf rows (rows_where Unequal a b) × HoldsAll σ rows
+    go : (pos 0 <ℤ (operand_value σ a -ℤ operand_value σ b)) ⊎ ((operand_value σ a -ℤ operand_value σ b) <ℤ pos 0) → (rows : List Atom)
+        × OneOf rows (rows_where Unequal a b) × HoldsAll σ rows
     go (inl h) = (less b a ∷ [], inl refl, (less_row σ b a (omega (arith, ints)), tt))
     go (inr h) = (less a b ∷ [], inr (inl refl), (less_row σ a b (omega (arith, ints)), tt))
 
-pub some_rows_hold : (op : Op) (a b : Operand) (σ : State) → IsTrue (is_comparison op) → comparison op (operand_value σ a) (operand_value σ b) ≡ true →
+pub some_rows_hold : (op : Op) (a b : Operand) (σ : State) → IsTrue (is_comparison op) → comparison op (operand_value σ a)
+    (operand_value σ b)
+    ≡ true →
     (rows : List Atom) × OneOf rows (rows_where op a b) × HoldsAll σ rows
 some_rows_hold Less a b σ h e = (less a b ∷ [], inl refl, (less_row σ a b (lt_yes (operand_value σ a) (operand_value σ b) e), tt))
 some_rows_hold LessEqual a b σ h e = (at_most a b ∷ [], inl refl, (most_row σ a b (le_yes (operand_value σ a) (operand_value σ b) e), tt))
 some_rows_hold Greater a b σ h e = (less b a ∷ [], inl refl, (less_row σ b a (lt_yes (operand_value σ b) (operand_value σ a) e), tt))
-some_rows_hold GreaterEqual a b σ h e = (at_most b a ∷ [], inl refl, (most_row σ b a (le_yes (operand_value σ b) (operand_value σ a) e), tt))
+some_rows_hold GreaterEqual a b σ h e = (
+  at_most b a ∷ [],
+  inl refl,
+  (
+    most_row σ b a (le_yes (operand_value σ b) (operand_value σ a) e),
+    tt,
+  ),
+)
 some_rows_hold Equal a b σ h e =
     let z = zero_is (operand_value σ a -ℤ operand_value σ b) e in
     (at_most a b ∷ at_most b a ∷ [], inl refl, (most_row σ a b (omega (arith, ints, z)), (most_row σ b a (omega (arith, ints, z)), tt)))
@@ -117,10 +125,12 @@ some_rows_hold Or a b σ h e = absurd cc
 less_told : (a b : Operand) (σ : State) (rows : List Atom) → rows ≡ less a b ∷ [] → HoldsAll σ rows → operand_value σ a <ℤ operand_value σ b
 less_told a b σ rows m h = let P : List Atom → Type 0 = HoldsAll σ in row_less σ a b (subst P m h).0
 
-most_told : (a b : Operand) (σ : State) (rows : List Atom) → rows ≡ at_most a b ∷ [] → HoldsAll σ rows → operand_value σ a ≤ℤ operand_value σ b
+most_told : (a b : Operand) (σ : State) (rows : List Atom) → rows ≡ at_most a b ∷ [] → HoldsAll σ rows → operand_value σ a ≤ℤ operand_value
+    σ b
 most_told a b σ rows m h = let P : List Atom → Type 0 = HoldsAll σ in row_most σ a b (subst P m h).0
 
-equal_told : (a b : Operand) (σ : State) (rows : List Atom) → rows ≡ at_most a b ∷ at_most b a ∷ [] → HoldsAll σ rows → is_zero (operand_value σ a -ℤ operand_value σ b) ≡ true
+equal_told : (a b : Operand) (σ : State) (rows : List Atom) → rows ≡ at_most a b ∷ at_most b a ∷ [] → HoldsAll σ rows →
+    is_zero (operand_value σ a -ℤ operand_value σ b) ≡ true
 equal_told a b σ rows m h =
     let P : List Atom → Type 0 = HoldsAll σ in
     let both = subst P m h in
@@ -128,7 +138,8 @@ equal_told a b σ rows m h =
     let y = row_most σ b a both.1.0 in
     is_zero_of (operand_value σ a -ℤ operand_value σ b) (omega (arith, ints, x, y))
 
-pub rows_tell : (op : Op) (a b : Operand) (σ : State) (rows : List Atom) → OneOf rows (rows_where op a b) → HoldsAll σ rows → comparison op (operand_value σ a) (operand_value σ b) ≡ true
+pub rows_tell : (op : Op) (a b : Operand) (σ : State) (rows : List Atom) → OneOf rows (rows_where op a b) → HoldsAll σ rows →
+    comparison op (operand_value σ a) (operand_value σ b) ≡ true
 rows_tell Less a b σ rows (inl m) h = yes_lt (operand_value σ a) (operand_value σ b) (less_told a b σ rows m h)
 rows_tell Less a b σ rows (inr m) h = absurd m
 rows_tell LessEqual a b σ rows (inl m) h = yes_le (operand_value σ a) (operand_value σ b) (most_told a b σ rows m h)
@@ -141,10 +152,12 @@ rows_tell Equal a b σ rows (inl m) h = equal_told a b σ rows m h
 rows_tell Equal a b σ rows (inr m) h = absurd m
 rows_tell Unequal a b σ rows (inl m) h =
     let lt = less_told b a σ rows m h in
-    true_not (is_zero (operand_value σ a -ℤ operand_value σ b)) (sides_nonzero (operand_value σ a -ℤ operand_value σ b) (inl (omega (arith, ints, lt))))
+    true_not (is_zero (operand_value σ a -ℤ operand_value σ b)) (sides_nonzero (operand_value σ a -ℤ operand_value σ b)
+    (inl (omega (arith, ints, lt))))
 rows_tell Unequal a b σ rows (inr (inl m)) h =
     let lt = less_told a b σ rows m h in
-    true_not (is_zero (operand_value σ a -ℤ operand_value σ b)) (sides_nonzero (operand_value σ a -ℤ operand_value σ b) (inr (omega (arith, ints, lt))))
+    true_not (is_zero (operand_value σ a -ℤ operand_value σ b)) (sides_nonzero (operand_value σ a -ℤ operand_value σ b)
+    (inr (omega (arith, ints, lt))))
 rows_tell Unequal a b σ rows (inr (inr m)) h = absurd m
 rows_tell Add a b σ rows m h = absurd m
 rows_tell Subtract a b σ rows m h = absurd m
@@ -185,7 +198,8 @@ not_not : (b : Bool) → b ≡ not (not b)
 not_not true = refl
 not_not false = refl
 
-pub opposite_comparison : (op : Op) (x y : ℤ) → IsTrue (is_comparison op) → (IsTrue (is_comparison (opposite_op op))) × (comparison (opposite_op op) x y ≡ not (comparison op x y))
+pub opposite_comparison : (op : Op) (x y : ℤ) → IsTrue (is_comparison op) → (IsTrue (is_comparison (opposite_op op)))
+    × (comparison (opposite_op op) x y ≡ not (comparison op x y))
 opposite_comparison Less x y h = (refl, lt_or_le x y)
 opposite_comparison LessEqual x y h = (refl, le_or_lt x y)
 opposite_comparison Greater x y h = (refl, lt_or_le y x)

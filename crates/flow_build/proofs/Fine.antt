@@ -5,6 +5,7 @@ use Rattle.std.specs.List.{list_all}
 use Rattle.std.proofs.lemmas.Bool.{lt-ltb, le-leb, ne_eqb}
 use Rattle.std.proofs.lemmas.List.Elements.{All-from_recursion, All-append}
 use Rattle.std.proofs.lemmas.List.Folds.{list_all-append}
+use Rattle.linear_formula.proofs.Limits.{both_in}
 use Rattle.c_tree.specs.declared.tree.Op.{Op}
 use Rattle.c_tree.specs.declared.tree.Op.TheVariants.{Add, Subtract, Multiply, Less, LessEqual, Greater, GreaterEqual, Equal, Unequal, And, Or}
 use Rattle.c_tree.specs.Meaning.{is_value}
@@ -23,7 +24,7 @@ use Rattle.flow_build.specs.declared.target.Target.TheVariants.{Node, Fails, Now
 use Rattle.flow_build.specs.steps.Operands.{is_operand, multiple_parts, constant_lin, operand_lin, row, less, at_most, rows_where}
 use Rattle.flow_build.specs.steps.Blocks.{exit_node, fail_node, entry_node, way, ways}
 use Rattle.flow_build.specs.Promises.{IsCoefficient, IsBoundedEdge, is_small_row, are_small_rows, statements_call}
-use Rattle.flow_build.proofs.SmallRows.{and_is, row_small}
+use Rattle.flow_build.proofs.SmallRows.{row_small}
 use Rattle.flow_build.proofs.Terms.{are_ascending, row_ascends, rows_terms}
 
 abbrev pub has_ordered_rows : Edge → Bool
@@ -113,7 +114,7 @@ module _ (body : Statements) (nodes slots : ℕ) where
   assign_fine n to slot value s t lt v = record {
     leaves = λ m e. source_leaves n m s e;
     below = t.below;
-    named = and_is (nat_lt slot slots) (is_lin slots value) (lt-ltb slot slots lt) v.named;
+    named = both_in (nat_lt slot slots) (is_lin slots value) (lt-ltb slot slots lt) v.named;
     to_exit = no_exit to t;
     to_fail = no_fail to t;
     inner = refl;
@@ -157,11 +158,12 @@ module _ (body : Statements) (nodes slots : ℕ) where
     ordered = refl;
   }
 
-  pub call_fine : (n to p : ℕ) (args : List ℕ) (slot : ℕ) → IsSource n → IsInner to → slot < slots → IsTrue (list_all (λ x. nat_lt x slots) args) → IsTrue (statements_call p (length args) body) → Fine (Call n to p args slot)
+  pub call_fine : (n to p : ℕ) (args : List ℕ) (slot : ℕ) → IsSource n → IsInner to → slot < slots →
+      IsTrue (list_all (λ x. nat_lt x slots) args) → IsTrue (statements_call p (length args) body) → Fine (Call n to p args slot)
   call_fine n to p args slot s t lt named calls = record {
     leaves = λ m e. source_leaves n m s e;
     below = t.below;
-    named = and_is (nat_lt slot slots) (list_all (λ x. nat_lt x slots) args) (lt-ltb slot slots lt) named;
+    named = both_in (nat_lt slot slots) (list_all (λ x. nat_lt x slots) args) (lt-ltb slot slots lt) named;
     to_exit = no_exit to t;
     to_fail = no_fail to t;
     inner = refl;
@@ -170,7 +172,8 @@ module _ (body : Statements) (nodes slots : ℕ) where
     ordered = refl;
   }
 
-  pub assert_fine : (n id : ℕ) (rows : List Atom) → IsSource n → 1 < nodes → AreRows rows → Fine (Assert n fail_node id (record { atoms = rows }))
+  pub assert_fine : (n id : ℕ) (rows : List Atom) → IsSource n → 1 < nodes → AreRows rows →
+      Fine (Assert n fail_node id (record { atoms = rows }))
   assert_fine n id rows s lt r = record {
     leaves = λ m e. source_leaves n m s e;
     below = lt;
@@ -223,7 +226,7 @@ module _ (body : Statements) (nodes slots : ℕ) where
   parts_allowed c (Constant n) k = no_part
 
   parts_named : (c : ℤ) (a : Operand) → IsOperand a → IsTrue (list_all (λ p. nat_lt p.1 slots) (multiple_parts c a))
-  parts_named c (Variable x) h = and_is (nat_lt x slots) true (lt-ltb x slots (h.slot x refl)) refl
+  parts_named c (Variable x) h = both_in (nat_lt x slots) true (lt-ltb x slots (h.slot x refl)) refl
   parts_named c (Constant n) h = refl
 
   few_parts : (c : ℤ) (a : Operand) → length (multiple_parts c a) ≤ 1
@@ -233,19 +236,27 @@ module _ (body : Statements) (nodes slots : ℕ) where
   pub constant_lin_is : (n : ℤ) → IsLin (constant_lin n)
   constant_lin_is n = record { named = refl; coefficients = no_part }
 
-  pub multiple_is : (c k : ℤ) (a : Operand) → IsCoefficient body c → IsOperand a → IsLin (record { parts = multiple_parts c a; constant = k })
+  pub multiple_is : (c k : ℤ) (a : Operand) → IsCoefficient body c → IsOperand a →
+      IsLin (record { parts = multiple_parts c a; constant = k })
   multiple_is c k a i h =
       let ps = multiple_parts c a in
       let few = few_parts c a in
-      record { named = and_is (nat_le (length ps) 2) (list_all (λ p. nat_lt p.1 slots) ps) (le-leb (length ps) 2 (omega arith)) (parts_named c a h); coefficients = parts_allowed c a i }
+      record {
+        named = both_in (nat_le (length ps) 2) (list_all (λ p. nat_lt p.1 slots) ps) (le-leb (length ps) 2 (omega arith))
+            (parts_named c a h);
+        coefficients = parts_allowed c a i;
+      }
 
-  pub pair_is : (c d k : ℤ) (a b : Operand) → IsCoefficient body c → IsCoefficient body d → IsOperand a → IsOperand b → IsLin (record { parts = multiple_parts c a ++ multiple_parts d b; constant = k })
+  pub pair_is : (c d k : ℤ) (a b : Operand) → IsCoefficient body c → IsCoefficient body d → IsOperand a → IsOperand b →
+      IsLin (record { parts = multiple_parts c a ++ multiple_parts d b; constant = k })
   pair_is c d k a b i j h g =
       let ps = multiple_parts c a in
       let qs = multiple_parts d b in
       let all = list_all-append (λ (p : ℤ × ℕ). nat_lt p.1 slots) ps qs in
       record {
-        named = and_is (nat_le (length (ps ++ qs)) 2) (list_all (λ p. nat_lt p.1 slots) (ps ++ qs)) (le-leb (length (ps ++ qs)) 2 (two a b)) (all ∙ and_is (list_all (λ p. nat_lt p.1 slots) ps) (list_all (λ p. nat_lt p.1 slots) qs) (parts_named c a h) (parts_named d b g));
+        named = both_in (nat_le (length (ps ++ qs)) 2) (list_all (λ p. nat_lt p.1 slots) (ps ++ qs)) (le-leb (length (ps ++ qs)) 2 (two a b))
+            (all ∙ both_in (list_all (λ p. nat_lt p.1 slots) ps) (list_all (λ p. nat_lt p.1 slots) qs) (parts_named c a h)
+            (parts_named d b g));
         coefficients = All-append (λ (part : ℤ × ℕ). IsCoefficient body part.0) ps qs (parts_allowed c a i) (parts_allowed d b j);
       }
     where
@@ -276,15 +287,18 @@ module _ (body : Statements) (nodes slots : ℕ) where
   chosen false false ps qs rs h k l = l
 
   two_named : (x y : ℕ) (c d : ℤ) → x < slots → y < slots → Named ((x, c) ∷ (y, d) ∷ [])
-  two_named x y c d h k = and_is (nat_lt x slots) (nat_lt y slots && true) (lt-ltb x slots h) (and_is (nat_lt y slots) true (lt-ltb y slots k) refl)
+  two_named x y c d h k = both_in (nat_lt x slots) (nat_lt y slots && true) (lt-ltb x slots h)
+      (both_in (nat_lt y slots) true (lt-ltb y slots k) refl)
 
   row_named : (a b : Operand) (k : ℤ) → IsOperand a → IsOperand b → IsTrue (names_slots slots (row a b k))
   row_named (Variable x) (Variable y) k h g =
       let a = h.slot x refl in
       let b = g.slot y refl in
-      chosen (nat_lt x y) (x == y) ((x, pos 1) ∷ (y, negsuc 0) ∷ []) [] ((y, negsuc 0) ∷ (x, pos 1) ∷ []) (two_named x y (pos 1) (negsuc 0) a b) refl (two_named y x (negsuc 0) (pos 1) b a)
-  row_named (Variable x) (Constant m) k h g = and_is (nat_lt x slots) true (lt-ltb x slots (h.slot x refl)) refl
-  row_named (Constant n) (Variable y) k h g = and_is (nat_lt y slots) true (lt-ltb y slots (g.slot y refl)) refl
+      chosen (nat_lt x y) (x == y) ((x, pos 1) ∷ (y, negsuc 0) ∷ []) [] ((y, negsuc 0) ∷ (x, pos 1) ∷ [])
+      (two_named x y (pos 1) (negsuc 0) a b)
+      refl (two_named y x (negsuc 0) (pos 1) b a)
+  row_named (Variable x) (Constant m) k h g = both_in (nat_lt x slots) true (lt-ltb x slots (h.slot x refl)) refl
+  row_named (Constant n) (Variable y) k h g = both_in (nat_lt y slots) true (lt-ltb y slots (g.slot y refl)) refl
   row_named (Constant n) (Constant m) k h g = refl
 
   pub record IsRow (r : Atom) : Type 0 where
@@ -297,16 +311,17 @@ module _ (body : Statements) (nodes slots : ℕ) where
 
   one_row : (r : Atom) → IsRow r → AreRows (r ∷ [])
   one_row r h = record {
-    named = and_is (names_slots slots r) true h.named refl;
-    small = and_is (is_small_row r) true h.small refl;
-    ascending = and_is (is_ascending r.term.parts) true h.ascending refl;
+    named = both_in (names_slots slots r) true h.named refl;
+    small = both_in (is_small_row r) true h.small refl;
+    ascending = both_in (is_ascending r.term.parts) true h.ascending refl;
   }
 
   two_rows : (r s : Atom) → IsRow r → IsRow s → AreRows (r ∷ s ∷ [])
   two_rows r s h k = record {
-    named = and_is (names_slots slots r) (names_slots slots s && true) h.named (and_is (names_slots slots s) true k.named refl);
-    small = and_is (is_small_row r) (is_small_row s && true) h.small (and_is (is_small_row s) true k.small refl);
-    ascending = and_is (is_ascending r.term.parts) (is_ascending s.term.parts && true) h.ascending (and_is (is_ascending s.term.parts) true k.ascending refl);
+    named = both_in (names_slots slots r) (names_slots slots s && true) h.named (both_in (names_slots slots s) true k.named refl);
+    small = both_in (is_small_row r) (is_small_row s && true) h.small (both_in (is_small_row s) true k.small refl);
+    ascending = both_in (is_ascending r.term.parts) (is_ascending s.term.parts && true) h.ascending
+        (both_in (is_ascending s.term.parts) true k.ascending refl);
   }
 
   -- each of the lists has such rows
@@ -353,11 +368,14 @@ module _ (body : Statements) (nodes slots : ℕ) where
   IsTarget (Fails id) = Unit {0}
   IsTarget Nowhere = Unit {0}
 
-  way_fine : (n : ℕ) (target : Target) (rows : List Atom) → 1 < nodes → IsSource n → IsTarget target → AreRows rows → AllFine (way n target rows)
+  way_fine : (n : ℕ) (target : Target) (rows : List Atom) → 1 < nodes → IsSource n → IsTarget target → AreRows rows →
+      AllFine (way n target rows)
   way_fine n (Node to) rows lt s t r = (guard_fine n to rows s t r, tt)
   way_fine n (Fails id) rows lt s t r = (assert_fine n id rows s lt r, tt)
   way_fine n Nowhere rows lt s t r = tt
 
-  pub ways_fine : (n : ℕ) (target : Target) (lists : List (List Atom)) → 1 < nodes → IsSource n → IsTarget target → AllRows lists → AllFine (ways n target lists)
+  pub ways_fine : (n : ℕ) (target : Target) (lists : List (List Atom)) → 1 < nodes → IsSource n → IsTarget target → AllRows lists →
+      AllFine (ways n target lists)
   ways_fine n target [] lt s t r = tt
-  ways_fine n target (rows ∷ lists) lt s t r = fine_both (way n target rows) (ways n target lists) (way_fine n target rows lt s t r.0) (ways_fine n target lists lt s t r.1)
+  ways_fine n target (rows ∷ lists) lt s t r = fine_both (way n target rows) (ways n target lists) (way_fine n target rows lt s t r.0)
+      (ways_fine n target lists lt s t r.1)

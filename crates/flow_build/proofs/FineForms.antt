@@ -2,6 +2,7 @@
 use Rattle.std.proofs.Common.{◌≡◌, ℕ, ◌+◌, ◌<◌, ◌≤◌, nat_lt, true, false, List, [], ◌∷◌, ◌++◌, length, pos, negsuc, IsTrue, refl, sym, subst, arith}
 use Rattle.std.specs.List.{list_all}
 use Rattle.std.proofs.lemmas.Bool.{lt-ltb}
+use Rattle.linear_formula.proofs.Limits.{both_in}
 use Rattle.c_tree.specs.Syntax.{Statements}
 use Rattle.flow_graph.specs.declared.graph.Lin.{Lin}
 use Rattle.flow_graph.specs.declared.graph.Edge.{Edge}
@@ -16,8 +17,7 @@ use Rattle.flow_build.specs.steps.Blocks.{Block, edges_of, one, ways}
 use Rattle.flow_build.specs.steps.Lowering.{operand_at, landing, nodes_of, nodes_of_all, nodes_of_test, slots_of, slots_of_all, slots_of_test, argument_slot, argument_slots, landing_of_all, value_blocks, values_blocks, test_blocks}
 use Rattle.flow_build.specs.Promises.{IsCoefficient, statements_call}
 use Rattle.flow_build.proofs.FormMeaning.{FitsValue, FitsValues, FitsTest, IsInSlot}
-use Rattle.flow_build.proofs.SmallRows.{and_is}
-use Rattle.flow_build.proofs.Fresh.{edges-append}
+use Rattle.flow_build.proofs.Fresh.{edges_append}
 use Rattle.flow_build.proofs.Allowed.{how_many, Keeps, KeepsAll, KeepsTest}
 use Rattle.flow_build.proofs.Fine.{Fine, IsInner, inner_source, IsLin, assign_fine, input_fine, call_fine, IsOperand, variable_is, constant_is, constant_lin_is, multiple_is, pair_is, plus_one, minus_one, operand_lin_is, rows_are, AllFine, fine_both, IsTarget, ways_fine}
 
@@ -33,7 +33,7 @@ module _ (body : Statements) (nodes slots vars : ℕ) where
   pub blocks_both : (xs ys : List Block) → BlocksFine xs → BlocksFine ys → BlocksFine (xs ++ ys)
   blocks_both xs ys h k =
       let A : List Edge → Type 0 = λ es. AllFine body nodes slots es in
-      subst A (sym (edges-append xs ys)) (fine_both body nodes slots (edges_of xs) (edges_of ys) h k)
+      subst A (sym (edges_append xs ys)) (fine_both body nodes slots (edges_of xs) (edges_of ys) h k)
 
   pub block_fine : (n : ℕ) (es : List Edge) → AllFine body nodes slots es → BlocksFine (record { node = n; edges = es } ∷ [])
   block_fine n es h = fine_both body nodes slots es [] h tt
@@ -68,9 +68,14 @@ module _ (body : Statements) (nodes slots vars : ℕ) where
 
   -- a fresh node
   pub fresh_inner : (t lo n s k : ℕ) → Room t lo n s → lo ≤ k → k < lo + n → IsInner body nodes slots k
-  fresh_inner t lo n s k r a b = let x = r.fresh in let y = r.few_nodes in record { below = omega arith; above = omega arith; apart = λ q. omega arith }
+  fresh_inner t lo n s k r a b = let x = r.fresh in let y = r.few_nodes in record {
+    below = omega arith;
+    above = omega arith;
+    apart = λ q. omega arith;
+  }
 
-  pub lands_inner : (v : Value) (from t lo s : ℕ) → IsInner body nodes slots from → Room t lo (nodes_of v) s → IsInner body nodes slots (landing v from lo)
+  pub lands_inner : (v : Value) (from t lo s : ℕ) → IsInner body nodes slots from → Room t lo (nodes_of v) s →
+      IsInner body nodes slots (landing v from lo)
   lands_inner (literal false n) from t lo s h r = h
   lands_inner (literal true n) from t lo s h r = fresh_inner t lo 1 s lo r (omega arith) (omega arith)
   lands_inner (read false x) from t lo s h r = h
@@ -82,12 +87,15 @@ module _ (body : Statements) (nodes slots vars : ℕ) where
   lands_inner (difference v u) from t lo s h r = fresh_inner t lo (nodes_of (difference v u)) s lo r (omega arith) (omega arith)
   lands_inner (truth c) from t lo s h r = fresh_inner t lo (nodes_of (truth c)) s lo r (omega arith) (omega arith)
 
-  pub all_land_inner : (vs : Values) (from t lo s : ℕ) → IsInner body nodes slots from → Room t lo (nodes_of_all vs) s → IsInner body nodes slots (landing_of_all vs from lo)
+  pub all_land_inner : (vs : Values) (from t lo s : ℕ) → IsInner body nodes slots from → Room t lo (nodes_of_all vs) s →
+      IsInner body nodes slots (landing_of_all vs from lo)
   all_land_inner no_values from t lo s h r = h
   all_land_inner (value v vs) from t lo s h r =
       all_land_inner vs (landing v from lo) t (lo + nodes_of v) s
-      (lands_inner v from t lo s h (smaller t lo (nodes_of v + nodes_of_all vs) s t lo (nodes_of v) s r (omega arith) (omega arith) (omega arith) (omega arith)))
-      (smaller t lo (nodes_of v + nodes_of_all vs) s t (lo + nodes_of v) (nodes_of_all vs) s r (omega arith) (omega arith) (omega arith) (omega arith))
+      (lands_inner v from t lo s h (smaller t lo (nodes_of v + nodes_of_all vs) s t lo (nodes_of v) s r (omega arith) (omega arith)
+      (omega arith) (omega arith)))
+      (smaller t lo (nodes_of v + nodes_of_all vs) s t (lo + nodes_of v) (nodes_of_all vs) s r (omega arith) (omega arith) (omega arith)
+      (omega arith))
 
   own_slot : (t s : ℕ) → vars ≤ t → t + s ≤ slots → 0 < s → IsOperand body nodes slots (Variable t)
   own_slot t s le room some = variable_is body nodes slots t (omega arith)
@@ -116,12 +124,14 @@ module _ (body : Statements) (nodes slots vars : ℕ) where
   argument_is (difference v u) t i h le room = omega arith
   argument_is (truth c) t i h le room = omega arith
 
-  pub arguments_named : (vs : Values) (t : ℕ) → FitsValues vars vs → vars ≤ t → t + slots_of_all vs ≤ slots → IsTrue (list_all (λ x. nat_lt x slots) (argument_slots vs t))
+  pub arguments_named : (vs : Values) (t : ℕ) → FitsValues vars vs → vars ≤ t → t + slots_of_all vs ≤ slots →
+      IsTrue (list_all (λ x. nat_lt x slots) (argument_slots vs t))
   arguments_named no_values t h le room = refl
   arguments_named (value v vs) t h le room =
       let x = argument_slot v t in
       let rest = argument_slots vs (t + slots_of v) in
-      and_is (nat_lt x slots) (list_all (λ x. nat_lt x slots) rest) (lt-ltb x slots (argument_is v t h.0 h.1 le (omega arith))) (arguments_named vs (t + slots_of v) h.2 (omega arith) (omega arith))
+      both_in (nat_lt x slots) (list_all (λ x. nat_lt x slots) rest) (lt-ltb x slots (argument_is v t h.0 h.1 le (omega arith)))
+      (arguments_named vs (t + slots_of v) h.2 (omega arith) (omega arith))
 
   -- one edge alone
   pub edge_fine : (n : ℕ) (e : Edge) → Fine body nodes slots e → BlocksFine (one n e ∷ [])
@@ -131,21 +141,28 @@ module _ (body : Statements) (nodes slots vars : ℕ) where
   some_nodes n h = let a = h.below in let b = h.above in omega arith
 
   -- an assignment of a value's own slot
-  own_fine : (n t lo k s : ℕ) (lin : Lin) → IsInner body nodes slots n → Room t lo (1 + k) (1 + s) → IsLin body nodes slots lin → AllFine body nodes slots (Assign n lo t lin ∷ [])
+  own_fine : (n t lo k s : ℕ) (lin : Lin) → IsInner body nodes slots n → Room t lo (1 + k) (1 + s) → IsLin body nodes slots lin →
+      AllFine body nodes slots (Assign n lo t lin ∷ [])
   own_fine n t lo k s lin h r l =
-      let a = r.few_slots in
-      (assign_fine body nodes slots n lo t lin (inner_source body nodes slots n h) (fresh_inner t lo (1 + k) (1 + s) lo r (omega arith) (omega arith)) (omega arith) l, tt)
+      let a = r.few_slots in (
+        assign_fine body nodes slots n lo t lin (inner_source body nodes slots n h) (fresh_inner t lo (1 + k) (1 + s) lo r (omega arith)
+            (omega arith)) (omega arith) l,
+        tt,
+      )
 
   abbrev ValueFine : Value → Type 0
-  ValueFine v = (from t lo : ℕ) → FitsValue vars v → KeepsValue v → IsInner body nodes slots from → Room t lo (nodes_of v) (slots_of v) → BlocksFine (value_blocks v from t lo)
+  ValueFine v = (from t lo : ℕ) → FitsValue vars v → KeepsValue v → IsInner body nodes slots from → Room t lo (nodes_of v) (slots_of v) →
+      BlocksFine (value_blocks v from t lo)
 
   abbrev TestFine : Test → Type 0
   TestFine c =
-      (from : ℕ) (met unmet : Target) (t lo : ℕ) → FitsTest vars c → KeepsOfTest c → IsInner body nodes slots from → IsTarget body nodes slots met → IsTarget body nodes slots unmet → Room t lo (nodes_of_test c) (slots_of_test c) →
+      (from : ℕ) (met unmet : Target) (t lo : ℕ) → FitsTest vars c → KeepsOfTest c → IsInner body nodes slots from →
+      IsTarget body nodes slots met → IsTarget body nodes slots unmet → Room t lo (nodes_of_test c) (slots_of_test c) →
       BlocksFine (test_blocks c from met unmet t lo)
 
   -- two values, and edges behind them that read their operands
-  module _ (v u : Value) (vf : ValueFine v) (uf : ValueFine u) (from t lo : ℕ) (fits : FitsValue vars v × FitsValue vars u) (keeps : KeepsValue v × KeepsValue u) (inner : IsInner body nodes slots from)
+  module _ (v u : Value) (vf : ValueFine v) (uf : ValueFine u) (from t lo : ℕ) (fits : FitsValue vars v × FitsValue vars u)
+      (keeps : KeepsValue v × KeepsValue u) (inner : IsInner body nodes slots from)
       (room : Room t lo (nodes_of v + nodes_of u) (slots_of v + slots_of u)) where
     abbrev middle : ℕ
     middle = landing v from lo
@@ -154,10 +171,12 @@ module _ (body : Statements) (nodes slots vars : ℕ) where
     last_node = landing u middle (lo + nodes_of v)
 
     left_room : Room t lo (nodes_of v) (slots_of v)
-    left_room = smaller t lo (nodes_of v + nodes_of u) (slots_of v + slots_of u) t lo (nodes_of v) (slots_of v) room (omega arith) (omega arith) (omega arith) (omega arith)
+    left_room = smaller t lo (nodes_of v + nodes_of u) (slots_of v + slots_of u) t lo (nodes_of v) (slots_of v) room (omega arith)
+        (omega arith) (omega arith) (omega arith)
 
     right_room : Room (t + slots_of v) (lo + nodes_of v) (nodes_of u) (slots_of u)
-    right_room = smaller t lo (nodes_of v + nodes_of u) (slots_of v + slots_of u) (t + slots_of v) (lo + nodes_of v) (nodes_of u) (slots_of u) room (omega arith) (omega arith) (omega arith) (omega arith)
+    right_room = smaller t lo (nodes_of v + nodes_of u) (slots_of v + slots_of u) (t + slots_of v) (lo + nodes_of v) (nodes_of u)
+        (slots_of u) room (omega arith) (omega arith) (omega arith) (omega arith)
 
     between : IsInner body nodes slots middle
     between = lands_inner v from t lo (slots_of v) inner left_room
@@ -171,17 +190,23 @@ module _ (body : Statements) (nodes slots vars : ℕ) where
     right : IsOperand body nodes slots (operand_at u (t + slots_of v))
     right = operand_is u (t + slots_of v) fits.1 right_room.above_vars right_room.few_slots
 
-    two_fine : (es : List Edge) → AllFine body nodes slots es → BlocksFine (value_blocks v from t lo ++ (value_blocks u middle (t + slots_of v) (lo + nodes_of v) ++ record { node = last_node; edges = es } ∷ []))
+    two_fine : (es : List Edge) → AllFine body nodes slots es →
+        BlocksFine (value_blocks v from t lo ++ (value_blocks u middle (t + slots_of v) (lo + nodes_of v)
+        ++ record { node = last_node; edges = es } ∷ []))
     two_fine es f =
         let second = value_blocks u middle (t + slots_of v) (lo + nodes_of v) in
         let last = record { node = last_node; edges = es } ∷ [] in
         blocks_both (value_blocks v from t lo) (second ++ last) (vf from t lo fits.0 keeps.0 inner left_room)
-        (blocks_both second last (uf middle (t + slots_of v) (lo + nodes_of v) fits.1 keeps.1 between right_room) (block_fine last_node es f))
+        (blocks_both second last (uf middle (t + slots_of v) (lo + nodes_of v) fits.1 keeps.1 between right_room)
+        (block_fine last_node es f))
 
-  two_tests : (c d : Test) → TestFine c → TestFine d → (from : ℕ) (met1 unmet1 met2 unmet2 : Target) (t lo : ℕ) → FitsTest vars c × FitsTest vars d → KeepsOfTest c × KeepsOfTest d → IsInner body nodes slots from →
-      (IsInner body nodes slots lo → IsTarget body nodes slots met1) → (IsInner body nodes slots lo → IsTarget body nodes slots unmet1) → IsTarget body nodes slots met2 → IsTarget body nodes slots unmet2 →
+  two_tests : (c d : Test) → TestFine c → TestFine d → (from : ℕ) (met1 unmet1 met2 unmet2 : Target) (t lo : ℕ) → FitsTest vars c
+      × FitsTest vars d → KeepsOfTest c × KeepsOfTest d → IsInner body nodes slots from →
+      (IsInner body nodes slots lo → IsTarget body nodes slots met1) → (IsInner body nodes slots lo → IsTarget body nodes slots unmet1) →
+      IsTarget body nodes slots met2 → IsTarget body nodes slots unmet2 →
       Room t lo (1 + nodes_of_test c + nodes_of_test d) (slots_of_test c + slots_of_test d) →
-      BlocksFine (test_blocks c from met1 unmet1 t (lo + 1) ++ test_blocks d lo met2 unmet2 (t + slots_of_test c) (lo + 1 + nodes_of_test c))
+      BlocksFine (test_blocks c from met1 unmet1 t (lo + 1) ++ test_blocks d lo met2 unmet2 (t + slots_of_test c)
+      (lo + 1 + nodes_of_test c))
   two_tests c d cf df from met1 unmet1 met2 unmet2 t lo fits keeps inner m1 u1 m2 u2 r =
       let k = nodes_of_test c in
       let l = nodes_of_test d in
@@ -189,21 +214,30 @@ module _ (body : Statements) (nodes slots vars : ℕ) where
       let j = slots_of_test d in
       let low = fresh_inner t lo (1 + k + l) (i + j) lo r (omega arith) (omega arith) in
       blocks_both (test_blocks c from met1 unmet1 t (lo + 1)) (test_blocks d lo met2 unmet2 (t + i) (lo + 1 + k))
-      (cf from met1 unmet1 t (lo + 1) fits.0 keeps.0 inner (m1 low) (u1 low) (smaller t lo (1 + k + l) (i + j) t (lo + 1) k i r (omega arith) (omega arith) (omega arith) (omega arith)))
-      (df lo met2 unmet2 (t + i) (lo + 1 + k) fits.1 keeps.1 low m2 u2 (smaller t lo (1 + k + l) (i + j) (t + i) (lo + 1 + k) l j r (omega arith) (omega arith) (omega arith) (omega arith)))
+      (cf from met1 unmet1 t (lo + 1) fits.0 keeps.0 inner (m1 low) (u1 low) (smaller t lo (1 + k + l) (i + j) t (lo + 1) k i r
+      (omega arith)
+      (omega arith) (omega arith) (omega arith)))
+      (df lo met2 unmet2 (t + i) (lo + 1 + k) fits.1 keeps.1 low m2 u2 (smaller t lo (1 + k + l) (i + j) (t + i) (lo + 1 + k) l j r
+      (omega arith) (omega arith) (omega arith) (omega arith)))
 
   mutual
     pub value_fine : (v : Value) → ValueFine v
     value_fine (literal false n) from t lo fits keeps inner r = tt
-    value_fine (literal true n) from t lo fits keeps inner r = own_fine from t lo 0 0 (constant_lin n) inner r (constant_lin_is body nodes slots n)
+    value_fine (literal true n) from t lo fits keeps inner r = own_fine from t lo 0 0 (constant_lin n) inner r
+        (constant_lin_is body nodes slots n)
     value_fine (read false x) from t lo fits keeps inner r = tt
     value_fine (read true x) from t lo fits keeps inner r =
         let a = r.few_slots in
         let b = r.above_vars in
-        own_fine from t lo 0 0 (operand_lin (Variable x)) inner r (operand_lin_is body nodes slots (Variable x) (variable_is body nodes slots x (omega arith)))
+        own_fine from t lo 0 0 (operand_lin (Variable x)) inner r (operand_lin_is body nodes slots (Variable x)
+        (variable_is body nodes slots x (omega arith)))
     value_fine input from t lo fits keeps inner r =
-        let a = r.few_slots in
-        (input_fine body nodes slots from lo t (inner_source body nodes slots from inner) (fresh_inner t lo 1 1 lo r (omega arith) (omega arith)) (omega arith), tt)
+        let a = r.few_slots in (
+          input_fine body nodes slots from lo t (inner_source body nodes slots from inner)
+              (fresh_inner t lo 1 1 lo r (omega arith) (omega arith))
+              (omega arith),
+          tt,
+        )
     value_fine (call p vs) from t lo fits keeps inner r =
         let n = landing_of_all vs from (lo + 1) in
         let args = argument_slots vs (t + 1) in
@@ -214,36 +248,54 @@ module _ (body : Statements) (nodes slots vars : ℕ) where
         let rest = smaller t lo (1 + k) (1 + s) (t + 1) (lo + 1) k s r (omega arith) (omega arith) (omega arith) (omega arith) in
         let behind = all_land_inner vs from (t + 1) (lo + 1) s inner rest in
         let called = subst (Called p) (sym (arguments_length vs (t + 1))) keeps.0 in
-        blocks_both (values_blocks vs from (t + 1) (lo + 1)) (one n (Call n lo p args t) ∷ []) (values_fine vs from (t + 1) (lo + 1) fits keeps.1 inner rest)
-        (call_fine body nodes slots n lo p args t (inner_source body nodes slots n behind) (fresh_inner t lo (1 + k) (1 + s) lo r (omega arith) (omega arith)) (omega arith) (arguments_named vs (t + 1) fits (omega arith) (omega arith)) called, tt)
+        blocks_both (values_blocks vs from (t + 1) (lo + 1)) (one n (Call n lo p args t) ∷ [])
+        (values_fine vs from (t + 1) (lo + 1) fits keeps.1 inner rest) (
+          call_fine body nodes slots n lo p args t (inner_source body nodes slots n behind)
+              (fresh_inner t lo (1 + k) (1 + s) lo r (omega arith) (omega arith)) (omega arith)
+              (arguments_named vs (t + 1) fits (omega arith) (omega arith)) called,
+          tt,
+        )
     value_fine (scale c v) from t lo fits keeps inner r =
         let n = landing v from (lo + 1) in
         let k = nodes_of v in
         let s = slots_of v in
         let a = operand_at v (t + 1) in
         let rest = smaller t lo (1 + k) (1 + s) (t + 1) (lo + 1) k s r (omega arith) (omega arith) (omega arith) (omega arith) in
-        blocks_both (value_blocks v from (t + 1) (lo + 1)) (one n (Assign n lo t (scaled_lin c a)) ∷ []) (value_fine v from (t + 1) (lo + 1) fits keeps.1 inner rest)
-        (own_fine n t lo k s (scaled_lin c a) (lands_inner v from (t + 1) (lo + 1) s inner rest) r (multiple_is body nodes slots c (c *ℤ constant_of a) a keeps.0 (operand_is v (t + 1) fits rest.above_vars rest.few_slots)))
+        blocks_both (value_blocks v from (t + 1) (lo + 1)) (one n (Assign n lo t (scaled_lin c a)) ∷ [])
+        (value_fine v from (t + 1) (lo + 1) fits keeps.1 inner rest)
+        (own_fine n t lo k s (scaled_lin c a) (lands_inner v from (t + 1) (lo + 1) s inner rest) r
+        (multiple_is body nodes slots c (c *ℤ constant_of a) a keeps.0 (operand_is v (t + 1) fits rest.above_vars rest.few_slots)))
     value_fine (sum v u) from t lo fits keeps inner r =
         let k = nodes_of v + nodes_of u in
         let s = slots_of v + slots_of u in
-        let rest = smaller t lo (1 + nodes_of v + nodes_of u) (1 + slots_of v + slots_of u) (t + 1) (lo + 1) k s r (omega arith) (omega arith) (omega arith) (omega arith) in
-        let whole = smaller t lo (1 + nodes_of v + nodes_of u) (1 + slots_of v + slots_of u) t lo (1 + k) (1 + s) r (omega arith) (omega arith) (omega arith) (omega arith) in
+        let rest = smaller t lo (1 + nodes_of v + nodes_of u) (1 + slots_of v + slots_of u) (t + 1) (lo + 1) k s r (omega arith)
+        (omega arith) (omega arith) (omega arith) in
+        let whole = smaller t lo (1 + nodes_of v + nodes_of u) (1 + slots_of v + slots_of u) t lo (1 + k) (1 + s) r (omega arith)
+        (omega arith) (omega arith) (omega arith) in
         let n = landing u (landing v from (lo + 1)) (lo + 1 + nodes_of v) in
         let a = operand_at v (t + 1) in
         let b = operand_at u (t + 1 + slots_of v) in
-        let lin = pair_is body nodes slots (pos 1) (pos 1) (constant_of a +ℤ constant_of b) a b (plus_one body nodes slots) (plus_one body nodes slots) (left v u (value_fine v) (value_fine u) from (t + 1) (lo + 1) fits keeps inner rest) (right v u (value_fine v) (value_fine u) from (t + 1) (lo + 1) fits keeps inner rest) in
-        two_fine v u (value_fine v) (value_fine u) from (t + 1) (lo + 1) fits keeps inner rest (Assign n lo t (sum_lin a b) ∷ []) (own_fine n t lo k s (sum_lin a b) (behind v u (value_fine v) (value_fine u) from (t + 1) (lo + 1) fits keeps inner rest) whole lin)
+        let lin = pair_is body nodes slots (pos 1) (pos 1) (constant_of a +ℤ constant_of b) a b (plus_one body nodes slots)
+        (plus_one body nodes slots) (left v u (value_fine v) (value_fine u) from (t + 1) (lo + 1) fits keeps inner rest)
+        (right v u (value_fine v) (value_fine u) from (t + 1) (lo + 1) fits keeps inner rest) in
+        two_fine v u (value_fine v) (value_fine u) from (t + 1) (lo + 1) fits keeps inner rest (Assign n lo t (sum_lin a b) ∷ [])
+        (own_fine n t lo k s (sum_lin a b) (behind v u (value_fine v) (value_fine u) from (t + 1) (lo + 1) fits keeps inner rest) whole lin)
     value_fine (difference v u) from t lo fits keeps inner r =
         let k = nodes_of v + nodes_of u in
         let s = slots_of v + slots_of u in
-        let rest = smaller t lo (1 + nodes_of v + nodes_of u) (1 + slots_of v + slots_of u) (t + 1) (lo + 1) k s r (omega arith) (omega arith) (omega arith) (omega arith) in
-        let whole = smaller t lo (1 + nodes_of v + nodes_of u) (1 + slots_of v + slots_of u) t lo (1 + k) (1 + s) r (omega arith) (omega arith) (omega arith) (omega arith) in
+        let rest = smaller t lo (1 + nodes_of v + nodes_of u) (1 + slots_of v + slots_of u) (t + 1) (lo + 1) k s r (omega arith)
+        (omega arith) (omega arith) (omega arith) in
+        let whole = smaller t lo (1 + nodes_of v + nodes_of u) (1 + slots_of v + slots_of u) t lo (1 + k) (1 + s) r (omega arith)
+        (omega arith) (omega arith) (omega arith) in
         let n = landing u (landing v from (lo + 1)) (lo + 1 + nodes_of v) in
         let a = operand_at v (t + 1) in
         let b = operand_at u (t + 1 + slots_of v) in
-        let lin = pair_is body nodes slots (pos 1) (negsuc 0) (constant_of a -ℤ constant_of b) a b (plus_one body nodes slots) (minus_one body nodes slots) (left v u (value_fine v) (value_fine u) from (t + 1) (lo + 1) fits keeps inner rest) (right v u (value_fine v) (value_fine u) from (t + 1) (lo + 1) fits keeps inner rest) in
-        two_fine v u (value_fine v) (value_fine u) from (t + 1) (lo + 1) fits keeps inner rest (Assign n lo t (difference_lin a b) ∷ []) (own_fine n t lo k s (difference_lin a b) (behind v u (value_fine v) (value_fine u) from (t + 1) (lo + 1) fits keeps inner rest) whole lin)
+        let lin = pair_is body nodes slots (pos 1) (negsuc 0) (constant_of a -ℤ constant_of b) a b (plus_one body nodes slots)
+        (minus_one body nodes slots) (left v u (value_fine v) (value_fine u) from (t + 1) (lo + 1) fits keeps inner rest)
+        (right v u (value_fine v) (value_fine u) from (t + 1) (lo + 1) fits keeps inner rest) in
+        two_fine v u (value_fine v) (value_fine u) from (t + 1) (lo + 1) fits keeps inner rest (Assign n lo t (difference_lin a b) ∷ [])
+        (own_fine n t lo k s (difference_lin a b) (behind v u (value_fine v) (value_fine u) from (t + 1) (lo + 1) fits keeps inner rest)
+        whole lin)
     value_fine (truth c) from t lo fits keeps inner r =
         let k = nodes_of_test c in
         let s = slots_of_test c in
@@ -251,17 +303,31 @@ module _ (body : Statements) (nodes slots vars : ℕ) where
         let top = fresh_inner t lo (3 + k) (1 + s) lo r (omega arith) (omega arith) in
         let one_node = fresh_inner t lo (3 + k) (1 + s) (lo + 1) r (omega arith) (omega arith) in
         let zero_node = fresh_inner t lo (3 + k) (1 + s) (lo + 2) r (omega arith) (omega arith) in
-        blocks_both (test_blocks c from (Node (lo + 1)) (Node (lo + 2)) (t + 1) (lo + 3)) (one (lo + 1) (Assign (lo + 1) lo t (constant_lin (pos 1))) ∷ one (lo + 2) (Assign (lo + 2) lo t (constant_lin (pos 0))) ∷ [])
-        (test_fine c from (Node (lo + 1)) (Node (lo + 2)) (t + 1) (lo + 3) fits keeps inner one_node zero_node (smaller t lo (3 + k) (1 + s) (t + 1) (lo + 3) k s r (omega arith) (omega arith) (omega arith) (omega arith)))
-        (assign_fine body nodes slots (lo + 1) lo t (constant_lin (pos 1)) (inner_source body nodes slots (lo + 1) one_node) top (omega arith) (constant_lin_is body nodes slots (pos 1)), (assign_fine body nodes slots (lo + 2) lo t (constant_lin (pos 0)) (inner_source body nodes slots (lo + 2) zero_node) top (omega arith) (constant_lin_is body nodes slots (pos 0)), tt))
+        blocks_both (test_blocks c from (Node (lo + 1)) (Node (lo + 2)) (t + 1) (lo + 3))
+        (one (lo + 1) (Assign (lo + 1) lo t (constant_lin (pos 1))) ∷ one (lo + 2) (Assign (lo + 2) lo t (constant_lin (pos 0))) ∷ [])
+        (test_fine c from (Node (lo + 1)) (Node (lo + 2)) (t + 1) (lo + 3) fits keeps inner one_node zero_node
+        (smaller t lo (3 + k) (1 + s) (t + 1) (lo + 3) k s r (omega arith) (omega arith) (omega arith) (omega arith))) (
+          assign_fine body nodes slots (lo + 1) lo t (constant_lin (pos 1)) (inner_source body nodes slots (lo + 1) one_node) top
+              (omega arith) (constant_lin_is body nodes slots (pos 1)),
+          (
+            assign_fine body nodes slots (lo + 2) lo t (constant_lin (pos 0)) (inner_source body nodes slots (lo + 2) zero_node) top
+                (omega arith) (constant_lin_is body nodes slots (pos 0)),
+            tt,
+          ),
+        )
 
-    values_fine : (vs : Values) (from t lo : ℕ) → FitsValues vars vs → KeepsValues vs → IsInner body nodes slots from → Room t lo (nodes_of_all vs) (slots_of_all vs) → BlocksFine (values_blocks vs from t lo)
+    values_fine : (vs : Values) (from t lo : ℕ) → FitsValues vars vs → KeepsValues vs → IsInner body nodes slots from →
+        Room t lo (nodes_of_all vs) (slots_of_all vs) → BlocksFine (values_blocks vs from t lo)
     values_fine no_values from t lo fits keeps inner r = tt
     values_fine (value v vs) from t lo fits keeps inner r =
         let m = landing v from lo in
-        let first = smaller t lo (nodes_of v + nodes_of_all vs) (slots_of v + slots_of_all vs) t lo (nodes_of v) (slots_of v) r (omega arith) (omega arith) (omega arith) (omega arith) in
-        let rest = smaller t lo (nodes_of v + nodes_of_all vs) (slots_of v + slots_of_all vs) (t + slots_of v) (lo + nodes_of v) (nodes_of_all vs) (slots_of_all vs) r (omega arith) (omega arith) (omega arith) (omega arith) in
-        blocks_both (value_blocks v from t lo) (values_blocks vs m (t + slots_of v) (lo + nodes_of v)) (value_fine v from t lo fits.1 keeps.0 inner first)
+        let first = smaller t lo (nodes_of v + nodes_of_all vs) (slots_of v + slots_of_all vs) t lo (nodes_of v) (slots_of v) r
+        (omega arith)
+        (omega arith) (omega arith) (omega arith) in
+        let rest = smaller t lo (nodes_of v + nodes_of_all vs) (slots_of v + slots_of_all vs) (t + slots_of v) (lo + nodes_of v)
+        (nodes_of_all vs) (slots_of_all vs) r (omega arith) (omega arith) (omega arith) (omega arith) in
+        blocks_both (value_blocks v from t lo) (values_blocks vs m (t + slots_of v) (lo + nodes_of v))
+        (value_fine v from t lo fits.1 keeps.0 inner first)
         (values_fine vs m (t + slots_of v) (lo + nodes_of v) fits.2 keeps.1 (lands_inner v from t lo (slots_of v) inner first) rest)
 
     pub test_fine : (c : Test) → TestFine c
@@ -278,7 +344,11 @@ module _ (body : Statements) (nodes slots vars : ℕ) where
         let xs = ways n met (rows_where op a b) in
         let ys = ways n unmet (rows_where (opposite_op op) a b) in
         two_fine v u (value_fine v) (value_fine u) from t lo vu keeps inner r (xs ++ ys)
-        (fine_both body nodes slots xs ys (ways_fine body nodes slots n met (rows_where op a b) some source mi (rows_are body nodes slots op a b x y)) (ways_fine body nodes slots n unmet (rows_where (opposite_op op) a b) some source ui (rows_are body nodes slots (opposite_op op) a b x y)))
+        (fine_both body nodes slots xs ys (ways_fine body nodes slots n met (rows_where op a b) some source mi
+        (rows_are body nodes slots op a b x y)) (ways_fine body nodes slots n unmet (rows_where (opposite_op op) a b) some source ui
+        (rows_are body nodes slots (opposite_op op) a b x y)))
     test_fine (opposite c) from met unmet t lo fits keeps inner mi ui r = test_fine c from unmet met t lo fits keeps inner ui mi r
-    test_fine (both c d) from met unmet t lo fits keeps inner mi ui r = two_tests c d (test_fine c) (test_fine d) from (Node lo) unmet met unmet t lo fits keeps inner (λ x. x) (λ x. ui) mi ui r
-    test_fine (either c d) from met unmet t lo fits keeps inner mi ui r = two_tests c d (test_fine c) (test_fine d) from met (Node lo) met unmet t lo fits keeps inner (λ x. mi) (λ x. x) mi ui r
+    test_fine (both c d) from met unmet t lo fits keeps inner mi ui r = two_tests c d (test_fine c) (test_fine d) from (Node lo) unmet met
+        unmet t lo fits keeps inner (λ x. x) (λ x. ui) mi ui r
+    test_fine (either c d) from met unmet t lo fits keeps inner mi ui r = two_tests c d (test_fine c) (test_fine d) from met (Node lo) met
+        unmet t lo fits keeps inner (λ x. mi) (λ x. x) mi ui r

@@ -32,7 +32,11 @@ module _ (body : Statements) (nodes slots t : ℕ) (six : 6 ≤ nodes) (some : t
   -- the parts of three
   module _ (xs ys zs : List ℤ) (a b c : ℕ → ℕ → Bool) (h : Of (xs ++ (ys ++ zs)) (λ p n. a p n || b p n || c p n)) where
     of_first : Of xs a
-    of_first = record { factor = λ x i. h.factor x (Contains-append_left xs (ys ++ zs) x i); call = λ p n i. h.call p n (or_left (a p n || b p n) (c p n) (or_left (a p n) (b p n) i)) }
+    of_first = record {
+      factor = λ x i. h.factor x (Contains-append_left xs (ys ++ zs) x i);
+      call = λ p n i. h.call p n
+          (or_left (a p n || b p n) (c p n) (or_left (a p n) (b p n) i));
+    }
 
     of_second : Of ys b
     of_second = record {
@@ -41,7 +45,10 @@ module _ (body : Statements) (nodes slots t : ℕ) (six : 6 ≤ nodes) (some : t
     }
 
     of_third : Of zs c
-    of_third = record { factor = λ x i. h.factor x (Contains-append_right xs (ys ++ zs) x (Contains-append_right ys zs x i)); call = λ p n i. h.call p n (or_right (a p n || b p n) (c p n) i) }
+    of_third = record {
+      factor = λ x i. h.factor x (Contains-append_right xs (ys ++ zs) x (Contains-append_right ys zs x i));
+      call = λ p n i. h.call p n (or_right (a p n || b p n) (c p n) i);
+    }
 
   abbrev Inner : ℕ → Type 0
   Inner n = IsInner body nodes slots n
@@ -59,16 +66,19 @@ module _ (body : Statements) (nodes slots t : ℕ) (six : 6 ≤ nodes) (some : t
   guarded n to h k = guard_fine body nodes slots n to [] (inner_source body nodes slots n h) k (no_rows body nodes slots)
 
   zero_fine : (n : ℕ) → Inner n → Fine body nodes slots (Assign n return_node t (constant_lin (pos 0)))
-  zero_fine n h = assign_fine body nodes slots n return_node t (constant_lin (pos 0)) (inner_source body nodes slots n h) return_inner some (constant_lin_is body nodes slots (pos 0))
+  zero_fine n h = assign_fine body nodes slots n return_node t (constant_lin (pos 0)) (inner_source body nodes slots n h) return_inner some
+      (constant_lin_is body nodes slots (pos 0))
 
   returned_fine : (gives : Bool) (n slot : ℕ) → Inner n → slot < slots → Fine body nodes slots (return_edge gives n slot t)
   returned_fine true n slot h lt = return_fine body nodes slots n slot (inner_source body nodes slots n h) (omega arith) lt
   returned_fine false n slot h lt = zero_fine n h
 
-  condition_fine : (e : Expression) (from : ℕ) (met unmet : Target) (lo : ℕ) → IsPlain t e → OfExpression e → Inner from → IsTarget body nodes slots met → IsTarget body nodes slots unmet → Has lo (nodes_of_test (test_of e)) (slots_of_test (test_of e)) →
+  condition_fine : (e : Expression) (from : ℕ) (met unmet : Target) (lo : ℕ) → IsPlain t e → OfExpression e → Inner from →
+      IsTarget body nodes slots met → IsTarget body nodes slots unmet → Has lo (nodes_of_test (test_of e)) (slots_of_test (test_of e)) →
       AreFine (test_blocks (test_of e) from met unmet t lo)
   condition_fine e from met unmet lo plain of inner m u r =
-      test_fine body nodes slots t (test_of e) from met unmet t lo (test_fits t e plain) (test_keeps (IsCoefficient body) (Called body nodes slots t) (minus_one body nodes slots) e of) inner m u r
+      test_fine body nodes slots t (test_of e) from met unmet t lo (test_fits t e plain)
+      (test_keeps (IsCoefficient body) (Called body nodes slots t) (minus_one body nodes slots) e of) inner m u r
 
   -- fewer nodes from the same on or later, and fewer slots
   fewer : (lo n s lo2 n2 s2 : ℕ) → Has lo n s → lo ≤ lo2 → lo2 + n2 ≤ lo + n → s2 ≤ s → Has lo2 n2 s2
@@ -82,13 +92,18 @@ module _ (body : Statements) (nodes slots t : ℕ) (six : 6 ≤ nodes) (some : t
   between_inner (statement a ss) to lo n s r h = fresh lo (1 + n) s lo r (omega arith) (omega arith)
 
   module _ (gives : Bool) where
-    in_block : (ss : Statements) (from to brk con lo : ℕ) → Inner from → Inner to → AreFine (statements_blocks gives t ss from to brk con lo) → AreFine (statement_blocks gives t (block ss) from to brk con lo)
-    in_block no_statements from to brk con lo fi ti h = edge_fine body nodes slots t from (Guard from to (record { atoms = [] })) (guarded from to fi ti)
+    in_block : (ss : Statements) (from to brk con lo : ℕ) → Inner from → Inner to →
+        AreFine (statements_blocks gives t ss from to brk con lo) →
+        AreFine (statement_blocks gives t (block ss) from to brk con lo)
+    in_block no_statements from to brk con lo fi ti h = edge_fine body nodes slots t from (Guard from to (record { atoms = [] }))
+        (guarded from to fi ti)
     in_block (statement s ss) from to brk con lo fi ti h = h
 
     mutual
-      pub statement_fine : (s : Statement) → RunsPlain t s → OfStatement s → (from to brk con lo : ℕ) → Inner from → Inner to → Inner brk → Inner con → Has lo (nodes_of_statement s) (slots_of_statement s) → AreFine (statement_blocks gives t s from to brk con lo)
-      statement_fine (block ss) plain of from to brk con lo fi ti bi ci r = in_block ss from to brk con lo fi ti (statements_fine ss plain of from to brk con lo fi ti bi ci r)
+      pub statement_fine : (s : Statement) → RunsPlain t s → OfStatement s → (from to brk con lo : ℕ) → Inner from → Inner to → Inner brk →
+          Inner con → Has lo (nodes_of_statement s) (slots_of_statement s) → AreFine (statement_blocks gives t s from to brk con lo)
+      statement_fine (block ss) plain of from to brk con lo fi ti bi ci r = in_block ss from to brk con lo fi ti
+          (statements_fine ss plain of from to brk con lo fi ti bi ci r)
       statement_fine (set x e) plain of from to brk con lo fi ti bi ci r =
           let v = value_of e in
           let n = landing v from lo in
@@ -97,67 +112,93 @@ module _ (body : Statements) (nodes slots t : ℕ) (six : 6 ≤ nodes) (some : t
           let fits = value_fits t e plain.1 in
           let lt = plain.0 in
           blocks_both body nodes slots t (value_blocks v from t lo) (one n (Assign n to x (operand_lin a)) ∷ [])
-          (value_fine body nodes slots t v from t lo fits (value_keeps (IsCoefficient body) (Called body nodes slots t) (minus_one body nodes slots) e of) fi r)
-          (assign_fine body nodes slots n to x (operand_lin a) (inner_source body nodes slots n behind) ti (omega arith) (operand_lin_is body nodes slots a (operand_is body nodes slots t v t fits r.above_vars r.few_slots)), tt)
+          (value_fine body nodes slots t v from t lo fits (value_keeps (IsCoefficient body) (Called body nodes slots t)
+          (minus_one body nodes slots) e of) fi r) (
+            assign_fine body nodes slots n to x (operand_lin a) (inner_source body nodes slots n behind) ti (omega arith)
+                (operand_lin_is body nodes slots a (operand_is body nodes slots t v t fits r.above_vars r.few_slots)),
+            tt,
+          )
       statement_fine (ignore e) plain of from to brk con lo fi ti bi ci r =
           let v = value_of e in
           let n = landing v from lo in
           let behind = lands_inner body nodes slots t v from t lo (slots_of v) fi r in
           blocks_both body nodes slots t (value_blocks v from t lo) (one n (Guard n to (record { atoms = [] })) ∷ [])
-          (value_fine body nodes slots t v from t lo (value_fits t e plain) (value_keeps (IsCoefficient body) (Called body nodes slots t) (minus_one body nodes slots) e of) fi r)
+          (value_fine body nodes slots t v from t lo (value_fits t e plain) (value_keeps (IsCoefficient body) (Called body nodes slots t)
+          (minus_one body nodes slots) e of) fi r)
           (guarded n to behind ti, tt)
       statement_fine (assume e) plain of from to brk con lo fi ti bi ci r = condition_fine e from (Node to) Nowhere lo plain of fi ti tt r
-      statement_fine (assert id e) plain of from to brk con lo fi ti bi ci r = condition_fine e from (Node to) (Fails id) lo plain of fi ti tt r
+      statement_fine (assert id e) plain of from to brk con lo fi ti bi ci r = condition_fine e from (Node to) (Fails id) lo plain of fi ti
+          tt r
       statement_fine (if_else e a b) plain of from to brk con lo fi ti bi ci r =
           let k = nodes_of_test (test_of e) in
           let n = nodes_of_statement (if_else e a b) in
           let s = slots_of_statement (if_else e a b) in
           let i = lo + 2 + k in
           let j = i + nodes_of_statement a in
-          let oe = of_first (factors e) (statement_factors a) (statement_factors b) (λ p n. calls p n e) (λ p n. statement_calls p n a) (λ p n. statement_calls p n b) of in
-          let oa = of_second (factors e) (statement_factors a) (statement_factors b) (λ p n. calls p n e) (λ p n. statement_calls p n a) (λ p n. statement_calls p n b) of in
-          let ob = of_third (factors e) (statement_factors a) (statement_factors b) (λ p n. calls p n e) (λ p n. statement_calls p n a) (λ p n. statement_calls p n b) of in
+          let oe = of_first (factors e) (statement_factors a) (statement_factors b) (λ p n. calls p n e) (λ p n. statement_calls p n a)
+          (λ p n. statement_calls p n b) of in
+          let oa = of_second (factors e) (statement_factors a) (statement_factors b) (λ p n. calls p n e) (λ p n. statement_calls p n a)
+          (λ p n. statement_calls p n b) of in
+          let ob = of_third (factors e) (statement_factors a) (statement_factors b) (λ p n. calls p n e) (λ p n. statement_calls p n a)
+          (λ p n. statement_calls p n b) of in
           let x = fresh lo n s lo r (omega arith) (omega arith) in
           let y = fresh lo n s (lo + 1) r (omega arith) (omega arith) in
           let first = statement_blocks gives t a lo to brk con i in
           let second = statement_blocks gives t b (lo + 1) to brk con j in
           blocks_both body nodes slots t (test_blocks (test_of e) from (Node lo) (Node (lo + 1)) t (lo + 2)) (first ++ second)
-          (condition_fine e from (Node lo) (Node (lo + 1)) (lo + 2) plain.0 oe fi x y (fewer lo n s (lo + 2) k (slots_of_test (test_of e)) r (omega arith) (omega arith) (omega arith)))
+          (condition_fine e from (Node lo) (Node (lo + 1)) (lo + 2) plain.0 oe fi x y (fewer lo n s (lo + 2) k (slots_of_test (test_of e)) r
+          (omega arith) (omega arith) (omega arith)))
           (blocks_both body nodes slots t first second
-          (statement_fine a plain.1 oa lo to brk con i x ti bi ci (fewer lo n s i (nodes_of_statement a) (slots_of_statement a) r (omega arith) (omega arith) (omega arith)))
-          (statement_fine b plain.2 ob (lo + 1) to brk con j y ti bi ci (fewer lo n s j (nodes_of_statement b) (slots_of_statement b) r (omega arith) (omega arith) (omega arith))))
+          (statement_fine a plain.1 oa lo to brk con i x ti bi ci (fewer lo n s i (nodes_of_statement a) (slots_of_statement a) r
+          (omega arith) (omega arith) (omega arith)))
+          (statement_fine b plain.2 ob (lo + 1) to brk con j y ti bi ci (fewer lo n s j (nodes_of_statement b) (slots_of_statement b) r
+          (omega arith) (omega arith) (omega arith))))
       statement_fine (loop e step inside) plain of from to brk con lo fi ti bi ci r =
           let k = nodes_of_test (test_of e) in
           let n = nodes_of_statement (loop e step inside) in
           let s = slots_of_statement (loop e step inside) in
           let i = lo + 2 + k in
           let j = i + nodes_of_statement inside in
-          let oe = of_first (factors e) (statement_factors step) (statement_factors inside) (λ p n. calls p n e) (λ p n. statement_calls p n step) (λ p n. statement_calls p n inside) of in
-          let os = of_second (factors e) (statement_factors step) (statement_factors inside) (λ p n. calls p n e) (λ p n. statement_calls p n step) (λ p n. statement_calls p n inside) of in
-          let oi = of_third (factors e) (statement_factors step) (statement_factors inside) (λ p n. calls p n e) (λ p n. statement_calls p n step) (λ p n. statement_calls p n inside) of in
+          let oe = of_first (factors e) (statement_factors step) (statement_factors inside) (λ p n. calls p n e)
+          (λ p n. statement_calls p n step) (λ p n. statement_calls p n inside) of in
+          let os = of_second (factors e) (statement_factors step) (statement_factors inside) (λ p n. calls p n e)
+          (λ p n. statement_calls p n step) (λ p n. statement_calls p n inside) of in
+          let oi = of_third (factors e) (statement_factors step) (statement_factors inside) (λ p n. calls p n e)
+          (λ p n. statement_calls p n step) (λ p n. statement_calls p n inside) of in
           let x = fresh lo n s lo r (omega arith) (omega arith) in
           let y = fresh lo n s (lo + 1) r (omega arith) (omega arith) in
           let first = statement_blocks gives t inside lo (lo + 1) to (lo + 1) i in
           let second = statement_blocks gives t step (lo + 1) from to from j in
           blocks_both body nodes slots t (test_blocks (test_of e) from (Node lo) (Node to) t (lo + 2)) (first ++ second)
-          (condition_fine e from (Node lo) (Node to) (lo + 2) plain.0 oe fi x ti (fewer lo n s (lo + 2) k (slots_of_test (test_of e)) r (omega arith) (omega arith) (omega arith)))
+          (condition_fine e from (Node lo) (Node to) (lo + 2) plain.0 oe fi x ti (fewer lo n s (lo + 2) k (slots_of_test (test_of e)) r
+          (omega arith) (omega arith) (omega arith)))
           (blocks_both body nodes slots t first second
-          (statement_fine inside plain.2 oi lo (lo + 1) to (lo + 1) i x y ti y (fewer lo n s i (nodes_of_statement inside) (slots_of_statement inside) r (omega arith) (omega arith) (omega arith)))
-          (statement_fine step plain.1 os (lo + 1) from to from j y fi ti fi (fewer lo n s j (nodes_of_statement step) (slots_of_statement step) r (omega arith) (omega arith) (omega arith))))
+          (statement_fine inside plain.2 oi lo (lo + 1) to (lo + 1) i x y ti y
+          (fewer lo n s i (nodes_of_statement inside) (slots_of_statement inside) r (omega arith) (omega arith) (omega arith)))
+          (statement_fine step plain.1 os (lo + 1) from to from j y fi ti fi
+          (fewer lo n s j (nodes_of_statement step) (slots_of_statement step) r (omega arith) (omega arith) (omega arith))))
       statement_fine (do_while inside e) plain of from to brk con lo fi ti bi ci r =
           let k = nodes_of_test (test_of e) in
           let n = nodes_of_statement (do_while inside e) in
           let s = slots_of_statement (do_while inside e) in
           let j = lo + 1 + nodes_of_statement inside in
-          let oi = allows_left (IsCoefficient body) (Called body nodes slots t) (statement_factors inside) (factors e) (λ p n. statement_calls p n inside) (λ p n. calls p n e) of in
-          let oe = allows_right (IsCoefficient body) (Called body nodes slots t) (statement_factors inside) (factors e) (λ p n. statement_calls p n inside) (λ p n. calls p n e) of in
+          let oi = allows_left (IsCoefficient body) (Called body nodes slots t) (statement_factors inside) (factors e)
+          (λ p n. statement_calls p n inside) (λ p n. calls p n e) of in
+          let oe = allows_right (IsCoefficient body) (Called body nodes slots t) (statement_factors inside) (factors e)
+          (λ p n. statement_calls p n inside) (λ p n. calls p n e) of in
           let x = fresh lo n s lo r (omega arith) (omega arith) in
-          blocks_both body nodes slots t (statement_blocks gives t inside from lo to lo (lo + 1)) (test_blocks (test_of e) lo (Node from) (Node to) t j)
-          (statement_fine inside plain.0 oi from lo to lo (lo + 1) fi x ti x (fewer lo n s (lo + 1) (nodes_of_statement inside) (slots_of_statement inside) r (omega arith) (omega arith) (omega arith)))
-          (condition_fine e lo (Node from) (Node to) j plain.1 oe x fi ti (fewer lo n s j k (slots_of_test (test_of e)) r (omega arith) (omega arith) (omega arith)))
-      statement_fine break plain of from to brk con lo fi ti bi ci r = edge_fine body nodes slots t from (Guard from brk (record { atoms = [] })) (guarded from brk fi bi)
-      statement_fine continue plain of from to brk con lo fi ti bi ci r = edge_fine body nodes slots t from (Guard from con (record { atoms = [] })) (guarded from con fi ci)
-      statement_fine (return None) plain of from to brk con lo fi ti bi ci r = edge_fine body nodes slots t from (Assign from return_node t (constant_lin (pos 0))) (zero_fine from fi)
+          blocks_both body nodes slots t (statement_blocks gives t inside from lo to lo (lo + 1))
+          (test_blocks (test_of e) lo (Node from) (Node to) t j)
+          (statement_fine inside plain.0 oi from lo to lo (lo + 1) fi x ti x (fewer lo n s (lo + 1) (nodes_of_statement inside)
+          (slots_of_statement inside) r (omega arith) (omega arith) (omega arith)))
+          (condition_fine e lo (Node from) (Node to) j plain.1 oe x fi ti (fewer lo n s j k (slots_of_test (test_of e)) r (omega arith)
+          (omega arith) (omega arith)))
+      statement_fine break plain of from to brk con lo fi ti bi ci r = edge_fine body nodes slots t from
+          (Guard from brk (record { atoms = [] })) (guarded from brk fi bi)
+      statement_fine continue plain of from to brk con lo fi ti bi ci r = edge_fine body nodes slots t from
+          (Guard from con (record { atoms = [] })) (guarded from con fi ci)
+      statement_fine (return None) plain of from to brk con lo fi ti bi ci r = edge_fine body nodes slots t from
+          (Assign from return_node t (constant_lin (pos 0))) (zero_fine from fi)
       statement_fine (return (Some e)) plain of from to brk con lo fi ti bi ci r =
           let v = result_of e in
           let n = landing v from lo in
@@ -165,10 +206,13 @@ module _ (body : Statements) (nodes slots t : ℕ) (six : 6 ≤ nodes) (some : t
           let behind = lands_inner body nodes slots t v from t lo (slots_of v) fi r in
           let fits = result_fits t e plain in
           blocks_both body nodes slots t (value_blocks v from t lo) (one n (return_edge gives n slot t) ∷ [])
-          (value_fine body nodes slots t v from t lo fits (result_keeps (IsCoefficient body) (Called body nodes slots t) (minus_one body nodes slots) e of) fi r)
+          (value_fine body nodes slots t v from t lo fits (result_keeps (IsCoefficient body) (Called body nodes slots t)
+          (minus_one body nodes slots) e of) fi r)
           (returned_fine gives n slot behind (argument_is body nodes slots t v t (result_in_slot t e) fits r.above_vars r.few_slots), tt)
 
-      pub statements_fine : (ss : Statements) → AllPlain t ss → OfStatements ss → (from to brk con lo : ℕ) → Inner from → Inner to → Inner brk → Inner con → Has lo (nodes_of_statements ss) (slots_of_statements ss) → AreFine (statements_blocks gives t ss from to brk con lo)
+      pub statements_fine : (ss : Statements) → AllPlain t ss → OfStatements ss → (from to brk con lo : ℕ) → Inner from → Inner to →
+          Inner brk → Inner con → Has lo (nodes_of_statements ss) (slots_of_statements ss) →
+          AreFine (statements_blocks gives t ss from to brk con lo)
       statements_fine no_statements plain of from to brk con lo fi ti bi ci r = tt
       statements_fine (statement a ss) plain of from to brk con lo fi ti bi ci r =
           let n = nodes_of_statements (statement a ss) in
@@ -176,9 +220,16 @@ module _ (body : Statements) (nodes slots t : ℕ) (six : 6 ≤ nodes) (some : t
           let m = between ss to lo in
           let l = lo + nodes_between ss in
           let k = l + nodes_of_statement a in
-          let oa = allows_left (IsCoefficient body) (Called body nodes slots t) (statement_factors a) (statements_factors ss) (λ p n. statement_calls p n a) (λ p n. statements_call p n ss) of in
-          let os = allows_right (IsCoefficient body) (Called body nodes slots t) (statement_factors a) (statements_factors ss) (λ p n. statement_calls p n a) (λ p n. statements_call p n ss) of in
-          let there = between_inner ss to lo (nodes_of_statement a + nodes_of_statements ss) s (fewer lo n s lo (nodes_between ss + (nodes_of_statement a + nodes_of_statements ss)) s r (omega arith) (omega arith) (omega arith)) ti in
+          let oa = allows_left (IsCoefficient body) (Called body nodes slots t) (statement_factors a) (statements_factors ss)
+          (λ p n. statement_calls p n a) (λ p n. statements_call p n ss) of in
+          let os = allows_right (IsCoefficient body) (Called body nodes slots t) (statement_factors a) (statements_factors ss)
+          (λ p n. statement_calls p n a) (λ p n. statements_call p n ss) of in
+          let there = between_inner ss to lo (nodes_of_statement a + nodes_of_statements ss) s
+          (fewer lo n s lo (nodes_between ss + (nodes_of_statement a + nodes_of_statements ss)) s r (omega arith) (omega arith)
+          (omega arith))
+          ti in
           blocks_both body nodes slots t (statement_blocks gives t a from m brk con l) (statements_blocks gives t ss m to brk con k)
-          (statement_fine a plain.0 oa from m brk con l fi there bi ci (fewer lo n s l (nodes_of_statement a) (slots_of_statement a) r (omega arith) (omega arith) (omega arith)))
-          (statements_fine ss plain.1 os m to brk con k there ti bi ci (fewer lo n s k (nodes_of_statements ss) (slots_of_statements ss) r (omega arith) (omega arith) (omega arith)))
+          (statement_fine a plain.0 oa from m brk con l fi there bi ci (fewer lo n s l (nodes_of_statement a) (slots_of_statement a) r
+          (omega arith) (omega arith) (omega arith)))
+          (statements_fine ss plain.1 os m to brk con k there ti bi ci (fewer lo n s k (nodes_of_statements ss) (slots_of_statements ss) r
+          (omega arith) (omega arith) (omega arith)))

@@ -51,14 +51,19 @@ module _ (P : PureProgram) (slots q n : ℕ) where
     expression_takes (read x) s h = absurd cc
     expression_takes input s h = absurd cc
     expression_takes (call p es) s h =
-        by_either (takes (slice_get P.procedures p) (count es) && not_bool (p == P.main)) (are_well_scoped P slots es) (p == q && count es == n) (calls_any q n es) (λ x y. at_call p es (and_left (takes (slice_get P.procedures p) (count es)) (not_bool (p == P.main)) x) y) (λ x y. expressions_take es x y) s h
+        by_either (takes (slice_get P.procedures p) (count es) && not_bool (p == P.main)) (are_well_scoped P slots es)
+        (p == q && count es == n) (calls_any q n es)
+        (λ x y. at_call p es (and_left (takes (slice_get P.procedures p) (count es)) (not_bool (p == P.main)) x) y)
+        (λ x y. expressions_take es x y) s h
     expression_takes (negate e) s h = expression_takes e s h
     expression_takes (not_of e) s h = expression_takes e s h
-    expression_takes (binary op a b) s h = by_either (is_well_scoped P slots a) (is_well_scoped P slots b) (calls q n a) (calls q n b) (λ x y. expression_takes a x y) (λ x y. expression_takes b x y) s h
+    expression_takes (binary op a b) s h = by_either (is_well_scoped P slots a) (is_well_scoped P slots b) (calls q n a) (calls q n b)
+        (λ x y. expression_takes a x y) (λ x y. expression_takes b x y) s h
 
     expressions_take : (es : Expressions) → IsTrue (are_well_scoped P slots es) → IsTrue (calls_any q n es) → Takes
     expressions_take no_expressions s h = absurd cc
-    expressions_take (expression e es) s h = by_either (is_well_scoped P slots e) (are_well_scoped P slots es) (calls q n e) (calls_any q n es) (λ x y. expression_takes e x y) (λ x y. expressions_take es x y) s h
+    expressions_take (expression e es) s h = by_either (is_well_scoped P slots e) (are_well_scoped P slots es) (calls q n e)
+        (calls_any q n es) (λ x y. expression_takes e x y) (λ x y. expressions_take es x y) s h
 
   result_takes : (o : Option Expression) → IsTrue (returns_well_scoped P slots o) → IsTrue (result_calls q n o) → Takes
   result_takes None s h = absurd cc
@@ -72,24 +77,31 @@ module _ (P : PureProgram) (slots q n : ℕ) where
     statement_takes l (assume e) s h = expression_takes e s h
     statement_takes l (assert id e) s h = expression_takes e (and_right (nat_lt id (length P.asserts)) (is_well_scoped P slots e) s) h
     statement_takes l (if_else e a b) s h =
-        by_either (is_well_scoped P slots e && runs_well_scoped P slots l a) (runs_well_scoped P slots l b) (calls q n e || statement_calls q n a) (statement_calls q n b)
-        (λ x y. by_either (is_well_scoped P slots e) (runs_well_scoped P slots l a) (calls q n e) (statement_calls q n a) (λ i j. expression_takes e i j) (λ i j. statement_takes l a i j) x y)
+        by_either (is_well_scoped P slots e && runs_well_scoped P slots l a) (runs_well_scoped P slots l b)
+        (calls q n e || statement_calls q n a) (statement_calls q n b)
+        (λ x y. by_either (is_well_scoped P slots e) (runs_well_scoped P slots l a) (calls q n e) (statement_calls q n a)
+        (λ i j. expression_takes e i j) (λ i j. statement_takes l a i j) x y)
         (λ x y. statement_takes l b x y) s h
     statement_takes l (loop e step body) s h =
-        by_either (is_well_scoped P slots e && runs_well_scoped P slots true step) (runs_well_scoped P slots true body) (calls q n e || statement_calls q n step) (statement_calls q n body)
-        (λ x y. by_either (is_well_scoped P slots e) (runs_well_scoped P slots true step) (calls q n e) (statement_calls q n step) (λ i j. expression_takes e i j) (λ i j. statement_takes true step i j) x y)
+        by_either (is_well_scoped P slots e && runs_well_scoped P slots true step) (runs_well_scoped P slots true body)
+        (calls q n e || statement_calls q n step) (statement_calls q n body)
+        (λ x y. by_either (is_well_scoped P slots e) (runs_well_scoped P slots true step) (calls q n e) (statement_calls q n step)
+        (λ i j. expression_takes e i j) (λ i j. statement_takes true step i j) x y)
         (λ x y. statement_takes true body x y) s h
-    statement_takes l (do_while body e) s h = by_either (runs_well_scoped P slots true body) (is_well_scoped P slots e) (statement_calls q n body) (calls q n e) (λ x y. statement_takes true body x y) (λ x y. expression_takes e x y) s h
+    statement_takes l (do_while body e) s h = by_either (runs_well_scoped P slots true body) (is_well_scoped P slots e)
+        (statement_calls q n body) (calls q n e) (λ x y. statement_takes true body x y) (λ x y. expression_takes e x y) s h
     statement_takes l break s h = absurd cc
     statement_takes l continue s h = absurd cc
     statement_takes l (return o) s h = result_takes o s h
 
     statements_take : (l : Bool) (ss : Statements) → IsTrue (all_well_scoped P slots l ss) → IsTrue (statements_call q n ss) → Takes
     statements_take l no_statements s h = absurd cc
-    statements_take l (statement a ss) s h = by_either (runs_well_scoped P slots l a) (all_well_scoped P slots l ss) (statement_calls q n a) (statements_call q n ss) (λ x y. statement_takes l a x y) (λ x y. statements_take l ss x y) s h
+    statements_take l (statement a ss) s h = by_either (runs_well_scoped P slots l a) (all_well_scoped P slots l ss) (statement_calls q n a)
+        (statements_call q n ss) (λ x y. statement_takes l a x y) (λ x y. statements_take l ss x y) s h
 
 -- what the graph of a procedure takes
-graph_takes : (ps : List PureProcedure) (gs : List Graph) → AreGraphsOf ps gs → (q n : ℕ) (o : Option PureProcedure) → slice_get ps q ≡ o → IsTrue (takes o n) → IsTrue (linked.takes (slice_get gs q) n)
+graph_takes : (ps : List PureProcedure) (gs : List Graph) → AreGraphsOf ps gs → (q n : ℕ) (o : Option PureProcedure) → slice_get ps q ≡ o →
+    IsTrue (takes o n) → IsTrue (linked.takes (slice_get gs q) n)
 graph_takes ps gs are q n None e h = absurd cc
 graph_takes ps gs are q n (Some p) e h =
     let found = graph_of ps gs are q p e in
@@ -101,9 +113,11 @@ graph_takes ps gs are q n (Some p) e h =
 sound_body : (P : PureProgram) (p : PureProcedure) → IsTrue (is_well_formed_procedure P p) → IsTrue (all_well_scoped P p.slots false p.body)
 sound_body P p h =
     and_right (nat_le p.params 8 && nat_le p.params p.slots && nat_le p.slots 24) (all_well_scoped P p.slots false p.body)
-    (and_left (nat_le p.params 8 && nat_le p.params p.slots && nat_le p.slots 24 && all_well_scoped P p.slots false p.body) (nat_le (statements_nodes p.body) 8000) h)
+    (and_left (nat_le p.params 8 && nat_le p.params p.slots && nat_le p.slots 24 && all_well_scoped P p.slots false p.body)
+    (nat_le (statements_nodes p.body) 8000) h)
 
-pub graphs_kept : (P : PureProgram) → IsWellFormed P → ((i : ℕ) (p : PureProcedure) → slice_get P.procedures i ≡ Some p → AllPlain p.slots p.body) → (gs : List Graph) → AreGraphsOf P.procedures gs → AreGraphs gs
+pub graphs_kept : (P : PureProgram) → IsWellFormed P → ((i : ℕ) (p : PureProcedure) → slice_get P.procedures i ≡ Some p →
+    AllPlain p.slots p.body) → (gs : List Graph) → AreGraphsOf P.procedures gs → AreGraphs gs
 graphs_kept P ok plain gs are k g h i from to q args slot e =
     let found = procedure_of P.procedures gs are k g h in
     let p = found.0 in

@@ -14,15 +14,19 @@ use Rattle.flow_build.proofs.Plain.{slots_are}
 
 -- the edges round a body
 abbrev pub frame_edges : (params slots : ℕ) → List Edge
-frame_edges params slots = Entry 4 params ∷ Guard 4 5 (record { atoms = [] }) ∷ Assign 2 3 slots (constant_lin (pos 0)) ∷ Return 3 0 slots ∷ []
+frame_edges params slots = Entry 4 params ∷ Guard 4 5 (record { atoms = [] }) ∷ Assign 2 3 slots (constant_lin (pos 0)) ∷ Return 3 0 slots
+    ∷ []
 
 pub record Makes (p : PureProcedure) (nodes slots : ℕ) (edges : List Edge) : Type 0 where
   pub nodes_are : nodes ≡ nodes_of_procedure p
   pub slots_are : slots ≡ slots_of_procedure p
   pub edges_are : edges ≡ procedure_edges p
 
-pub makes : (p : PureProcedure) (b0 b1 : Builder) (free slots : ℕ) (edges : List Edge) → b0.edges.items ≡ frame_edges p.params p.slots → b0.next ≡ 6 →
-    AddsStatement (block p.body) (record { gives = p.gives; free = p.slots }) 5 (record { to = 2; on_break = 2; on_continue = 2 }) b0 b1 free → slots ≡ max free (p.slots + 1) → edges ≡ b1.edges.items →
+pub makes : (p : PureProcedure) (b0 b1 : Builder) (free slots : ℕ) (edges : List Edge) → b0.edges.items ≡ frame_edges p.params p.slots →
+    b0.next ≡ 6 →
+    AddsStatement (block p.body) (record { gives = p.gives; free = p.slots }) 5 (record { to = 2; on_break = 2; on_continue = 2 }) b0 b1
+    free →
+    slots ≡ max free (p.slots + 1) → edges ≡ b1.edges.items →
     Makes p b1.next slots edges
 makes p b0 b1 free slots edges e n h s is = record {
   nodes_are = h.blocks.next ∙ ap (λ i. i + Rattle.flow_build.specs.steps.Lowering.nodes_of_statements p.body) n;

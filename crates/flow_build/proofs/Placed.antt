@@ -38,20 +38,24 @@ way_leaves n Nowhere rows = tt
 
 pub ways_leave : (n : ℕ) (target : Target) (lists : List (List Atom)) → Leave n (ways n target lists)
 ways_leave n target [] = tt
-ways_leave n target (rows ∷ lists) = leave_both n (way n target rows) (ways n target lists) (way_leaves n target rows) (ways_leave n target lists)
+ways_leave n target (rows ∷ lists) = leave_both n (way n target rows) (ways n target lists) (way_leaves n target rows)
+    (ways_leave n target lists)
 
 fresh_same : (S : ℕ → Type 0) (xs ys : List Block) → xs ≡ ys → Fresh S ys → Fresh S xs
 fresh_same S xs ys e x = let F : List Block → Type 0 = λ l. Fresh S l in subst F (sym e) x
 
 -- what follows a value
-after_value : (v : Value) (from t lo hi : ℕ) (ys : List Block) → from < lo → lo + nodes_of v ≤ hi → Lands v from t lo → Fresh (Range (landing v from lo) (lo + nodes_of v) hi) ys → Fresh (Range from lo hi) (value_blocks v from t lo ++ ys)
+after_value : (v : Value) (from t lo hi : ℕ) (ys : List Block) → from < lo → lo + nodes_of v ≤ hi → Lands v from t lo →
+    Fresh (Range (landing v from lo) (lo + nodes_of v) hi) ys → Fresh (Range from lo hi) (value_blocks v from t lo ++ ys)
 after_value v from t lo hi ys lt le (inl p) y =
     let F : ℕ → Type 0 = λ m. Fresh (Range m (lo + nodes_of v) hi) ys in
-    fresh_same (Range from lo hi) (value_blocks v from t lo ++ ys) ys (ap (λ l. l ++ ys) p.blocks) (fresh_within from (lo + nodes_of v) hi lo hi ys (omega arith) (omega arith) (subst F p.lands y))
+    fresh_same (Range from lo hi) (value_blocks v from t lo ++ ys) ys (ap (λ l. l ++ ys) p.blocks)
+    (fresh_within from (lo + nodes_of v) hi lo hi ys (omega arith) (omega arith) (subst F p.lands y))
 after_value v from t lo hi ys lt le (inr b) y =
     let F : ℕ → Type 0 = λ m. Fresh (Range m (lo + nodes_of v) hi) ys in
     let n = b.nodes in
-    fresh_then from lo hi (lo + 1) (lo + nodes_of v) lo (lo + nodes_of v) hi (value_blocks v from t lo) ys lt (omega arith) (omega arith) (omega arith) (omega arith) (omega arith) (omega arith) b.blocks (subst F b.lands y)
+    fresh_then from lo hi (lo + 1) (lo + nodes_of v) lo (lo + nodes_of v) hi (value_blocks v from t lo) ys lt (omega arith) (omega arith)
+    (omega arith) (omega arith) (omega arith) (omega arith) b.blocks (subst F b.lands y)
 
 lands_before : (v : Value) (from t lo : ℕ) → from < lo → Lands v from t lo → landing v from lo < lo + nodes_of v
 lands_before v from t lo lt (inl p) = let a = p.lands in let b = p.nodes in omega arith
@@ -64,8 +68,10 @@ abbrev LandsAlways : Value → Type 0
 LandsAlways v = (from t lo : ℕ) → from < lo → Lands v from t lo
 
 -- two values, and what leaves the node behind them
-two_values : (v u : Value) → LandsAlways v → LandsAlways u → (from t lo hi : ℕ) (es : List Edge) → from < lo → lo + nodes_of v + nodes_of u ≤ hi → Leave (landing u (landing v from lo) (lo + nodes_of v)) es →
-    Fresh (Range from lo hi) (value_blocks v from t lo ++ (value_blocks u (landing v from lo) (t + slots_of v) (lo + nodes_of v) ++ record { node = landing u (landing v from lo) (lo + nodes_of v); edges = es } ∷ []))
+two_values : (v u : Value) → LandsAlways v → LandsAlways u → (from t lo hi : ℕ) (es : List Edge) → from < lo → lo + nodes_of v
+    + nodes_of u ≤ hi → Leave (landing u (landing v from lo) (lo + nodes_of v)) es →
+    Fresh (Range from lo hi) (value_blocks v from t lo ++ (value_blocks u (landing v from lo) (t + slots_of v) (lo + nodes_of v)
+    ++ record { node = landing u (landing v from lo) (lo + nodes_of v); edges = es } ∷ []))
 two_values v u vl ul from t lo hi es lt le h =
     let m = landing v from lo in
     let k = lo + nodes_of v in
@@ -77,13 +83,16 @@ two_values v u vl ul from t lo hi es lt le h =
     (fresh_first n (k + nodes_of u) hi es h))
 
 abbrev FreshAlways : Test → Type 0
-FreshAlways c = (from : ℕ) (met unmet : Target) (t lo : ℕ) → from < lo → Fresh (Range from lo (lo + nodes_of_test c)) (test_blocks c from met unmet t lo)
+FreshAlways c = (from : ℕ) (met unmet : Target) (t lo : ℕ) → from < lo → Fresh (Range from lo (lo + nodes_of_test c))
+    (test_blocks c from met unmet t lo)
 
 two_tests : (c d : Test) → FreshAlways c → FreshAlways d → (from : ℕ) (met1 unmet1 met2 unmet2 : Target) (t lo : ℕ) → from < lo →
-    Fresh (Range from lo (lo + (1 + nodes_of_test c + nodes_of_test d))) (test_blocks c from met1 unmet1 t (lo + 1) ++ test_blocks d lo met2 unmet2 (t + slots_of_test c) (lo + 1 + nodes_of_test c))
+    Fresh (Range from lo (lo + (1 + nodes_of_test c + nodes_of_test d))) (test_blocks c from met1 unmet1 t (lo + 1) ++ test_blocks d lo met2
+    unmet2 (t + slots_of_test c) (lo + 1 + nodes_of_test c))
 two_tests c d cf df from met1 unmet1 met2 unmet2 t lo lt =
     let k = lo + 1 + nodes_of_test c in
-    fresh_then from lo (lo + (1 + nodes_of_test c + nodes_of_test d)) (lo + 1) k lo k (k + nodes_of_test d) (test_blocks c from met1 unmet1 t (lo + 1)) (test_blocks d lo met2 unmet2 (t + slots_of_test c) k)
+    fresh_then from lo (lo + (1 + nodes_of_test c + nodes_of_test d)) (lo + 1) k lo k (k + nodes_of_test d)
+    (test_blocks c from met1 unmet1 t (lo + 1)) (test_blocks d lo met2 unmet2 (t + slots_of_test c) k)
     lt (omega arith) (omega arith) (omega arith) (omega arith) (omega arith) (omega arith)
     (cf from met1 unmet1 t (lo + 1) (omega arith))
     (df lo met2 unmet2 (t + slots_of_test c) k (omega arith))
@@ -91,18 +100,29 @@ two_tests c d cf df from met1 unmet1 met2 unmet2 t lo lt =
 mutual
   pub value_lands : (v : Value) (from t lo : ℕ) → from < lo → Lands v from t lo
   value_lands (literal false n) from t lo lt = inl (record { blocks = refl; lands = refl; nodes = refl })
-  value_lands (literal true n) from t lo lt = inr (record { blocks = fresh_edge from (lo + 1) (lo + 1) (Assign from lo t (constant_lin n)) refl; lands = refl; nodes = omega arith })
+  value_lands (literal true n) from t lo lt = inr
+      (record { blocks = fresh_edge from (lo + 1) (lo + 1) (Assign from lo t (constant_lin n)) refl; lands = refl; nodes = omega arith })
   value_lands (read false x) from t lo lt = inl (record { blocks = refl; lands = refl; nodes = refl })
   value_lands (read true x) from t lo lt =
-      inr (record { blocks = fresh_edge from (lo + 1) (lo + 1) (Assign from lo t (operand_lin (Variable x))) refl; lands = refl; nodes = omega arith })
-  value_lands input from t lo lt = inr (record { blocks = fresh_edge from (lo + 1) (lo + 1) (Input from lo t) refl; lands = refl; nodes = omega arith })
+      inr (record {
+        blocks = fresh_edge from (lo + 1) (lo + 1) (Assign from lo t (operand_lin (Variable x))) refl;
+        lands = refl;
+        nodes = omega arith;
+      })
+  value_lands input from t lo lt = inr (record {
+    blocks = fresh_edge from (lo + 1) (lo + 1) (Input from lo t) refl;
+    lands = refl;
+    nodes = omega arith;
+  })
   value_lands (call p vs) from t lo lt =
       let n = landing_of_all vs from (lo + 1) in
       let e = Call n lo p (argument_slots vs (t + 1)) t in
       inr (record {
         blocks =
-            fresh_within from (lo + 1) (lo + 1 + nodes_of_all vs) (lo + 1) (lo + nodes_of (call p vs)) (values_blocks vs from (t + 1) (lo + 1) ++ one n e ∷ []) (omega arith) (omega arith)
-            (after_values vs from (t + 1) (lo + 1) (lo + 1 + nodes_of_all vs) (one n e ∷ []) (omega arith) (omega arith) (fresh_edge n (lo + 1 + nodes_of_all vs) (lo + 1 + nodes_of_all vs) e refl));
+            fresh_within from (lo + 1) (lo + 1 + nodes_of_all vs) (lo + 1) (lo + nodes_of (call p vs))
+            (values_blocks vs from (t + 1) (lo + 1) ++ one n e ∷ []) (omega arith) (omega arith)
+            (after_values vs from (t + 1) (lo + 1) (lo + 1 + nodes_of_all vs) (one n e ∷ []) (omega arith) (omega arith)
+            (fresh_edge n (lo + 1 + nodes_of_all vs) (lo + 1 + nodes_of_all vs) e refl));
         lands = refl;
         nodes = omega arith;
       })
@@ -111,25 +131,42 @@ mutual
       let e = Assign n lo t (scaled_lin c (operand_at v (t + 1))) in
       inr (record {
         blocks =
-            fresh_within from (lo + 1) (lo + 1 + nodes_of v) (lo + 1) (lo + nodes_of (scale c v)) (value_blocks v from (t + 1) (lo + 1) ++ one n e ∷ []) (omega arith) (omega arith)
-            (after_value v from (t + 1) (lo + 1) (lo + 1 + nodes_of v) (one n e ∷ []) (omega arith) (omega arith) (value_lands v from (t + 1) (lo + 1) (omega arith)) (fresh_edge n (lo + 1 + nodes_of v) (lo + 1 + nodes_of v) e refl));
+            fresh_within from (lo + 1) (lo + 1 + nodes_of v) (lo + 1) (lo + nodes_of (scale c v)) (value_blocks v from (t + 1) (lo + 1)
+            ++ one n e ∷ []) (omega arith) (omega arith)
+            (after_value v from (t + 1) (lo + 1) (lo + 1 + nodes_of v) (one n e ∷ []) (omega arith) (omega arith)
+            (value_lands v from (t + 1) (lo + 1) (omega arith)) (fresh_edge n (lo + 1 + nodes_of v) (lo + 1 + nodes_of v) e refl));
         lands = refl;
         nodes = omega arith;
       })
   value_lands (sum v u) from t lo lt =
-      let e = Assign (landing u (landing v from (lo + 1)) (lo + 1 + nodes_of v)) lo t (sum_lin (operand_at v (t + 1)) (operand_at u (t + 1 + slots_of v))) in
-      inr (record { blocks = two_values v u (value_lands v) (value_lands u) from (t + 1) (lo + 1) (lo + nodes_of (sum v u)) (e ∷ []) (omega arith) (omega arith) (refl, tt); lands = refl; nodes = omega arith })
+      let e = Assign (landing u (landing v from (lo + 1)) (lo + 1 + nodes_of v)) lo t
+      (sum_lin (operand_at v (t + 1)) (operand_at u (t + 1 + slots_of v))) in
+      inr (record {
+        blocks = two_values v u (value_lands v) (value_lands u) from (t + 1) (lo + 1) (lo + nodes_of (sum v u)) (e ∷ [])
+            (omega arith) (omega arith) (refl, tt);
+        lands = refl;
+        nodes = omega arith;
+      })
   value_lands (difference v u) from t lo lt =
-      let e = Assign (landing u (landing v from (lo + 1)) (lo + 1 + nodes_of v)) lo t (difference_lin (operand_at v (t + 1)) (operand_at u (t + 1 + slots_of v))) in
-      inr (record { blocks = two_values v u (value_lands v) (value_lands u) from (t + 1) (lo + 1) (lo + nodes_of (difference v u)) (e ∷ []) (omega arith) (omega arith) (refl, tt); lands = refl; nodes = omega arith })
+      let e = Assign (landing u (landing v from (lo + 1)) (lo + 1 + nodes_of v)) lo t
+      (difference_lin (operand_at v (t + 1)) (operand_at u (t + 1 + slots_of v))) in
+      inr (record {
+        blocks = two_values v u (value_lands v) (value_lands u) from (t + 1) (lo + 1) (lo + nodes_of (difference v u)) (e ∷ [])
+            (omega arith) (omega arith) (refl, tt);
+        lands = refl;
+        nodes = omega arith;
+      })
   value_lands (truth c) from t lo lt =
       let one_edge = Assign (lo + 1) lo t (constant_lin (pos 1)) in
       let zero_edge = Assign (lo + 2) lo t (constant_lin (pos 0)) in
       let k = lo + 3 + nodes_of_test c in
       inr (record {
         blocks =
-            fresh_within from (lo + 1) k (lo + 1) (lo + nodes_of (truth c)) (test_blocks c from (Node (lo + 1)) (Node (lo + 2)) (t + 1) (lo + 3) ++ one (lo + 1) one_edge ∷ one (lo + 2) zero_edge ∷ []) (omega arith) (omega arith)
-            (fresh_three from (lo + 1) (lo + 1) (lo + 2) (lo + 3) k k k (test_blocks c from (Node (lo + 1)) (Node (lo + 2)) (t + 1) (lo + 3)) (one (lo + 1) one_edge ∷ []) (one (lo + 2) zero_edge ∷ [])
+            fresh_within from (lo + 1) k (lo + 1) (lo + nodes_of (truth c)) (test_blocks c from (Node (lo + 1)) (Node (lo + 2)) (t + 1)
+            (lo + 3) ++ one (lo + 1) one_edge ∷ one (lo + 2) zero_edge ∷ []) (omega arith) (omega arith)
+            (fresh_three from (lo + 1) (lo + 1) (lo + 2) (lo + 3) k k k (test_blocks c from (Node (lo + 1)) (Node (lo + 2)) (t + 1)
+            (lo + 3))
+            (one (lo + 1) one_edge ∷ []) (one (lo + 2) zero_edge ∷ [])
             (omega arith) (omega arith) (omega arith) (omega arith) (omega arith) (omega arith) (omega arith)
             (test_fresh c from (Node (lo + 1)) (Node (lo + 2)) (t + 1) (lo + 3) (omega arith))
             (fresh_edge (lo + 1) k k one_edge refl)
@@ -138,34 +175,41 @@ mutual
         nodes = omega arith;
       })
 
-  after_values : (vs : Values) (from t lo hi : ℕ) (ys : List Block) → from < lo → lo + nodes_of_all vs ≤ hi → Fresh (Range (landing_of_all vs from lo) (lo + nodes_of_all vs) hi) ys → Fresh (Range from lo hi) (values_blocks vs from t lo ++ ys)
+  after_values : (vs : Values) (from t lo hi : ℕ) (ys : List Block) → from < lo → lo + nodes_of_all vs ≤ hi →
+      Fresh (Range (landing_of_all vs from lo) (lo + nodes_of_all vs) hi) ys → Fresh (Range from lo hi) (values_blocks vs from t lo ++ ys)
   after_values no_values from t lo hi ys lt le y = fresh_within from (lo + 0) hi lo hi ys (omega arith) (omega arith) y
   after_values (value v vs) from t lo hi ys lt le y =
       let m = landing v from lo in
       let rest = values_blocks vs m (t + slots_of v) (lo + nodes_of v) in
       let lands = value_lands v from t lo lt in
       let top = landing_of_all vs m (lo + nodes_of v) in
-      fresh_same (Range from lo hi) ((value_blocks v from t lo ++ rest) ++ ys) (value_blocks v from t lo ++ (rest ++ ys)) (append_assoc (value_blocks v from t lo) rest ys)
+      fresh_same (Range from lo hi) ((value_blocks v from t lo ++ rest) ++ ys) (value_blocks v from t lo ++ (rest ++ ys))
+      (append_assoc (value_blocks v from t lo) rest ys)
       (after_value v from t lo hi (rest ++ ys) lt (omega arith) lands
       (after_values vs m (t + slots_of v) (lo + nodes_of v) hi ys (lands_before v from t lo lt lands) (omega arith)
       (fresh_within top (lo + (nodes_of v + nodes_of_all vs)) hi (lo + nodes_of v + nodes_of_all vs) hi ys (omega arith) (omega arith) y)))
 
-  pub test_fresh : (c : Test) (from : ℕ) (met unmet : Target) (t lo : ℕ) → from < lo → Fresh (Range from lo (lo + nodes_of_test c)) (test_blocks c from met unmet t lo)
+  pub test_fresh : (c : Test) (from : ℕ) (met unmet : Target) (t lo : ℕ) → from < lo → Fresh (Range from lo (lo + nodes_of_test c))
+      (test_blocks c from met unmet t lo)
   test_fresh (compare op v u) from met unmet t lo lt =
       let n = landing u (landing v from lo) (lo + nodes_of v) in
       let a = operand_at v t in
       let b = operand_at u (t + slots_of v) in
-      two_values v u (value_lands v) (value_lands u) from t lo (lo + nodes_of_test (compare op v u)) (ways n met (rows_where op a b) ++ ways n unmet (rows_where (opposite_op op) a b)) lt (omega arith)
-      (leave_both n (ways n met (rows_where op a b)) (ways n unmet (rows_where (opposite_op op) a b)) (ways_leave n met (rows_where op a b)) (ways_leave n unmet (rows_where (opposite_op op) a b)))
+      two_values v u (value_lands v) (value_lands u) from t lo (lo + nodes_of_test (compare op v u)) (ways n met (rows_where op a b)
+      ++ ways n unmet (rows_where (opposite_op op) a b)) lt (omega arith)
+      (leave_both n (ways n met (rows_where op a b)) (ways n unmet (rows_where (opposite_op op) a b)) (ways_leave n met (rows_where op a b))
+      (ways_leave n unmet (rows_where (opposite_op op) a b)))
   test_fresh (opposite c) from met unmet t lo lt = test_fresh c from unmet met t lo lt
   test_fresh (both c d) from met unmet t lo lt = two_tests c d (test_fresh c) (test_fresh d) from (Node lo) unmet met unmet t lo lt
   test_fresh (either c d) from met unmet t lo lt = two_tests c d (test_fresh c) (test_fresh d) from met (Node lo) met unmet t lo lt
 
 -- a value, and an edge at the node behind it
-value_edge : (v : Value) (from t lo : ℕ) (e : Edge) → from < lo → source e ≡ Some (landing v from lo) → Fresh (Range from lo (lo + nodes_of v)) (value_blocks v from t lo ++ one (landing v from lo) e ∷ [])
+value_edge : (v : Value) (from t lo : ℕ) (e : Edge) → from < lo → source e ≡ Some (landing v from lo) →
+    Fresh (Range from lo (lo + nodes_of v)) (value_blocks v from t lo ++ one (landing v from lo) e ∷ [])
 value_edge v from t lo e lt h =
     let n = landing v from lo in
-    after_value v from t lo (lo + nodes_of v) (one n e ∷ []) lt (omega arith) (value_lands v from t lo lt) (fresh_edge n (lo + nodes_of v) (lo + nodes_of v) e h)
+    after_value v from t lo (lo + nodes_of v) (one n e ∷ []) lt (omega arith) (value_lands v from t lo lt)
+    (fresh_edge n (lo + nodes_of v) (lo + nodes_of v) e h)
 
 return_leaves : (gives : Bool) (n slot t : ℕ) → source (return_edge gives n slot t) ≡ Some n
 return_leaves true n slot t = refl
@@ -179,29 +223,37 @@ module _ (gives : Bool) (t : ℕ) where
   -- a statement and those behind it
   followed : (s : Statement) (ss : Statements) (from to brk con lo : ℕ) → from < lo →
       ((to : ℕ) (lo : ℕ) → from < lo → Fresh (Range from lo (lo + nodes_of_statement s)) (statement_blocks gives t s from to brk con lo)) →
-      ((from : ℕ) (lo : ℕ) → from < lo → Fresh (Range from lo (lo + nodes_of_statements ss)) (statements_blocks gives t ss from to brk con lo)) →
+      ((from : ℕ) (lo : ℕ) → from < lo → Fresh (Range from lo (lo + nodes_of_statements ss)) (statements_blocks gives t ss from to brk con
+      lo)) →
       Fresh (Range from lo (lo + nodes_of_statements (statement s ss))) (statements_blocks gives t (statement s ss) from to brk con lo)
   followed s no_statements from to brk con lo lt first rest =
       let xs = statement_blocks gives t s from to brk con (lo + 0) in
       fresh_same (Range from lo (lo + nodes_of_statements (statement s no_statements))) (xs ++ []) xs (append_none xs)
-      (fresh_within from (lo + 0) (lo + 0 + nodes_of_statement s) lo (lo + nodes_of_statements (statement s no_statements)) xs (omega arith) (omega arith) (first to (lo + 0) (omega arith)))
+      (fresh_within from (lo + 0) (lo + 0 + nodes_of_statement s) lo (lo + nodes_of_statements (statement s no_statements)) xs (omega arith)
+      (omega arith) (first to (lo + 0) (omega arith)))
   followed s (statement r ss) from to brk con lo lt first rest =
       let k = lo + 1 + nodes_of_statement s in
       let hi = k + nodes_of_statements (statement r ss) in
-      fresh_then from lo (lo + nodes_of_statements (statement s (statement r ss))) (lo + 1) k lo k hi (statement_blocks gives t s from lo brk con (lo + 1)) (statements_blocks gives t (statement r ss) lo to brk con k)
-      lt (omega arith) (omega arith) (omega arith) (omega arith) (omega arith) (omega arith) (first lo (lo + 1) (omega arith)) (rest lo k (omega arith))
+      fresh_then from lo (lo + nodes_of_statements (statement s (statement r ss))) (lo + 1) k lo k hi
+      (statement_blocks gives t s from lo brk con (lo + 1)) (statements_blocks gives t (statement r ss) lo to brk con k)
+      lt (omega arith) (omega arith) (omega arith) (omega arith) (omega arith) (omega arith) (first lo (lo + 1) (omega arith))
+      (rest lo k (omega arith))
 
-  in_block : (ss : Statements) (from to brk con lo : ℕ) → Fresh (Range from lo (lo + nodes_of_statements ss)) (statements_blocks gives t ss from to brk con lo) → Fresh (Range from lo (lo + nodes_of_statements ss)) (statement_blocks gives t (block ss) from to brk con lo)
+  in_block : (ss : Statements) (from to brk con lo : ℕ) → Fresh (Range from lo (lo + nodes_of_statements ss))
+      (statements_blocks gives t ss from to brk con lo) → Fresh (Range from lo (lo + nodes_of_statements ss))
+      (statement_blocks gives t (block ss) from to brk con lo)
   in_block no_statements from to brk con lo x = fresh_edge from lo (lo + 0) (Guard from to (record { atoms = [] })) refl
   in_block (statement s ss) from to brk con lo x = x
 
   mutual
-    pub statement_fresh : (s : Statement) (from to brk con lo : ℕ) → from < lo → Fresh (Range from lo (lo + nodes_of_statement s)) (statement_blocks gives t s from to brk con lo)
+    pub statement_fresh : (s : Statement) (from to brk con lo : ℕ) → from < lo → Fresh (Range from lo (lo + nodes_of_statement s))
+        (statement_blocks gives t s from to brk con lo)
     statement_fresh (block ss) from to brk con lo lt = in_block ss from to brk con lo (statements_fresh ss from to brk con lo lt)
     statement_fresh (set x e) from to brk con lo lt =
         let n = landing (value_of e) from lo in
         value_edge (value_of e) from t lo (Assign n to x (operand_lin (operand_at (value_of e) t))) lt refl
-    statement_fresh (ignore e) from to brk con lo lt = value_edge (value_of e) from t lo (Guard (landing (value_of e) from lo) to (record { atoms = [] })) lt refl
+    statement_fresh (ignore e) from to brk con lo lt = value_edge (value_of e) from t lo
+        (Guard (landing (value_of e) from lo) to (record { atoms = [] })) lt refl
     statement_fresh (assume e) from to brk con lo lt = test_fresh (test_of e) from (Node to) Nowhere t lo lt
     statement_fresh (assert id e) from to brk con lo lt = test_fresh (test_of e) from (Node to) (Fails id) t lo lt
     statement_fresh (if_else e a b) from to brk con lo lt =
@@ -233,22 +285,27 @@ module _ (gives : Bool) (t : ℕ) where
     statement_fresh (do_while body e) from to brk con lo lt =
         let k = lo + 1 + nodes_of_statement body in
         let hi = k + nodes_of_test (test_of e) in
-        fresh_then from lo (lo + nodes_of_statement (do_while body e)) (lo + 1) k lo k hi (statement_blocks gives t body from lo to lo (lo + 1)) (test_blocks (test_of e) lo (Node from) (Node to) t k)
+        fresh_then from lo (lo + nodes_of_statement (do_while body e)) (lo + 1) k lo k hi
+        (statement_blocks gives t body from lo to lo (lo + 1))
+        (test_blocks (test_of e) lo (Node from) (Node to) t k)
         lt (omega arith) (omega arith) (omega arith) (omega arith) (omega arith) (omega arith)
         (statement_fresh body from lo to lo (lo + 1) (omega arith))
         (test_fresh (test_of e) lo (Node from) (Node to) t k (omega arith))
     statement_fresh break from to brk con lo lt = fresh_edge from lo (lo + 0) (Guard from brk (record { atoms = [] })) refl
     statement_fresh continue from to brk con lo lt = fresh_edge from lo (lo + 0) (Guard from con (record { atoms = [] })) refl
-    statement_fresh (return None) from to brk con lo lt = fresh_edge from lo (lo + 0) (Assign from return_node t (constant_lin (pos 0))) refl
+    statement_fresh (return None) from to brk con lo lt = fresh_edge from lo (lo + 0) (Assign from return_node t (constant_lin (pos 0)))
+        refl
     statement_fresh (return (Some e)) from to brk con lo lt =
         let n = landing (result_of e) from lo in
         let slot = argument_slot (result_of e) t in
         value_edge (result_of e) from t lo (return_edge gives n slot t) lt (return_leaves gives n slot t)
 
-    pub statements_fresh : (ss : Statements) (from to brk con lo : ℕ) → from < lo → Fresh (Range from lo (lo + nodes_of_statements ss)) (statements_blocks gives t ss from to brk con lo)
+    pub statements_fresh : (ss : Statements) (from to brk con lo : ℕ) → from < lo → Fresh (Range from lo (lo + nodes_of_statements ss))
+        (statements_blocks gives t ss from to brk con lo)
     statements_fresh no_statements from to brk con lo lt = fresh_none (Range from lo (lo + 0))
     statements_fresh (statement s ss) from to brk con lo lt =
-        followed s ss from to brk con lo lt (λ to lo lt. statement_fresh s from to brk con lo lt) (λ from lo lt. statements_fresh ss from to brk con lo lt)
+        followed s ss from to brk con lo lt (λ to lo lt. statement_fresh s from to brk con lo lt)
+        (λ from lo lt. statements_fresh ss from to brk con lo lt)
 
 at_entry : (to params : ℕ) (es : List Edge) (bs : List Block) → At es bs → At (Entry to params ∷ es) bs
 at_entry to params es [] h = tt
@@ -285,7 +342,8 @@ procedure_fresh p =
     fresh_both IsOwn (InBody p) (λ n. IsOwn n ⊎ InBody p n) (first ∷ end ∷ last ∷ []) body (λ n h. inl h) (λ n h. inr h) (own_apart p)
     (fresh_both (λ n. n ≡ entry_node) IsLast IsOwn (first ∷ []) (end ∷ last ∷ []) (λ n h. inl h) (λ n h. inr h) entry_apart
     (fresh_block entry_node first.edges (refl, tt))
-    (fresh_both (λ n. n ≡ end_node) (λ n. n ≡ return_node) IsLast (end ∷ []) (last ∷ []) (λ n h. inl h) (λ n h. inr h) (λ n h k. omega arith)
+    (fresh_both (λ n. n ≡ end_node) (λ n. n ≡ return_node) IsLast (end ∷ []) (last ∷ []) (λ n h. inl h) (λ n h. inr h)
+    (λ n h k. omega arith)
     (fresh_block end_node end.edges (refl, tt))
     (fresh_block return_node last.edges (refl, tt))))
     (statement_fresh p.gives p.slots (block p.body) body_node end_node end_node end_node first_free (omega arith))

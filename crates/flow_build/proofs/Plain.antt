@@ -31,11 +31,14 @@ constant_side Or a b h = tt
 
 module _ (P : PureProgram) (slots : ℕ) where
   mutual
-    pub expression_plain : (e : Expression) → IsTrue (is_well_scoped P slots e) → IsTrue (is_linear e) → IsTrue (literals_fit e) → IsPlain slots e
+    pub expression_plain : (e : Expression) → IsTrue (is_well_scoped P slots e) → IsTrue (is_linear e) → IsTrue (literals_fit e) →
+        IsPlain slots e
     expression_plain (literal n) s l f = f
     expression_plain (read x) s l f = ltb-true x slots s
     expression_plain input s l f = tt
-    expression_plain (call p es) s l f = arguments_plain es (and_both (takes (slice_get P.procedures p) (count es) && not_bool (p == P.main)) (are_well_scoped P slots es) s).1 l f
+    expression_plain (call p es) s l f = arguments_plain es
+        (and_both (takes (slice_get P.procedures p) (count es) && not_bool (p == P.main))
+        (are_well_scoped P slots es) s).1 l f
     expression_plain (negate e) s l f = expression_plain e s l f
     expression_plain (not_of e) s l f = expression_plain e s l f
     expression_plain (binary op a b) s l f =
@@ -45,7 +48,8 @@ module _ (P : PureProgram) (slots : ℕ) where
         let fits = and_both (literals_fit a) (literals_fit b) f in
         (constant_side op a b side.0, expression_plain a sound.0 side.1 fits.0, expression_plain b sound.1 linear.1 fits.1)
 
-    pub arguments_plain : (es : Expressions) → IsTrue (are_well_scoped P slots es) → IsTrue (are_linear es) → IsTrue (all_literals_fit es) → ArePlain slots es
+    pub arguments_plain : (es : Expressions) → IsTrue (are_well_scoped P slots es) → IsTrue (are_linear es) → IsTrue (all_literals_fit es) →
+        ArePlain slots es
     arguments_plain no_expressions s l f = tt
     arguments_plain (expression e es) s l f =
         let sound = and_both (is_well_scoped P slots e) (are_well_scoped P slots es) s in
@@ -53,14 +57,17 @@ module _ (P : PureProgram) (slots : ℕ) where
         let fits = and_both (literals_fit e) (all_literals_fit es) f in
         (expression_plain e sound.0 linear.0 fits.0, arguments_plain es sound.1 linear.1 fits.1)
 
-  result_plain : (o : Option Expression) → IsTrue (returns_well_scoped P slots o) → IsTrue (returns_linear o) → IsTrue (result_literals_fit o) → IsPlainResult slots o
+  result_plain : (o : Option Expression) → IsTrue (returns_well_scoped P slots o) → IsTrue (returns_linear o) →
+      IsTrue (result_literals_fit o) → IsPlainResult slots o
   result_plain None s l f = tt
   result_plain (Some e) s l f = expression_plain e s l f
 
   mutual
-    pub statement_plain : (in_loop : Bool) (a : Statement) → IsTrue (runs_well_scoped P slots in_loop a) → IsTrue (runs_linear a) → IsTrue (statement_literals_fit a) → RunsPlain slots a
+    pub statement_plain : (in_loop : Bool) (a : Statement) → IsTrue (runs_well_scoped P slots in_loop a) → IsTrue (runs_linear a) →
+        IsTrue (statement_literals_fit a) → RunsPlain slots a
     statement_plain b (block ss) s l f = statements_plain b ss s l f
-    statement_plain b (set x e) s l f = let sound = and_both (nat_lt x slots) (is_well_scoped P slots e) s in (ltb-true x slots sound.0, expression_plain e sound.1 l f)
+    statement_plain b (set x e) s l f = let sound = and_both (nat_lt x slots) (is_well_scoped P slots e) s in
+        (ltb-true x slots sound.0, expression_plain e sound.1 l f)
     statement_plain b (ignore e) s l f = expression_plain e s l f
     statement_plain b (assume e) s l f = expression_plain e s l f
     statement_plain b (assert id e) s l f = expression_plain e (and_both _ (is_well_scoped P slots e) s).1 l f
@@ -89,7 +96,8 @@ module _ (P : PureProgram) (slots : ℕ) where
     statement_plain b continue s l f = tt
     statement_plain b (return o) s l f = result_plain o s l f
 
-    pub statements_plain : (in_loop : Bool) (ss : Statements) → IsTrue (all_well_scoped P slots in_loop ss) → IsTrue (all_linear ss) → IsTrue (statements_literals_fit ss) → AllPlain slots ss
+    pub statements_plain : (in_loop : Bool) (ss : Statements) → IsTrue (all_well_scoped P slots in_loop ss) → IsTrue (all_linear ss) →
+        IsTrue (statements_literals_fit ss) → AllPlain slots ss
     statements_plain b no_statements s l f = tt
     statements_plain b (statement a ss) s l f =
         let sound = and_both (runs_well_scoped P slots b a) (all_well_scoped P slots b ss) s in
@@ -106,7 +114,8 @@ pub record Kept (P : PureProgram) (p : PureProcedure) : Type 0 where
 
 pub kept : (P : PureProgram) (p : PureProcedure) → IsTrue (is_well_formed_procedure P p) → Kept P p
 kept P p h =
-    let a = and_both (nat_le p.params 8 && nat_le p.params p.slots && nat_le p.slots 24 && all_well_scoped P p.slots false p.body) (nat_le (statements_nodes p.body) 8000) h in
+    let a = and_both (nat_le p.params 8 && nat_le p.params p.slots && nat_le p.slots 24 && all_well_scoped P p.slots false p.body)
+    (nat_le (statements_nodes p.body) 8000) h in
     let b = and_both (nat_le p.params 8 && nat_le p.params p.slots && nat_le p.slots 24) (all_well_scoped P p.slots false p.body) a.0 in
     let c = and_both (nat_le p.params 8 && nat_le p.params p.slots) (nat_le p.slots 24) b.0 in
     let d = and_both (nat_le p.params 8) (nat_le p.params p.slots) c.0 in
@@ -117,7 +126,8 @@ kept P p h =
       few_nodes = leb-true (statements_nodes p.body) 8000 a.1;
     }
 
-pub body_plain : (P : PureProgram) (p : PureProcedure) → IsTrue (is_well_formed_procedure P p) → IsTrue (all_linear p.body) → IsTrue (statements_literals_fit p.body) → AllPlain p.slots p.body
+pub body_plain : (P : PureProgram) (p : PureProcedure) → IsTrue (is_well_formed_procedure P p) → IsTrue (all_linear p.body) →
+    IsTrue (statements_literals_fit p.body) → AllPlain p.slots p.body
 body_plain P p s l f = statements_plain P p.slots false p.body (kept P p s).sound l f
 
 pub slots_are : (s k free : ℕ) → free ≡ s + k → max free (s + 1) ≡ s + max 1 k

@@ -15,7 +15,7 @@ use Rattle.flow_build.specs.steps.Operands.{rows_where, opposite_op, constant_li
 use Rattle.flow_build.specs.steps.Blocks.{Block, edges_of, one, way, ways, end_node, body_node, first_free}
 use Rattle.flow_build.specs.steps.Lowering.{operand_at, landing, nodes_of, nodes_of_all, nodes_of_test, slots_of, slots_of_all, slots_of_test, argument_slots, landing_of_all, value_blocks, values_blocks, test_blocks, between, nodes_between, result_of, nodes_of_statement, nodes_of_statements, slots_of_statement, slots_of_statements, return_edge, argument_slot, statement_blocks, statements_blocks}
 use Rattle.flow_build.specs.steps.Procedures.{procedure_edges, nodes_of_procedure, slots_of_procedure}
-use Rattle.flow_build.proofs.Fresh.{edges-append}
+use Rattle.flow_build.proofs.Fresh.{edges_append}
 use Rattle.flow_build.proofs.Weights.{weight, weight_all, weight_test, some_times, kept_if_few, few_values, nodes_weigh_all, slots_weigh_all, few_value, few_test, few_result, nodes_weigh, nodes_weigh_test, slots_weigh, slots_weigh_test}
 
 -- how many edges the blocks have
@@ -23,7 +23,7 @@ abbrev pub size : List Block → ℕ
 size bs = length (edges_of bs)
 
 size-append : (xs ys : List Block) → size (xs ++ ys) ≡ size xs + size ys
-size-append xs ys = ap length (edges-append xs ys) ∙ length-append (edges_of xs) (edges_of ys)
+size-append xs ys = ap length (edges_append xs ys) ∙ length-append (edges_of xs) (edges_of ys)
 
 one_way : (n : ℕ) (target : Target) (rows : List Atom) → length (way n target rows) ≤ 1
 one_way n (Node to) rows = omega arith
@@ -52,7 +52,8 @@ few_rows And a b = omega arith
 few_rows Or a b = omega arith
 
 -- the edges behind a comparison
-few_sides : (op : Op) (a b : Operand) (n : ℕ) (met unmet : Target) → size (record { node = n; edges = ways n met (rows_where op a b) ++ ways n unmet (rows_where (opposite_op op) a b) } ∷ []) ≤ 3
+few_sides : (op : Op) (a b : Operand) (n : ℕ) (met unmet : Target) →
+    size (record { node = n; edges = ways n met (rows_where op a b) ++ ways n unmet (rows_where (opposite_op op) a b) } ∷ []) ≤ 3
 few_sides op a b n met unmet =
     let xs = ways n met (rows_where op a b) in
     let ys = ways n unmet (rows_where (opposite_op op) a b) in
@@ -103,7 +104,8 @@ mutual
       omega (arith, a, b, c, d)
   value_size (truth c) from t lo =
       let test = test_blocks c from (Node (lo + 1)) (Node (lo + 2)) (t + 1) (lo + 3) in
-      let a = size-append test (one (lo + 1) (Assign (lo + 1) lo t (constant_lin (pos 1))) ∷ one (lo + 2) (Assign (lo + 2) lo t (constant_lin (pos 0))) ∷ []) in
+      let a = size-append test (one (lo + 1) (Assign (lo + 1) lo t (constant_lin (pos 1)))
+      ∷ one (lo + 2) (Assign (lo + 2) lo t (constant_lin (pos 0))) ∷ []) in
       let b = test_size c from (Node (lo + 1)) (Node (lo + 2)) (t + 1) (lo + 3) in
       omega (arith, a, b)
 
@@ -145,34 +147,44 @@ mutual
       omega (arith, a, b, e)
 
 pub value_edges : (e : Expression) (from t lo : ℕ) → size (value_blocks (value_of e) from t lo) ≤ 5 * nodes e
-value_edges e from t lo = let a = value_size (value_of e) from t lo in let b = few_value 2 3 0 5 (omega arith) (omega arith) (omega arith) (omega arith) e in omega (arith, a, b)
+value_edges e from t lo = let a = value_size (value_of e) from t lo in let b = few_value 2 3 0 5 (omega arith) (omega arith) (omega arith)
+    (omega arith) e in omega (arith, a, b)
 
 pub kept_edges : (b : Bool) (e : Expression) (from t lo : ℕ) → size (value_blocks (kept_if b (value_of e)) from t lo) ≤ 5 * nodes e
 kept_edges b e from t lo =
     let v = value_of e in
     let a = value_size (kept_if b v) from t lo in
     let some = some_times 2 3 0 5 (omega arith) (omega arith) (omega arith) (omega arith) e in
-    let few = kept_if_few 2 3 0 5 (omega arith) (omega arith) (omega arith) (omega arith) b v (5 * nodes e) some (few_value 2 3 0 5 (omega arith) (omega arith) (omega arith) (omega arith) e) in
+    let few = kept_if_few 2 3 0 5 (omega arith) (omega arith) (omega arith) (omega arith) b v (5 * nodes e) some
+    (few_value 2 3 0 5 (omega arith) (omega arith) (omega arith) (omega arith) e) in
     omega (arith, a, few)
 
 pub values_edges : (es : Expressions) (from t lo : ℕ) → size (values_blocks (values_of es) from t lo) ≤ 5 * nodes_all es
-values_edges es from t lo = let a = values_size (values_of es) from t lo in let b = few_values 2 3 0 5 (omega arith) (omega arith) (omega arith) (omega arith) es in omega (arith, a, b)
+values_edges es from t lo = let a = values_size (values_of es) from t lo in let b = few_values 2 3 0 5 (omega arith) (omega arith)
+    (omega arith) (omega arith) es in omega (arith, a, b)
 
 pub result_edges : (e : Expression) (from t lo : ℕ) → size (value_blocks (result_of e) from t lo) ≤ 5 * nodes e
-result_edges e from t lo = let a = value_size (result_of e) from t lo in let b = few_result 2 3 0 5 (omega arith) (omega arith) (omega arith) (omega arith) e in omega (arith, a, b)
+result_edges e from t lo = let a = value_size (result_of e) from t lo in let b = few_result 2 3 0 5 (omega arith) (omega arith)
+    (omega arith)
+    (omega arith) e in omega (arith, a, b)
 
-pub test_edges : (e : Expression) (from : ℕ) (met unmet : Target) (t lo : ℕ) → size (test_blocks (test_of e) from met unmet t lo) ≤ 5 * nodes e
-test_edges e from met unmet t lo = let a = test_size (test_of e) from met unmet t lo in let b = few_test 2 3 0 5 (omega arith) (omega arith) (omega arith) (omega arith) e in omega (arith, a, b)
+pub test_edges : (e : Expression) (from : ℕ) (met unmet : Target) (t lo : ℕ) → size (test_blocks (test_of e) from met unmet t lo) ≤ 5 *
+    nodes e
+test_edges e from met unmet t lo = let a = test_size (test_of e) from met unmet t lo in let b = few_test 2 3 0 5 (omega arith) (omega arith)
+    (omega arith) (omega arith) e in omega (arith, a, b)
 
 -- the edges of statements
 module _ (gives : Bool) (t : ℕ) where
-  in_block : (ss : Statements) (from to brk con lo n : ℕ) → size (statements_blocks gives t ss from to brk con lo) ≤ n → size (statement_blocks gives t (block ss) from to brk con lo) ≤ 1 + n
+  in_block : (ss : Statements) (from to brk con lo n : ℕ) → size (statements_blocks gives t ss from to brk con lo) ≤ n →
+      size (statement_blocks gives t (block ss) from to brk con lo) ≤ 1 + n
   in_block no_statements from to brk con lo n h = omega arith
   in_block (statement s ss) from to brk con lo n h = omega arith
 
   mutual
-    pub statement_edges : (s : Statement) (from to brk con lo : ℕ) → size (statement_blocks gives t s from to brk con lo) ≤ 5 * statement_nodes s
-    statement_edges (block ss) from to brk con lo = let a = in_block ss from to brk con lo (5 * statements_nodes ss) (statements_edges ss from to brk con lo) in omega (arith, a)
+    pub statement_edges : (s : Statement) (from to brk con lo : ℕ) → size (statement_blocks gives t s from to brk con lo) ≤ 5 *
+        statement_nodes s
+    statement_edges (block ss) from to brk con lo = let a = in_block ss from to brk con lo (5 * statements_nodes ss)
+        (statements_edges ss from to brk con lo) in omega (arith, a)
     statement_edges (set x e) from to brk con lo =
         let n = landing (value_of e) from lo in
         let a = size-append (value_blocks (value_of e) from t lo) (one n (Assign n to x (operand_lin (operand_at (value_of e) t))) ∷ []) in
@@ -222,42 +234,52 @@ module _ (gives : Bool) (t : ℕ) where
         let b = result_edges e from t lo in
         omega (arith, a, b)
 
-    pub statements_edges : (ss : Statements) (from to brk con lo : ℕ) → size (statements_blocks gives t ss from to brk con lo) ≤ 5 * statements_nodes ss
+    pub statements_edges : (ss : Statements) (from to brk con lo : ℕ) → size (statements_blocks gives t ss from to brk con lo) ≤ 5 *
+        statements_nodes ss
     statements_edges no_statements from to brk con lo = omega arith
     statements_edges (statement s ss) from to brk con lo =
         let m = between ss to lo in
         let l = lo + nodes_between ss in
-        let p = size-append (statement_blocks gives t s from m brk con l) (statements_blocks gives t ss m to brk con (l + nodes_of_statement s)) in
+        let p = size-append (statement_blocks gives t s from m brk con l)
+        (statements_blocks gives t ss m to brk con (l + nodes_of_statement s))
+        in
         let x = statement_edges s from m brk con l in
         let y = statements_edges ss m to brk con (l + nodes_of_statement s) in
         omega (arith, p, x, y)
 
 pub procedure_size : (p : PureProcedure) → length (procedure_edges p) ≤ 16 * statements_nodes p.body + 32
-procedure_size p = let a = statement_edges p.gives p.slots (block p.body) body_node end_node end_node end_node first_free in omega (arith, a)
+procedure_size p = let a = statement_edges p.gives p.slots (block p.body) body_node end_node end_node end_node first_free in
+    omega (arith, a)
 
 -- the nodes of expressions and statements
 
 pub value_nodes : (e : Expression) → nodes_of (value_of e) ≤ 4 * nodes e
-value_nodes e = let a = nodes_weigh (value_of e) in let b = few_value 3 0 1 4 (omega arith) (omega arith) (omega arith) (omega arith) e in omega (arith, a, b)
+value_nodes e = let a = nodes_weigh (value_of e) in let b = few_value 3 0 1 4 (omega arith) (omega arith) (omega arith) (omega arith) e in
+    omega (arith, a, b)
 
 pub kept_nodes : (b : Bool) (e : Expression) → nodes_of (kept_if b (value_of e)) ≤ 4 * nodes e
 kept_nodes b e =
     let v = value_of e in
     let a = nodes_weigh (kept_if b v) in
     let some = some_times 3 0 1 4 (omega arith) (omega arith) (omega arith) (omega arith) e in
-    let few = kept_if_few 3 0 1 4 (omega arith) (omega arith) (omega arith) (omega arith) b v (4 * nodes e) some (few_value 3 0 1 4 (omega arith) (omega arith) (omega arith) (omega arith) e) in
+    let few = kept_if_few 3 0 1 4 (omega arith) (omega arith) (omega arith) (omega arith) b v (4 * nodes e) some
+    (few_value 3 0 1 4 (omega arith) (omega arith) (omega arith) (omega arith) e) in
     omega (arith, a, few)
 
 pub values_nodes : (es : Expressions) → nodes_of_all (values_of es) ≤ 4 * nodes_all es
-values_nodes es = let a = nodes_weigh_all (values_of es) in let b = few_values 3 0 1 4 (omega arith) (omega arith) (omega arith) (omega arith) es in omega (arith, a, b)
+values_nodes es = let a = nodes_weigh_all (values_of es) in let b = few_values 3 0 1 4 (omega arith) (omega arith) (omega arith)
+    (omega arith) es in omega (arith, a, b)
 
 pub result_nodes : (e : Expression) → nodes_of (result_of e) ≤ 4 * nodes e
-result_nodes e = let a = nodes_weigh (result_of e) in let b = few_result 3 0 1 4 (omega arith) (omega arith) (omega arith) (omega arith) e in omega (arith, a, b)
+result_nodes e = let a = nodes_weigh (result_of e) in let b = few_result 3 0 1 4 (omega arith) (omega arith) (omega arith) (omega arith) e
+    in
+    omega (arith, a, b)
 
 pub test_nodes : (e : Expression) → nodes_of_test (test_of e) ≤ 4 * nodes e
-test_nodes e = let a = nodes_weigh_test (test_of e) in let b = few_test 3 0 1 4 (omega arith) (omega arith) (omega arith) (omega arith) e in omega (arith, a, b)
+test_nodes e = let a = nodes_weigh_test (test_of e) in let b = few_test 3 0 1 4 (omega arith) (omega arith) (omega arith) (omega arith) e in
+    omega (arith, a, b)
 
-between_one : (ss : Statements) → nodes_between ss ≤ 1
+pub between_one : (ss : Statements) → nodes_between ss ≤ 1
 between_one no_statements = omega arith
 between_one (statement s ss) = omega arith
 
@@ -283,24 +305,30 @@ mutual
 -- their slots
 
 pub value_slots : (e : Expression) → slots_of (value_of e) ≤ nodes e
-value_slots e = let a = slots_weigh (value_of e) in let b = few_value 1 0 0 1 (omega arith) (omega arith) (omega arith) (omega arith) e in omega (arith, a, b)
+value_slots e = let a = slots_weigh (value_of e) in let b = few_value 1 0 0 1 (omega arith) (omega arith) (omega arith) (omega arith) e in
+    omega (arith, a, b)
 
 pub kept_slots : (b : Bool) (e : Expression) → slots_of (kept_if b (value_of e)) ≤ nodes e
 kept_slots b e =
     let v = value_of e in
     let a = slots_weigh (kept_if b v) in
     let some = some_times 1 0 0 1 (omega arith) (omega arith) (omega arith) (omega arith) e in
-    let few = kept_if_few 1 0 0 1 (omega arith) (omega arith) (omega arith) (omega arith) b v (1 * nodes e) some (few_value 1 0 0 1 (omega arith) (omega arith) (omega arith) (omega arith) e) in
+    let few = kept_if_few 1 0 0 1 (omega arith) (omega arith) (omega arith) (omega arith) b v (1 * nodes e) some
+    (few_value 1 0 0 1 (omega arith) (omega arith) (omega arith) (omega arith) e) in
     omega (arith, a, few)
 
 pub values_slots : (es : Expressions) → slots_of_all (values_of es) ≤ nodes_all es
-values_slots es = let a = slots_weigh_all (values_of es) in let b = few_values 1 0 0 1 (omega arith) (omega arith) (omega arith) (omega arith) es in omega (arith, a, b)
+values_slots es = let a = slots_weigh_all (values_of es) in let b = few_values 1 0 0 1 (omega arith) (omega arith) (omega arith)
+    (omega arith) es in omega (arith, a, b)
 
 pub result_slots : (e : Expression) → slots_of (result_of e) ≤ nodes e
-result_slots e = let a = slots_weigh (result_of e) in let b = few_result 1 0 0 1 (omega arith) (omega arith) (omega arith) (omega arith) e in omega (arith, a, b)
+result_slots e = let a = slots_weigh (result_of e) in let b = few_result 1 0 0 1 (omega arith) (omega arith) (omega arith) (omega arith) e
+    in
+    omega (arith, a, b)
 
 pub test_slots : (e : Expression) → slots_of_test (test_of e) ≤ nodes e
-test_slots e = let a = slots_weigh_test (test_of e) in let b = few_test 1 0 0 1 (omega arith) (omega arith) (omega arith) (omega arith) e in omega (arith, a, b)
+test_slots e = let a = slots_weigh_test (test_of e) in let b = few_test 1 0 0 1 (omega arith) (omega arith) (omega arith) (omega arith) e in
+    omega (arith, a, b)
 
 mutual
   pub few_slots : (s : Statement) → slots_of_statement s ≤ statement_nodes s

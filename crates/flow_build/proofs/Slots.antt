@@ -1,5 +1,5 @@
 -- Slots and values.
-use Rattle.std.proofs.Common.{◌≡◌, ℕ, zero, suc, ◌+◌, ◌<◌, ◌≤◌, List, [], ◌∷◌, Bool, true, false, cond, eqb, ℤ, pos, ◌+ℤ◌, ◌-ℤ◌, ◌*ℤ◌, IsTrue, refl, ap, ◌∙◌, arith, map, get_or}
+use Rattle.std.proofs.Common.{◌≡◌, ℕ, ◌+◌, ◌<◌, ◌≤◌, true, false, cond, eqb, ℤ, ◌+ℤ◌, ◌-ℤ◌, ◌*ℤ◌, IsTrue, refl, ap, ◌∙◌, arith}
 use Rattle.std.proofs.lemmas.Int.{ints}
 use Rattle.std.proofs.lemmas.Bool.{eq-eqb, ne_eqb}
 use Rattle.c_tree.specs.Meaning.{State, with_slot, is_value}
@@ -35,6 +35,10 @@ keeps_with t x s v le = record { each = λ y lt. slot_other s x y v (λ q. omega
 pub keeps_on : (t u : ℕ) (a b c : State) → t ≤ u → Keeps t a b → Keeps u b c → Keeps t a c
 keeps_on t u a b c le h k = record { each = λ x lt. k.each x (omega arith) ∙ h.each x lt }
 
+-- slots below a lower one stay, too
+pub keeps_lower : (t u : ℕ) (a b : State) → t ≤ u → Keeps u a b → Keeps t a b
+keeps_lower t u a b le k = keeps_on t u a a b le (keeps_all t a) k
+
 pub matches_on : (vars t : ℕ) (a b s : State) → vars ≤ t → Keeps t a b → Matches vars a s → Matches vars b s
 matches_on vars t a b s le k m = record { each = λ x lt. k.each x (omega arith) ∙ m.each x lt }
 
@@ -69,7 +73,8 @@ difference_is σ (Constant n) (Variable y) = omega (arith, ints)
 difference_is σ (Constant n) (Constant m) = omega (arith, ints)
 
 -- A value's operand stays while slots above it change.
-pub operand_kept : (vars t : ℕ) (v : Value) (σ σ' : State) → vars ≤ t → FitsValue vars v → Keeps (t + slots_of v) σ σ' → operand_value σ' (operand_at v t) ≡ operand_value σ (operand_at v t)
+pub operand_kept : (vars t : ℕ) (v : Value) (σ σ' : State) → vars ≤ t → FitsValue vars v → Keeps (t + slots_of v) σ σ' →
+    operand_value σ' (operand_at v t) ≡ operand_value σ (operand_at v t)
 operand_kept vars t (literal false n) σ σ' le fits k = refl
 operand_kept vars t (literal true n) σ σ' le fits k = k.each t (omega arith)
 operand_kept vars t (read false x) σ σ' le fits k = k.each x (omega arith)
@@ -82,7 +87,8 @@ operand_kept vars t (difference v u) σ σ' le fits k = k.each t (omega arith)
 operand_kept vars t (truth c) σ σ' le fits k = k.each t (omega arith)
 
 -- An operand has a value.
-pub operand_has : (vars t : ℕ) (v : Value) (σ : State) → FitsValue vars v → AreValues σ → IsTrue (is_value (operand_value σ (operand_at v t)))
+pub operand_has : (vars t : ℕ) (v : Value) (σ : State) → FitsValue vars v → AreValues σ →
+    IsTrue (is_value (operand_value σ (operand_at v t)))
 operand_has vars t (literal false n) σ fits h = fits
 operand_has vars t (literal true n) σ fits h = h t
 operand_has vars t (read false x) σ fits h = h x

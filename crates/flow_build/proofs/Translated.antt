@@ -9,7 +9,7 @@ use Rattle.c_tree.specs.WellFormed.{is_constant}
 use Rattle.c_tree.specs.Operators.{is_arithmetic}
 use Rattle.c_tree.specs.declared.tree.Op.{Op}
 use Rattle.c_tree.specs.declared.tree.Op.TheVariants.{Add, Subtract, Multiply, Less, LessEqual, Greater, GreaterEqual, Equal, Unequal, And, Or}
-use Rattle.flow_build.specs.steps.Forms.{Value, Values, no_values, value, Test, compare, opposite, both, either}
+use Rattle.flow_build.specs.steps.Forms.{Value, Test, opposite, both, either}
 use Rattle.flow_build.specs.steps.Forms as form
 use Rattle.flow_build.specs.Constants.{operation_of, negation_of, constant_value}
 use Rattle.flow_build.specs.steps.Translation.{has_call, have_call, kept, kept_if, in_slot, overflows_by, scaled, overflows, added, subtracted, multiplied, compared, nonzero, value_by, test_by, value_of, values_of, test_of}
@@ -112,7 +112,8 @@ module _ (vars : ℕ) where
   multiplied_fits None (Some c) l v u h k = scaled_fits c v h
   multiplied_fits None None l v u h k = added_fits l v u h k
 
-  value_by_fits : (op : Op) (a b : Option ℤ) (l : Bool) (v u : Value) (c d : Test) → FitsValue vars v → FitsValue vars u → FitsTest vars c → FitsTest vars d → FitsValue vars (value_by op a b l v u c d)
+  value_by_fits : (op : Op) (a b : Option ℤ) (l : Bool) (v u : Value) (c d : Test) → FitsValue vars v → FitsValue vars u → FitsTest vars c →
+      FitsTest vars d → FitsValue vars (value_by op a b l v u c d)
   value_by_fits Add a b l v u c d h k i j = added_fits l v u h k
   value_by_fits Subtract a b l v u c d h k i j = subtracted_fits l v u h k
   value_by_fits Multiply a b l v u c d h k i j = multiplied_fits a b l v u h k
@@ -128,7 +129,8 @@ module _ (vars : ℕ) where
   nonzero_fits : (v : Value) → FitsValue vars v → FitsTest vars (nonzero v)
   nonzero_fits v h = (refl, h, refl)
 
-  test_by_fits : (op : Op) (a b : Option ℤ) (l : Bool) (v u : Value) (c d : Test) → FitsValue vars v → FitsValue vars u → FitsTest vars c → FitsTest vars d → FitsTest vars (test_by op a b l v u c d)
+  test_by_fits : (op : Op) (a b : Option ℤ) (l : Bool) (v u : Value) (c d : Test) → FitsValue vars v → FitsValue vars u → FitsTest vars c →
+      FitsTest vars d → FitsTest vars (test_by op a b l v u c d)
   test_by_fits Add a b l v u c d h k i j = nonzero_fits (added l v u) (added_fits l v u h k)
   test_by_fits Subtract a b l v u c d h k i j = nonzero_fits (subtracted l v u) (subtracted_fits l v u h k)
   test_by_fits Multiply a b l v u c d h k i j = nonzero_fits (multiplied a b l v u) (multiplied_fits a b l v u h k)
@@ -150,7 +152,8 @@ module _ (vars : ℕ) where
     value_fits (negate e) h = scaled_fits (negsuc 0) (value_of e) (value_fits e h)
     value_fits (not_of e) h = test_fits e h
     value_fits (binary op a b) h =
-        value_by_fits op (constant_value a) (constant_value b) (has_call b) (value_of a) (value_of b) (test_of a) (test_of b) (value_fits a h.1) (value_fits b h.2) (test_fits a h.1) (test_fits b h.2)
+        value_by_fits op (constant_value a) (constant_value b) (has_call b) (value_of a) (value_of b) (test_of a) (test_of b)
+        (value_fits a h.1) (value_fits b h.2) (test_fits a h.1) (test_fits b h.2)
 
     pub values_fit : (es : Expressions) → ArePlain es → FitsValues vars (values_of es)
     values_fit no_expressions h = tt
@@ -166,7 +169,8 @@ module _ (vars : ℕ) where
     test_fits (negate e) h = nonzero_fits (scaled (negsuc 0) (value_of e)) (scaled_fits (negsuc 0) (value_of e) (value_fits e h))
     test_fits (not_of e) h = test_fits e h
     test_fits (binary op a b) h =
-        test_by_fits op (constant_value a) (constant_value b) (has_call b) (value_of a) (value_of b) (test_of a) (test_of b) (value_fits a h.1) (value_fits b h.2) (test_fits a h.1) (test_fits b h.2)
+        test_by_fits op (constant_value a) (constant_value b) (has_call b) (value_of a) (value_of b) (test_of a) (test_of b)
+        (value_fits a h.1) (value_fits b h.2) (test_fits a h.1) (test_fits b h.2)
 
   pub result_fits : (e : Expression) → IsPlain e → FitsValue vars (result_of e)
   result_fits e h = in_slot_fits (value_of e) (value_fits e h)
@@ -228,7 +232,8 @@ module _ (vars : ℕ) where
       back = λ w o h. (ends w stopped, refl, h);
     }
 
-    constant_then : (x : Option ℤ) (Q : ℤ → Relation ℤ) (f : ℤ → Option ℤ) → ((z : ℤ) → Same (Q z) (Constant (f z))) → Same (Then (Constant x) Q) (Constant (option_and_then f x))
+    constant_then : (x : Option ℤ) (Q : ℤ → Relation ℤ) (f : ℤ → Option ℤ) → ((z : ℤ) → Same (Q z) (Constant (f z))) →
+        Same (Then (Constant x) Q) (Constant (option_and_then f x))
     constant_then (Some c) Q f h = through (Then (Gives c) Q) (Q c) (Constant (f c)) (gives_then c Q) (h c)
     constant_then None Q f h = ends_then Q
 
@@ -246,7 +251,8 @@ module _ (vars : ℕ) where
     operated Or h x y = absurd cc
 
     -- an operation whose right side is always evaluated
-    plain_binary : (op : Op) → is_arithmetic op ≡ true → (a b : Expression) (s : State) → Same (E (binary op a b) s) (Then (E a s) (λ x. Then (E b s) (Applied op x)))
+    plain_binary : (op : Op) → is_arithmetic op ≡ true → (a b : Expression) (s : State) → Same (E (binary op a b) s)
+        (Then (E a s) (λ x. Then (E b s) (Applied op x)))
     plain_binary Add h a b s = itself (E (binary Add a b) s)
     plain_binary Subtract h a b s = itself (E (binary Subtract a b) s)
     plain_binary Multiply h a b s = itself (E (binary Multiply a b) s)
@@ -285,7 +291,8 @@ module _ (vars : ℕ) where
     constant_same (negate e) s h =
         let S : Option ℤ → Type 0 = λ z. Same (E (negate e) s) (Constant z) in
         subst S (negated (constant_value e))
-        (through (E (negate e) s) (Then (Constant (constant_value e)) (λ v. ExactOrStopped (neg_ℤ v))) (Constant (option_and_then (λ z. exact (neg_ℤ z)) (constant_value e)))
+        (through (E (negate e) s) (Then (Constant (constant_value e)) (λ v. ExactOrStopped (neg_ℤ v)))
+        (Constant (option_and_then (λ z. exact (neg_ℤ z)) (constant_value e)))
         (first_same (E e s) (Constant (constant_value e)) (λ v. ExactOrStopped (neg_ℤ v)) (constant_same e s h))
         (constant_then (constant_value e) (λ v. ExactOrStopped (neg_ℤ v)) (λ z. exact (neg_ℤ z)) (λ z. exact_constant (neg_ℤ z))))
     constant_same (not_of e) s h = absurd cc
@@ -296,18 +303,24 @@ module _ (vars : ℕ) where
         let y = constant_value b in
         let S : Option ℤ → Type 0 = λ z. Same (E (binary op a b) s) (Constant z) in
         subst S (both_constant op x y)
-        (through (E (binary op a b) s) (Then (E a s) (λ u. Then (E b s) (Applied op u))) (Constant (option_and_then (λ u. option_and_then (operation op u) y) x))
+        (through (E (binary op a b) s) (Then (E a s) (λ u. Then (E b s) (Applied op u)))
+        (Constant (option_and_then (λ u. option_and_then (operation op u) y) x))
         (plain_binary op arithmetic a b s)
-        (through (Then (E a s) (λ u. Then (E b s) (Applied op u))) (Then (Constant x) (λ u. Then (Constant y) (Applied op u))) (Constant (option_and_then (λ u. option_and_then (operation op u) y) x))
-        (then_same (E a s) (Constant x) (λ u. Then (E b s) (Applied op u)) (λ u. Then (Constant y) (Applied op u)) (constant_same a s (and_right (is_arithmetic op) (is_constant a) ab))
-        (λ u. first_same (E b s) (Constant y) (Applied op u) (constant_same b s (and_right (is_arithmetic op && is_constant a) (is_constant b) h))))
-        (constant_then x (λ u. Then (Constant y) (Applied op u)) (λ u. option_and_then (operation op u) y) (λ u. constant_then y (Applied op u) (operation op u) (operated op arithmetic u)))))
+        (through (Then (E a s) (λ u. Then (E b s) (Applied op u))) (Then (Constant x) (λ u. Then (Constant y) (Applied op u)))
+        (Constant (option_and_then (λ u. option_and_then (operation op u) y) x))
+        (then_same (E a s) (Constant x) (λ u. Then (E b s) (Applied op u)) (λ u. Then (Constant y) (Applied op u))
+        (constant_same a s (and_right (is_arithmetic op) (is_constant a) ab))
+        (λ u. first_same (E b s) (Constant y) (Applied op u)
+        (constant_same b s (and_right (is_arithmetic op && is_constant a) (is_constant b) h))))
+        (constant_then x (λ u. Then (Constant y) (Applied op u)) (λ u. option_and_then (operation op u) y)
+        (λ u. constant_then y (Applied op u) (operation op u) (operated op arithmetic u)))))
 
     some_of_negation : (x : Option ℤ) (c : ℤ) → negation_of x ≡ Some c → (z : ℤ) × (x ≡ Some z)
     some_of_negation (Some z) c h = (z, refl)
     some_of_negation None c h = absurd cc
 
-    some_of_operation : (op : Op) (x y : Option ℤ) (c : ℤ) → operation_of op x y ≡ Some c → (z u : ℤ) × (x ≡ Some z) × (y ≡ Some u) × (operation op z u ≡ Some c)
+    some_of_operation : (op : Op) (x y : Option ℤ) (c : ℤ) → operation_of op x y ≡ Some c → (z u : ℤ) × (x ≡ Some z) × (y ≡ Some u)
+        × (operation op z u ≡ Some c)
     some_of_operation op (Some z) (Some u) c h = (z, u, refl, refl, h)
     some_of_operation op (Some z) None c h = absurd cc
     some_of_operation op None (Some u) c h = absurd cc
@@ -342,7 +355,8 @@ module _ (vars : ℕ) where
     value_constant (not_of e) c h = absurd cc
     value_constant (binary op a b) c h =
         let z = some_of_operation op (constant_value a) (constant_value b) c h in
-        all_three (is_arithmetic op) (is_constant a) (is_constant b) (arithmetic_of op z.0 z.1 c z.4) (value_constant a z.0 z.2) (value_constant b z.1 z.3)
+        all_three (is_arithmetic op) (is_constant a) (is_constant b) (arithmetic_of op z.0 z.1 c z.4) (value_constant a z.0 z.2)
+        (value_constant b z.1 z.3)
 
     known_same : (e : Expression) (s : State) (c : ℤ) → constant_value e ≡ Some c → Same (E e s) (Gives c)
     known_same e s c h = let S : Option ℤ → Type 0 = λ x. Same (E e s) (Constant x) in subst S h (constant_same e s (value_constant e c h))
@@ -356,21 +370,27 @@ module _ (vars : ℕ) where
 
     -- Operations
 
-    scaled_same : (c : ℤ) (v : Value) (s : State) (P : Relation ℤ) → Same P (Y v s) → Same (Then P (λ x. ExactOrStopped (c *ℤ x))) (Y (scaled c v) s)
+    scaled_same : (c : ℤ) (v : Value) (s : State) (P : Relation ℤ) → Same P (Y v s) → Same (Then P (λ x. ExactOrStopped (c *ℤ x)))
+        (Y (scaled c v) s)
     scaled_same c v s P h =
-        first_same P (Y (kept_if (overflows_by c v) v) s) (λ x. ExactOrStopped (c *ℤ x)) (through P (Y v s) (Y (kept_if (overflows_by c v) v) s) h (kept_if_same (overflows_by c v) v s))
+        first_same P (Y (kept_if (overflows_by c v) v) s) (λ x. ExactOrStopped (c *ℤ x))
+        (through P (Y v s) (Y (kept_if (overflows_by c v) v) s) h (kept_if_same (overflows_by c v) v s))
 
-    negated_same : (e : Expression) (s : State) → Same (E e s) (Y (value_of e) s) → Same (E (negate e) s) (Y (scaled (negsuc 0) (value_of e)) s)
+    negated_same : (e : Expression) (s : State) → Same (E e s) (Y (value_of e) s) →
+        Same (E (negate e) s) (Y (scaled (negsuc 0) (value_of e)) s)
     negated_same e s h =
         through (E (negate e) s) (Then (E e s) (λ x. ExactOrStopped (negsuc 0 *ℤ x))) (Y (scaled (negsuc 0) (value_of e)) s)
-        (next_same (E e s) (λ x. ExactOrStopped (neg_ℤ x)) (λ x. ExactOrStopped (negsuc 0 *ℤ x)) (λ x. exact_same (neg_ℤ x) (negsuc 0 *ℤ x) (omega (arith, ints))))
+        (next_same (E e s) (λ x. ExactOrStopped (neg_ℤ x)) (λ x. ExactOrStopped (negsuc 0 *ℤ x))
+        (λ x. exact_same (neg_ℤ x) (negsuc 0 *ℤ x) (omega (arith, ints))))
         (scaled_same (negsuc 0) (value_of e) s (E e s) h)
 
     -- both sides, the left one perhaps in a slot of its own
-    sides_same : {A : Type 0} (k : Bool) (v u : Value) (s : State) (P Q : Relation ℤ) (F : ℤ → ℤ → Relation A) → Same P (Y v s) → Same Q (Y u s) →
+    sides_same : {A : Type 0} (k : Bool) (v u : Value) (s : State) (P Q : Relation ℤ) (F : ℤ → ℤ → Relation A) → Same P (Y v s) →
+        Same Q (Y u s) →
         Same (Then P (λ x. Then Q (F x))) (Then (Y (kept_if k v) s) (λ x. Then (Y u s) (F x)))
     sides_same k v u s P Q F h i =
-        then_same P (Y (kept_if k v) s) (λ x. Then Q (F x)) (λ x. Then (Y u s) (F x)) (through P (Y v s) (Y (kept_if k v) s) h (kept_if_same k v s)) (λ x. first_same Q (Y u s) (F x) i)
+        then_same P (Y (kept_if k v) s) (λ x. Then Q (F x)) (λ x. Then (Y u s) (F x))
+        (through P (Y v s) (Y (kept_if k v) s) h (kept_if_same k v s)) (λ x. first_same Q (Y u s) (F x) i)
 
     module _ (a b : Expression) (s : State) (ha : Same (E a s) (Y (value_of a) s)) (hb : Same (E b s) (Y (value_of b) s)) where
       abbrev v : Value
@@ -385,7 +405,8 @@ module _ (vars : ℕ) where
       subtracted_same : (l : Bool) → Same (E (binary Subtract a b) s) (Y (subtracted l v u) s)
       subtracted_same l =
           let k = overflows_by (negsuc 0) u in
-          sides_same (l || overflows (λ x y. x -ℤ y) v u) v (kept_if k u) s (E a s) (E b s) (λ x y. ExactOrStopped (x -ℤ y)) ha (through (E b s) (Y u s) (Y (kept_if k u) s) hb (kept_if_same k u s))
+          sides_same (l || overflows (λ x y. x -ℤ y) v u) v (kept_if k u) s (E a s) (E b s) (λ x y. ExactOrStopped (x -ℤ y)) ha
+          (through (E b s) (Y u s) (Y (kept_if k u) s) hb (kept_if_same k u s))
 
       abbrev Product : Relation ℤ
       Product = Then (E a s) (λ x. Then (E b s) (λ y. ExactOrStopped (x *ℤ y)))
@@ -394,7 +415,8 @@ module _ (vars : ℕ) where
       left_known c e =
           through Product (Then (Gives c) (λ x. Then (E b s) (λ y. ExactOrStopped (x *ℤ y)))) (Y (scaled c u) s)
           (first_same (E a s) (Gives c) (λ x. Then (E b s) (λ y. ExactOrStopped (x *ℤ y))) (known_same a s c e))
-          (through (Then (Gives c) (λ x. Then (E b s) (λ y. ExactOrStopped (x *ℤ y)))) (Then (E b s) (λ y. ExactOrStopped (c *ℤ y))) (Y (scaled c u) s)
+          (through (Then (Gives c) (λ x. Then (E b s) (λ y. ExactOrStopped (x *ℤ y)))) (Then (E b s) (λ y. ExactOrStopped (c *ℤ y)))
+          (Y (scaled c u) s)
           (gives_then c (λ x. Then (E b s) (λ y. ExactOrStopped (x *ℤ y)))) (scaled_same c u s (E b s) hb))
 
       right_known : (c : ℤ) → constant_value b ≡ Some c → Same Product (Y (scaled c v) s)
@@ -407,19 +429,24 @@ module _ (vars : ℕ) where
           (gives_then c (λ y. ExactOrStopped (x *ℤ y))) (exact_same (x *ℤ c) (c *ℤ x) (*ℤ_comm x c)))))
           (scaled_same c v s (E a s) ha)
 
-      none_known : (l : Bool) → (is_constant a || is_constant b) ≡ true → constant_value a ≡ None → constant_value b ≡ None → Same Product (Y (added l v u) s)
+      none_known : (l : Bool) → (is_constant a || is_constant b) ≡ true → constant_value a ≡ None → constant_value b ≡ None →
+          Same Product (Y (added l v u) s)
       none_known l side na nb = through Product (E (binary Add a b) s) (Y (added l v u) s) (on (is_constant a) refl) (added_same l)
         where
           right_constant : is_constant a ≡ false → is_constant b ≡ true
           right_constant e = let S : Bool → Type 0 = λ x. (x || is_constant b) ≡ true in subst S e side
 
           on : (x : Bool) → is_constant a ≡ x → Same Product (E (binary Add a b) s)
-          on true e = never_same (E a s) (λ x. Then (E b s) (λ y. ExactOrStopped (x *ℤ y))) (λ x. Then (E b s) (λ y. ExactOrStopped (x +ℤ y))) (unknown_never a s e na)
+          on true e = never_same (E a s) (λ x. Then (E b s) (λ y. ExactOrStopped (x *ℤ y)))
+              (λ x. Then (E b s) (λ y. ExactOrStopped (x +ℤ y)))
+              (unknown_never a s e na)
           on false e =
               next_same (E a s) (λ x. Then (E b s) (λ y. ExactOrStopped (x *ℤ y))) (λ x. Then (E b s) (λ y. ExactOrStopped (x +ℤ y)))
-              (λ x. never_same (E b s) (λ y. ExactOrStopped (x *ℤ y)) (λ y. ExactOrStopped (x +ℤ y)) (unknown_never b s (right_constant e) nb))
+              (λ x. never_same (E b s) (λ y. ExactOrStopped (x *ℤ y)) (λ y. ExactOrStopped (x +ℤ y))
+              (unknown_never b s (right_constant e) nb))
 
-      multiplied_same : (l : Bool) → (is_constant a || is_constant b) ≡ true → Same (E (binary Multiply a b) s) (Y (multiplied (constant_value a) (constant_value b) l v u) s)
+      multiplied_same : (l : Bool) → (is_constant a || is_constant b) ≡ true → Same (E (binary Multiply a b) s)
+          (Y (multiplied (constant_value a) (constant_value b) l v u) s)
       multiplied_same l side = on (constant_value a) (constant_value b) refl refl
         where
           on : (x y : Option ℤ) → constant_value a ≡ x → constant_value b ≡ y → Same Product (Y (multiplied x y l v u) s)
@@ -427,17 +454,27 @@ module _ (vars : ℕ) where
           on None (Some c) ea eb = right_known c eb
           on None None ea eb = none_known l side ea eb
 
-      compared_same : (op : Op) (l : Bool) → Same (Then (E a s) (λ x. Then (E b s) (λ y. Gives (bit (comparison op x y))))) (Then (T (compared op l v u) s) (λ z. Gives (bit z)))
+      compared_same : (op : Op) (l : Bool) → Same (Then (E a s) (λ x. Then (E b s) (λ y. Gives (bit (comparison op x y)))))
+          (Then (T (compared op l v u) s) (λ z. Gives (bit z)))
       compared_same op l =
-          through (Then (E a s) (λ x. Then (E b s) (λ y. Gives (bit (comparison op x y))))) (Then (Y (kept_if l v) s) (λ x. Then (Then (Y u s) (λ y. Gives (comparison op x y))) (λ z. Gives (bit z)))) (Then (T (compared op l v u) s) (λ z. Gives (bit z)))
-          (through (Then (E a s) (λ x. Then (E b s) (λ y. Gives (bit (comparison op x y))))) (Then (Y (kept_if l v) s) (λ x. Then (Y u s) (λ y. Gives (bit (comparison op x y))))) (Then (Y (kept_if l v) s) (λ x. Then (Then (Y u s) (λ y. Gives (comparison op x y))) (λ z. Gives (bit z))))
+          through (Then (E a s) (λ x. Then (E b s) (λ y. Gives (bit (comparison op x y)))))
+          (Then (Y (kept_if l v) s) (λ x. Then (Then (Y u s) (λ y. Gives (comparison op x y))) (λ z. Gives (bit z))))
+          (Then (T (compared op l v u) s) (λ z. Gives (bit z)))
+          (through (Then (E a s) (λ x. Then (E b s) (λ y. Gives (bit (comparison op x y)))))
+          (Then (Y (kept_if l v) s) (λ x. Then (Y u s) (λ y. Gives (bit (comparison op x y)))))
+          (Then (Y (kept_if l v) s) (λ x. Then (Then (Y u s) (λ y. Gives (comparison op x y))) (λ z. Gives (bit z))))
           (sides_same l v u s (E a s) (E b s) (λ x y. Gives (bit (comparison op x y))) ha hb)
-          (next_same (Y (kept_if l v) s) (λ x. Then (Y u s) (λ y. Gives (bit (comparison op x y)))) (λ x. Then (Then (Y u s) (λ y. Gives (comparison op x y))) (λ z. Gives (bit z))) (λ x.
-          swapped (Then (Then (Y u s) (λ y. Gives (comparison op x y))) (λ z. Gives (bit z))) (Then (Y u s) (λ y. Gives (bit (comparison op x y))))
-          (through (Then (Then (Y u s) (λ y. Gives (comparison op x y))) (λ z. Gives (bit z))) (Then (Y u s) (λ y. Then (Gives (comparison op x y)) (λ z. Gives (bit z)))) (Then (Y u s) (λ y. Gives (bit (comparison op x y))))
+          (next_same (Y (kept_if l v) s) (λ x. Then (Y u s) (λ y. Gives (bit (comparison op x y))))
+          (λ x. Then (Then (Y u s) (λ y. Gives (comparison op x y))) (λ z. Gives (bit z))) (λ x.
+          swapped (Then (Then (Y u s) (λ y. Gives (comparison op x y))) (λ z. Gives (bit z)))
+          (Then (Y u s) (λ y. Gives (bit (comparison op x y))))
+          (through (Then (Then (Y u s) (λ y. Gives (comparison op x y))) (λ z. Gives (bit z)))
+          (Then (Y u s) (λ y. Then (Gives (comparison op x y)) (λ z. Gives (bit z)))) (Then (Y u s) (λ y. Gives (bit (comparison op x y))))
           (then_then (Y u s) (λ y. Gives (comparison op x y)) (λ z. Gives (bit z)))
-          (next_same (Y u s) (λ y. Then (Gives (comparison op x y)) (λ z. Gives (bit z))) (λ y. Gives (bit (comparison op x y))) (λ y. gives_then (comparison op x y) (λ z. Gives (bit z))))))))
-          (swapped (Then (T (compared op l v u) s) (λ z. Gives (bit z))) (Then (Y (kept_if l v) s) (λ x. Then (Then (Y u s) (λ y. Gives (comparison op x y))) (λ z. Gives (bit z))))
+          (next_same (Y u s) (λ y. Then (Gives (comparison op x y)) (λ z. Gives (bit z))) (λ y. Gives (bit (comparison op x y)))
+          (λ y. gives_then (comparison op x y) (λ z. Gives (bit z))))))))
+          (swapped (Then (T (compared op l v u) s) (λ z. Gives (bit z)))
+          (Then (Y (kept_if l v) s) (λ x. Then (Then (Y u s) (λ y. Gives (comparison op x y))) (λ z. Gives (bit z))))
           (then_then (Y (kept_if l v) s) (λ x. Then (Y u s) (λ y. Gives (comparison op x y))) (λ z. Gives (bit z))))
 
     -- Tests
@@ -457,7 +494,8 @@ module _ (vars : ℕ) where
         through (Then P N) (Then (Then Q B) N) Q (first_same P (Then Q B) N h)
         (through (Then (Then Q B) N) (Then Q (λ z. Then (B z) N)) Q (then_then Q B N)
         (through (Then Q (λ z. Then (B z) N)) (Then Q (λ z. Gives z)) Q
-        (next_same Q (λ z. Then (B z) N) (λ z. Gives z) (λ z. through (Then (B z) N) (N (bit z)) (Gives z) (gives_then (bit z) N) (gives_same (not (is_zero (bit z))) z (bit_back z))))
+        (next_same Q (λ z. Then (B z) N) (λ z. Gives z) (λ z. through (Then (B z) N) (N (bit z)) (Gives z) (gives_then (bit z) N)
+        (gives_same (not (is_zero (bit z))) z (bit_back z))))
         (then_gives Q)))
 
     nonzero_same : (v : Value) (s : State) (P : Relation ℤ) → Same P (Y v s) → Same (Then P N) (T (nonzero v) s)
@@ -466,7 +504,8 @@ module _ (vars : ℕ) where
         (λ x. swapped (Then (Gives (pos 0)) (λ y. Gives (comparison Unequal x y))) (N x)
         (through (Then (Gives (pos 0)) (λ y. Gives (comparison Unequal x y))) (Gives (comparison Unequal x (pos 0))) (N x)
         (gives_then (pos 0) (λ y. Gives (comparison Unequal x y)))
-        (gives_same (comparison Unequal x (pos 0)) (not (is_zero x)) (let e : x -ℤ pos 0 ≡ x = omega (arith, ints) in ap (λ z. not (is_zero z)) e))))
+        (gives_same (comparison Unequal x (pos 0)) (not (is_zero x)) (let e : x -ℤ pos 0 ≡ x = omega (arith, ints) in
+        ap (λ z. not (is_zero z)) e))))
 
     -- the value of a test
     bits : (P : Relation ℤ) (Q : Relation Bool) → Same (Then P N) Q → Same (Then P (λ y. Gives (bit (not (is_zero y))))) (Then Q B)
@@ -478,11 +517,13 @@ module _ (vars : ℕ) where
         (next_same P (λ y. Then (N y) B) (λ y. Gives (bit (not (is_zero y)))) (λ y. gives_then (not (is_zero y)) B))))
         (first_same (Then P N) Q B h)
 
-    opposed_same : (P : Relation ℤ) (c : Test) (s : State) → Same (Then P N) (T c s) → Same (Then P (λ v. Gives (bit (is_zero v)))) (Then (T (opposite c) s) B)
+    opposed_same : (P : Relation ℤ) (c : Test) (s : State) → Same (Then P N) (T c s) → Same (Then P (λ v. Gives (bit (is_zero v))))
+        (Then (T (opposite c) s) B)
     opposed_same P c s h =
         through (Then P (λ v. Gives (bit (is_zero v)))) (Then (Then P N) (λ z. Gives (bit (not z)))) (Then (T (opposite c) s) B)
         (swapped (Then (Then P N) (λ z. Gives (bit (not z)))) (Then P (λ v. Gives (bit (is_zero v))))
-        (through (Then (Then P N) (λ z. Gives (bit (not z)))) (Then P (λ y. Then (N y) (λ z. Gives (bit (not z))))) (Then P (λ v. Gives (bit (is_zero v))))
+        (through (Then (Then P N) (λ z. Gives (bit (not z)))) (Then P (λ y. Then (N y) (λ z. Gives (bit (not z)))))
+        (Then P (λ v. Gives (bit (is_zero v))))
         (then_then P N (λ z. Gives (bit (not z))))
         (next_same P (λ y. Then (N y) (λ z. Gives (bit (not z)))) (λ v. Gives (bit (is_zero v))) (λ y.
         through (Then (N y) (λ z. Gives (bit (not z)))) (Gives (bit (not (not (is_zero y))))) (Gives (bit (is_zero y)))
@@ -501,7 +542,8 @@ module _ (vars : ℕ) where
         not_not false = refl
 
     -- a test that chooses between relations
-    chosen_same : (P : Relation ℤ) (Q : Relation Bool) (F : Bool → Relation Bool) (G : ℤ → Relation ℤ) → Same (Then P N) Q → ((x : ℤ) → Same (G x) (Then (F (not (is_zero x))) B)) →
+    chosen_same : (P : Relation ℤ) (Q : Relation Bool) (F : Bool → Relation Bool) (G : ℤ → Relation ℤ) → Same (Then P N) Q →
+        ((x : ℤ) → Same (G x) (Then (F (not (is_zero x))) B)) →
         Same (Then P G) (Then (Then Q F) B)
     chosen_same P Q F G h g =
         through (Then P G) (Then (Then P N) (λ z. Then (F z) B)) (Then (Then Q F) B)
@@ -509,30 +551,37 @@ module _ (vars : ℕ) where
         (through (Then (Then P N) (λ z. Then (F z) B)) (Then P (λ x. Then (N x) (λ z. Then (F z) B))) (Then P G)
         (then_then P N (λ z. Then (F z) B))
         (next_same P (λ x. Then (N x) (λ z. Then (F z) B)) G (λ x.
-        through (Then (N x) (λ z. Then (F z) B)) (Then (F (not (is_zero x))) B) (G x) (gives_then (not (is_zero x)) (λ z. Then (F z) B)) (swapped (G x) (Then (F (not (is_zero x))) B) (g x))))))
+        through (Then (N x) (λ z. Then (F z) B)) (Then (F (not (is_zero x))) B) (G x) (gives_then (not (is_zero x)) (λ z. Then (F z) B))
+        (swapped (G x) (Then (F (not (is_zero x))) B) (g x))))))
         (through (Then (Then P N) (λ z. Then (F z) B)) (Then Q (λ z. Then (F z) B)) (Then (Then Q F) B)
         (first_same (Then P N) Q (λ z. Then (F z) B) h)
         (swapped (Then (Then Q F) B) (Then Q (λ z. Then (F z) B)) (then_then Q F B)))
 
-    module _ (a b : Expression) (s : State) (ha : Same (Then (E a s) N) (T (test_of a) s)) (hb : Same (Then (E b s) N) (T (test_of b) s)) where
+    module _ (a b : Expression) (s : State) (ha : Same (Then (E a s) N) (T (test_of a) s))
+        (hb : Same (Then (E b s) N) (T (test_of b) s)) where
       both_same : Same (E (binary And a b) s) (Then (T (both (test_of a) (test_of b)) s) B)
       both_same =
-          chosen_same (E a s) (T (test_of a) s) (λ z. Choice z (T (test_of b) s) (Gives false)) (λ x. RightSide (decided And (is_zero x)) (Applied And x) (E b s)) ha (λ x. on (is_zero x) x)
+          chosen_same (E a s) (T (test_of a) s) (λ z. Choice z (T (test_of b) s) (Gives false))
+          (λ x. RightSide (decided And (is_zero x)) (Applied And x) (E b s)) ha (λ x. on (is_zero x) x)
         where
-          on : (z : Bool) (x : ℤ) → Same (RightSide (decided And z) (Applied And x) (E b s)) (Then (Choice (not z) (T (test_of b) s) (Gives false)) B)
+          on : (z : Bool) (x : ℤ) → Same (RightSide (decided And z) (Applied And x) (E b s))
+              (Then (Choice (not z) (T (test_of b) s) (Gives false)) B)
           on true x = swapped (Then (Gives false) B) (Gives (pos 0)) (gives_then false B)
           on false x = bits (E b s) (T (test_of b) s) hb
 
       either_same : Same (E (binary Or a b) s) (Then (T (either (test_of a) (test_of b)) s) B)
       either_same =
-          chosen_same (E a s) (T (test_of a) s) (λ z. Choice z (Gives true) (T (test_of b) s)) (λ x. RightSide (decided Or (is_zero x)) (Applied Or x) (E b s)) ha (λ x. on (is_zero x) x)
+          chosen_same (E a s) (T (test_of a) s) (λ z. Choice z (Gives true) (T (test_of b) s))
+          (λ x. RightSide (decided Or (is_zero x)) (Applied Or x) (E b s)) ha (λ x. on (is_zero x) x)
         where
-          on : (z : Bool) (x : ℤ) → Same (RightSide (decided Or z) (Applied Or x) (E b s)) (Then (Choice (not z) (Gives true) (T (test_of b) s)) B)
+          on : (z : Bool) (x : ℤ) → Same (RightSide (decided Or z) (Applied Or x) (E b s))
+              (Then (Choice (not z) (Gives true) (T (test_of b) s)) B)
           on true x = bits (E b s) (T (test_of b) s) hb
           on false x = swapped (Then (Gives true) B) (Gives (pos 1)) (gives_then true B)
 
     -- The sides of an operation, and how it is a value and a test.
-    module _ (a b : Expression) (s : State) (va : Same (E a s) (Y (value_of a) s)) (vb : Same (E b s) (Y (value_of b) s)) (ta : Same (Then (E a s) N) (T (test_of a) s)) (tb : Same (Then (E b s) N) (T (test_of b) s)) where
+    module _ (a b : Expression) (s : State) (va : Same (E a s) (Y (value_of a) s)) (vb : Same (E b s) (Y (value_of b) s))
+        (ta : Same (Then (E a s) N) (T (test_of a) s)) (tb : Same (Then (E b s) N) (T (test_of b) s)) where
       abbrev ValueBy : Op → Value
       ValueBy op = value_by op (constant_value a) (constant_value b) (has_call b) (value_of a) (value_of b) (test_of a) (test_of b)
 
@@ -557,9 +606,11 @@ module _ (vars : ℕ) where
       binary_test Subtract h = nonzero_same (ValueBy Subtract) s (E (binary Subtract a b) s) (binary_value Subtract h)
       binary_test Multiply h = nonzero_same (ValueBy Multiply) s (E (binary Multiply a b) s) (binary_value Multiply h)
       binary_test Less h = from_bit (E (binary Less a b) s) (T (TestBy Less) s) (compared_same a b s va vb Less (has_call b))
-      binary_test LessEqual h = from_bit (E (binary LessEqual a b) s) (T (TestBy LessEqual) s) (compared_same a b s va vb LessEqual (has_call b))
+      binary_test LessEqual h = from_bit (E (binary LessEqual a b) s) (T (TestBy LessEqual) s)
+          (compared_same a b s va vb LessEqual (has_call b))
       binary_test Greater h = from_bit (E (binary Greater a b) s) (T (TestBy Greater) s) (compared_same a b s va vb Greater (has_call b))
-      binary_test GreaterEqual h = from_bit (E (binary GreaterEqual a b) s) (T (TestBy GreaterEqual) s) (compared_same a b s va vb GreaterEqual (has_call b))
+      binary_test GreaterEqual h = from_bit (E (binary GreaterEqual a b) s) (T (TestBy GreaterEqual) s)
+          (compared_same a b s va vb GreaterEqual (has_call b))
       binary_test Equal h = from_bit (E (binary Equal a b) s) (T (TestBy Equal) s) (compared_same a b s va vb Equal (has_call b))
       binary_test Unequal h = from_bit (E (binary Unequal a b) s) (T (TestBy Unequal) s) (compared_same a b s va vb Unequal (has_call b))
       binary_test And h = from_bit (E (binary And a b) s) (T (TestBy And) s) (both_same a b s ta tb)
@@ -573,25 +624,32 @@ module _ (vars : ℕ) where
       value_same (call p es) s h = first_same (Evals false D es s) (YieldsAll D (values_of es) s) (D p) (values_same es s h)
       value_same (negate e) s h = negated_same e s (value_same e s h)
       value_same (not_of e) s h = opposed_same (E e s) (test_of e) s (test_same e s h)
-      value_same (binary op a b) s h = binary_value a b s (value_same a s h.1) (value_same b s h.2) (test_same a s h.1) (test_same b s h.2) op h.0
+      value_same (binary op a b) s h = binary_value a b s (value_same a s h.1) (value_same b s h.2) (test_same a s h.1) (test_same b s h.2)
+          op h.0
 
       pub values_same : (es : Expressions) (s : State) → ArePlain es → Same (Evals false D es s) (YieldsAll D (values_of es) s)
       values_same no_expressions s h = itself (Evals false D no_expressions s)
       values_same (expression e es) s h =
           let v = kept_if (have_call es) (value_of e) in
-          then_same (E e s) (Y (in_slot v) s) (λ x. Then (Evals false D es s) (λ xs. Gives (x ∷ xs))) (λ x. Then (YieldsAll D (values_of es) s) (λ xs. Gives (x ∷ xs)))
-          (through (E e s) (Y (value_of e) s) (Y (in_slot v) s) (value_same e s h.0) (through (Y (value_of e) s) (Y v s) (Y (in_slot v) s) (kept_if_same (have_call es) (value_of e) s) (in_slot_same v s)))
+          then_same (E e s) (Y (in_slot v) s) (λ x. Then (Evals false D es s) (λ xs. Gives (x ∷ xs)))
+          (λ x. Then (YieldsAll D (values_of es) s) (λ xs. Gives (x ∷ xs)))
+          (through (E e s) (Y (value_of e) s) (Y (in_slot v) s) (value_same e s h.0) (through (Y (value_of e) s) (Y v s) (Y (in_slot v) s)
+          (kept_if_same (have_call es) (value_of e) s) (in_slot_same v s)))
           (λ x. first_same (Evals false D es s) (YieldsAll D (values_of es) s) (λ xs. Gives (x ∷ xs)) (values_same es s h.1))
 
-      pub test_same : (e : Expression) (s : State) → IsPlain e → Same (Then (Eval false D e s) (λ v. Gives (not (is_zero v)))) (Decides D (test_of e) s)
+      pub test_same : (e : Expression) (s : State) → IsPlain e → Same (Then (Eval false D e s) (λ v. Gives (not (is_zero v))))
+          (Decides D (test_of e) s)
       test_same (literal n) s h = nonzero_same (form.literal false n) s (E (literal n) s) (itself (Gives n))
       test_same (read x) s h = nonzero_same (form.read false x) s (E (read x) s) (itself (Gives (s x)))
       test_same input s h = nonzero_same form.input s (E input s) (itself (E input s))
       test_same (call p es) s h =
-          nonzero_same (form.call p (values_of es)) s (E (call p es) s) (first_same (Evals false D es s) (YieldsAll D (values_of es) s) (D p) (values_same es s h))
+          nonzero_same (form.call p (values_of es)) s (E (call p es) s) (first_same (Evals false D es s) (YieldsAll D (values_of es) s)
+          (D p) (values_same es s h))
       test_same (negate e) s h = nonzero_same (scaled (negsuc 0) (value_of e)) s (E (negate e) s) (negated_same e s (value_same e s h))
-      test_same (not_of e) s h = from_bit (E (not_of e) s) (T (opposite (test_of e)) s) (opposed_same (E e s) (test_of e) s (test_same e s h))
-      test_same (binary op a b) s h = binary_test a b s (value_same a s h.1) (value_same b s h.2) (test_same a s h.1) (test_same b s h.2) op h.0
+      test_same (not_of e) s h = from_bit (E (not_of e) s) (T (opposite (test_of e)) s)
+          (opposed_same (E e s) (test_of e) s (test_same e s h))
+      test_same (binary op a b) s h = binary_test a b s (value_same a s h.1) (value_same b s h.2) (test_same a s h.1) (test_same b s h.2) op
+          h.0
 
     pub result_same : (e : Expression) (s : State) → IsPlain e → Same (Eval false D e s) (Yields D (result_of e) s)
     result_same e s h = through (E e s) (Y (value_of e) s) (Y (result_of e) s) (value_same e s h) (in_slot_same (value_of e) s)
@@ -600,9 +658,11 @@ module _ (vars : ℕ) where
     pub by_test : {A : Type 0} (e : Expression) (s : State) (P Q : Relation A) → IsPlain e →
         Same (Then (Eval false D e s) (λ v. Choice (is_zero v) P Q)) (Then (Decides D (test_of e) s) (λ b. Choice b Q P))
     by_test e s P Q h =
-        through (Then (E e s) (λ v. Choice (is_zero v) P Q)) (Then (Then (E e s) N) (λ b. Choice b Q P)) (Then (T (test_of e) s) (λ b. Choice b Q P))
+        through (Then (E e s) (λ v. Choice (is_zero v) P Q)) (Then (Then (E e s) N) (λ b. Choice b Q P))
+        (Then (T (test_of e) s) (λ b. Choice b Q P))
         (swapped (Then (Then (E e s) N) (λ b. Choice b Q P)) (Then (E e s) (λ v. Choice (is_zero v) P Q))
-        (through (Then (Then (E e s) N) (λ b. Choice b Q P)) (Then (E e s) (λ v. Then (N v) (λ b. Choice b Q P))) (Then (E e s) (λ v. Choice (is_zero v) P Q))
+        (through (Then (Then (E e s) N) (λ b. Choice b Q P)) (Then (E e s) (λ v. Then (N v) (λ b. Choice b Q P)))
+        (Then (E e s) (λ v. Choice (is_zero v) P Q))
         (then_then (E e s) N (λ b. Choice b Q P))
         (next_same (E e s) (λ v. Then (N v) (λ b. Choice b Q P)) (λ v. Choice (is_zero v) P Q) (λ v.
         through (Then (N v) (λ b. Choice b Q P)) (Choice (not (is_zero v)) Q P) (Choice (is_zero v) P Q)
@@ -610,8 +670,10 @@ module _ (vars : ℕ) where
         (swapped (Choice (is_zero v) P Q) (Choice (not (is_zero v)) Q P) (other_choice (is_zero v) P Q))))))
         (first_same (Then (E e s) N) (T (test_of e) s) (λ b. Choice b Q P) (test_same e s h))
 
-    pub by_value : {A : Type 0} (e : Expression) (s : State) (Q : ℤ → Relation A) → IsPlain e → Same (Then (Eval false D e s) Q) (Then (Yields D (value_of e) s) Q)
+    pub by_value : {A : Type 0} (e : Expression) (s : State) (Q : ℤ → Relation A) → IsPlain e → Same (Then (Eval false D e s) Q)
+        (Then (Yields D (value_of e) s) Q)
     by_value e s Q h = first_same (E e s) (Y (value_of e) s) Q (value_same e s h)
 
-    pub by_result : {A : Type 0} (e : Expression) (s : State) (Q : ℤ → Relation A) → IsPlain e → Same (Then (Eval false D e s) Q) (Then (Yields D (result_of e) s) Q)
+    pub by_result : {A : Type 0} (e : Expression) (s : State) (Q : ℤ → Relation A) → IsPlain e → Same (Then (Eval false D e s) Q)
+        (Then (Yields D (result_of e) s) Q)
     by_result e s Q h = first_same (E e s) (Y (result_of e) s) Q (result_same e s h)

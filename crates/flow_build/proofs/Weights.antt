@@ -130,14 +130,17 @@ module _ (of_truth of_compare of_both : ℕ) where
       few_value (negate e) = let h = scaled_few (negsuc 0) (value_of e) (k * nodes e) (some_times e) (few_value e) in omega (arith, h)
       few_value (not_of e) = let h = few_test e in omega (arith, h)
       few_value (binary op a b) =
-          let h = value_few (value_of a) (value_of b) (k * nodes a) (k * nodes b) (some_times a) (some_times b) (few_value a) (few_value b) (test_of a) (test_of b) (few_test a) (few_test b) (constant_value a) (constant_value b) (has_call b) op in
+          let h = value_few (value_of a) (value_of b) (k * nodes a) (k * nodes b) (some_times a) (some_times b) (few_value a) (few_value b)
+          (test_of a) (test_of b) (few_test a) (few_test b) (constant_value a) (constant_value b) (has_call b) op in
           omega (arith, h)
 
       pub few_values : (es : Expressions) → weight_all (values_of es) ≤ k * nodes_all es
       few_values no_expressions = omega arith
       few_values (expression e es) =
           let v = kept_if (have_call es) (value_of e) in
-          let h = in_slot_few v (k * nodes e) (some_times e) (kept_if_few (have_call es) (value_of e) (k * nodes e) (some_times e) (few_value e)) in
+          let h = in_slot_few v (k * nodes e) (some_times e) (kept_if_few (have_call es) (value_of e) (k * nodes e) (some_times e)
+          (few_value e))
+          in
           let i = few_values es in
           omega (arith, h, i)
 
@@ -149,7 +152,8 @@ module _ (of_truth of_compare of_both : ℕ) where
       few_test (negate e) = let h = scaled_few (negsuc 0) (value_of e) (k * nodes e) (some_times e) (few_value e) in omega (arith, h)
       few_test (not_of e) = let h = few_test e in omega (arith, h)
       few_test (binary op a b) =
-          let h = test_few (value_of a) (value_of b) (k * nodes a) (k * nodes b) (some_times a) (some_times b) (few_value a) (few_value b) (test_of a) (test_of b) (few_test a) (few_test b) (constant_value a) (constant_value b) (has_call b) op in
+          let h = test_few (value_of a) (value_of b) (k * nodes a) (k * nodes b) (some_times a) (some_times b) (few_value a) (few_value b)
+          (test_of a) (test_of b) (few_test a) (few_test b) (constant_value a) (constant_value b) (has_call b) op in
           omega (arith, h)
 
     pub few_result : (e : Expression) → weight (in_slot (value_of e)) ≤ k * nodes e

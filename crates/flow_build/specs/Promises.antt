@@ -14,7 +14,8 @@ use Rattle.flow_graph.specs.Runs.{End, GraphRuns, end_of}
 use Rattle.flow_graph.specs.Columns.{AreAllValues}
 use Rattle.flow_build.specs.Constants.{constant_value}
 
--- The runs of the program's procedures are those of their graphs: equal depth, arguments, inputs and end.
+-- The runs of the program's procedures are those of their graphs: equal depth, arguments, inputs
+-- and end.
 pub record SameRuns (P : PureProgram) (gs : List Graph) : Type 0 where
   pub program_to_graphs : (d p : ℕ) (args ins : List ℤ) (out : Outcome) → AreAllValues args →
       Runs P d p args ins out → GraphRuns gs d p args ins (end_of out)
@@ -95,7 +96,8 @@ abbrev mutual
   statement_factors (assume e) = factors e
   statement_factors (assert id e) = factors e
   statement_factors (if_else e a b) = factors e ++ (statement_factors a ++ statement_factors b)
-  statement_factors (loop e step body) = factors e ++ (statement_factors step ++ statement_factors body)
+  statement_factors (loop e step body) = factors e
+      ++ (statement_factors step ++ statement_factors body)
   statement_factors (do_while body e) = statement_factors body ++ factors e
   statement_factors break = []
   statement_factors continue = []
@@ -109,7 +111,8 @@ abbrev mutual
 abbrev pub IsCoefficient : Statements → ℤ → Type 0
 IsCoefficient body c = (c ≡ pos 1) ⊎ ((c ≡ negsuc 0) ⊎ Contains (statements_factors body) c)
 
--- a row of at most two parts with the coefficients 1 and -1, and a constant of magnitude at most 2^64
+-- a row of at most two parts with the coefficients 1 and -1, and a constant of magnitude at most
+-- 2^64
 abbrev pub is_small_row : Atom → Bool
 is_small_row row =
     nat_le (length row.term.parts) 2 && list_all (λ p. unsigned_abs p.1 == 1) row.term.parts

@@ -60,7 +60,8 @@ fn push_less(
     left: Operand,
     right: Operand,
 ) -> Result<(), AllocError>
-    ensures edges { OnOk result (b.new.edges.items ≡ b.old.edges.items ++ way from target (less left right ∷ [])) }
+    ensures edges { OnOk result (b.new.edges.items ≡ b.old.edges.items ++ way from target
+        (less left right ∷ [])) }
     ensures next { b.new.next ≡ b.old.next }
 {
     let rows = one_row(alloc, less(alloc, left, right)?)?;
@@ -76,7 +77,8 @@ fn push_at_most(
     left: Operand,
     right: Operand,
 ) -> Result<(), AllocError>
-    ensures edges { OnOk result (b.new.edges.items ≡ b.old.edges.items ++ way from target (at_most left right ∷ [])) }
+    ensures edges { OnOk result (b.new.edges.items ≡ b.old.edges.items ++ way from target
+        (at_most left right ∷ [])) }
     ensures next { b.new.next ≡ b.old.next }
 {
     let rows = one_row(alloc, at_most(alloc, left, right)?)?;
@@ -101,7 +103,8 @@ fn push_equal(
     push_way(b, from, target, rows)
 }
 
-/// The edges to a target where the comparison holds. For an unequal there are two, first the one for greater.
+/// The edges to a target where the comparison holds. For an unequal there are two, first the one
+/// for greater.
 fn push_ways(
     b: &mut Builder,
     alloc: Global,
@@ -111,7 +114,8 @@ fn push_ways(
     left: Operand,
     right: Operand,
 ) -> Result<(), AllocError>
-    ensures edges { OnOk result (b.new.edges.items ≡ b.old.edges.items ++ ways from target (rows_where op left right)) }
+    ensures edges { OnOk result (b.new.edges.items ≡ b.old.edges.items ++ ways from target
+        (rows_where op left right)) }
     ensures next { b.new.next ≡ b.old.next }
 {
     match op {
@@ -154,7 +158,8 @@ pub fn compare(
     unmet: Target,
 ) -> Result<(), AllocError>
     ensures edges { OnOk result (b.new.edges.items ≡
-        b.old.edges.items ++ (ways from met (rows_where op left right) ++ ways from unmet (rows_where (opposite_op op) left right))) }
+        b.old.edges.items ++ (ways from met (rows_where op left right) ++ ways from unmet
+        (rows_where (opposite_op op) left right))) }
     ensures next { b.new.next ≡ b.old.next }
 {
     push_ways(b, alloc, from, met, op, left, right)?;

@@ -35,8 +35,10 @@ const FIRST_FREE: u32 = 6;
 
 /// The edges round the body: a frame begins there, and returns 0 at the body's end.
 fn begin(alloc: Global, procedure: &Procedure) -> Result<Builder, OutOfMemory>
-    ensures edges { IfOk result (λ b. b.edges.items ≡ Entry 4 procedure.now.params ∷ Guard 4 5 (record { atoms = [] }) ∷
-        Assign 2 3 procedure.now.slots (constant_lin (pos 0)) ∷ Return 3 0 procedure.now.slots ∷ []) }
+    ensures edges { IfOk result (λ b. b.edges.items ≡ Entry 4 procedure.now.params
+        ∷ Guard 4 5 (record { atoms = [] }) ∷
+        Assign 2 3 procedure.now.slots (constant_lin (pos 0)) ∷ Return 3 0 procedure.now.slots
+        ∷ []) }
     ensures next { IfOk result (λ b. b.next ≡ 6) }
 {
     let mut b = Builder {
@@ -71,10 +73,12 @@ fn begin(alloc: Global, procedure: &Procedure) -> Result<Builder, OutOfMemory>
 
 /// The graph of a procedure.
 fn graph(alloc: Global, procedure: &Procedure) -> Result<Graph, OutOfMemory>
-    requires sound { (program : PureProgram) × IsTrue (is_well_formed_procedure program (procedure_of procedure.now)) }
+    requires sound { (program : PureProgram)
+        × IsTrue (is_well_formed_procedure program (procedure_of procedure.now)) }
     requires linear { IsTrue (all_linear (procedure_of procedure.now).body) }
     ensures graph { IfOk result (λ g. IsGraphOf (procedure_of procedure.now) g) }
-    ensures literals { OnOk result (IsTrue (statements_literals_fit (procedure_of procedure.now).body)) }
+    ensures literals { OnOk result
+        (IsTrue (statements_literals_fit (procedure_of procedure.now).body)) }
 {
     let mut b = begin(alloc, procedure)?;
     let frame = Frame {
@@ -99,13 +103,16 @@ fn graph(alloc: Global, procedure: &Procedure) -> Result<Graph, OutOfMemory>
     ))
 }
 
-/// The control-flow graphs of a program's procedures, one for each, with the same numbers. Their runs are those of the
+/// The control-flow graphs of a program's procedures, one for each, with the same numbers. Their
+/// runs are those of the
 /// program, with equal depth, arguments, inputs and end.
 pub fn build(alloc: Global, program: &Program) -> Result<Graphs, OutOfMemory>
     ensures runs { IfOk result
-        (λ g. SameRuns (program_from program.now.procedures.items program.now.main program.now.asserts.items) g.graphs) }
+        (λ g. SameRuns (program_from program.now.procedures.items program.now.main
+        program.now.asserts.items) g.graphs) }
     ensures bounds { IfOk result
-        (λ g. AreBounded (program_from program.now.procedures.items program.now.main program.now.asserts.items) g.graphs) }
+        (λ g. AreBounded (program_from program.now.procedures.items program.now.main
+        program.now.asserts.items) g.graphs) }
 {
     let mut graphs = Vec::with_capacity(alloc, program.procedures.len())?;
     for procedure in &program.procedures {

@@ -62,7 +62,8 @@ pub fn overflows_by(coefficient: i64, a: Operand) -> bool
 
 /// Whether both sides are literals whose exact sum is no value.
 pub fn sum_overflows(left: &Expr, right: &Expr) -> bool
-    ensures { result ≡ overflows (λ x y. x +ℤ y) (value_of (expression_of left.now)) (value_of (expression_of right.now)) }
+    ensures { result ≡ overflows (λ x y. x +ℤ y) (value_of (expression_of left.now))
+        (value_of (expression_of right.now)) }
 {
     match (left, right) {
         (Expr::Literal(x), Expr::Literal(y)) => x.checked_add(*y).is_none(),
@@ -72,7 +73,8 @@ pub fn sum_overflows(left: &Expr, right: &Expr) -> bool
 
 /// Whether both sides are literals whose exact difference is no value.
 pub fn difference_overflows(left: &Expr, right: &Expr) -> bool
-    ensures { result ≡ overflows (λ x y. x -ℤ y) (value_of (expression_of left.now)) (value_of (expression_of right.now)) }
+    ensures { result ≡ overflows (λ x y. x -ℤ y) (value_of (expression_of left.now))
+        (value_of (expression_of right.now)) }
 {
     match (left, right) {
         (Expr::Literal(x), Expr::Literal(y)) => x.checked_sub(*y).is_none(),

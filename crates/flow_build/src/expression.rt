@@ -92,8 +92,10 @@ fn call(
     t: u32,
 ) -> Result<Landed, AllocError>
     requires room { HasRoom (1 + nodes_all (expressions_of es.now)) t b.old }
-    ensures adds { IfOk result (λ l. Adds (call proc (values_of (expressions_of es.now))) from t b.old b.new l) }
-    ensures few { IfOk result (λ l. TakesFew (1 + nodes_all (expressions_of es.now)) t b.old b.new l.slot) }
+    ensures adds { IfOk result (λ l. Adds (call proc (values_of (expressions_of es.now))) from t
+        b.old b.new l) }
+    ensures few { IfOk result (λ l. TakesFew (1 + nodes_all (expressions_of es.now)) t b.old b.new
+        l.slot) }
     ensures landed { IfOk result (λ l. IsTrue (is_landed l)) }
     ensures literals { OnOk result (IsTrue (all_literals_fit (expressions_of es.now))) }
 {
@@ -110,7 +112,8 @@ fn call(
     Ok(in_slot(to, t, last.slot))
 }
 
-/// Arguments from left to right. An argument waits in a slot of its own where a later one has a call.
+/// Arguments from left to right. An argument waits in a slot of its own where a later one has a
+/// call.
 #[cycle(expressions)]
 fn arguments(
     b: &mut Builder,
@@ -121,9 +124,12 @@ fn arguments(
     args: &mut Vec<Slot>,
 ) -> Result<Reached, AllocError>
     requires room { HasRoom (nodes_all (expressions_of es.now)) t b.old }
-    ensures adds { IfOk result (λ l. AddsAll (values_of (expressions_of es.now)) from t b.old b.new l) }
-    ensures few { IfOk result (λ l. TakesFewAll (nodes_all (expressions_of es.now)) t b.old b.new l.slot) }
-    ensures args { OnOk result (args.new.items ≡ args.old.items ++ argument_slots (values_of (expressions_of es.now)) t) }
+    ensures adds { IfOk result (λ l. AddsAll (values_of (expressions_of es.now)) from t b.old b.new
+        l) }
+    ensures few { IfOk result (λ l. TakesFewAll (nodes_all (expressions_of es.now)) t b.old b.new
+        l.slot) }
+    ensures args { OnOk result (args.new.items ≡ args.old.items ++ argument_slots
+        (values_of (expressions_of es.now)) t) }
     ensures literals { OnOk result (IsTrue (all_literals_fit (expressions_of es.now))) }
 {
     match es {
@@ -151,8 +157,10 @@ fn argument(
 ) -> Result<ArgumentSlot, AllocError>
     requires room { HasRoom (nodes (expression_of e.now)) t b.old }
     ensures adds { IfOk result
-        (λ l. AddsSlot (argument_of later_call (value_of (expression_of e.now))) from t b.old b.new l.last l.slot) }
-    ensures few { IfOk result (λ l. TakesFewAll (nodes (expression_of e.now)) t b.old b.new l.last.slot) }
+        (λ l. AddsSlot (argument_of later_call (value_of (expression_of e.now))) from t b.old b.new
+        l.last l.slot) }
+    ensures few { IfOk result (λ l. TakesFewAll (nodes (expression_of e.now)) t b.old b.new
+        l.last.slot) }
     ensures literals { OnOk result (IsTrue (literals_fit (expression_of e.now))) }
 {
     let landed = value(b, alloc, e, from, t)?;
@@ -178,8 +186,10 @@ fn product(
     t: u32,
 ) -> Result<Landed, AllocError>
     requires room { HasRoom (1 + nodes (expression_of e.now)) t b.old }
-    ensures adds { IfOk result (λ l. Adds (scaled coefficient (value_of (expression_of e.now))) from t b.old b.new l) }
-    ensures few { IfOk result (λ l. TakesFew (1 + nodes (expression_of e.now)) t b.old b.new l.slot) }
+    ensures adds { IfOk result (λ l. Adds (scaled coefficient (value_of (expression_of e.now))) from
+        t b.old b.new l) }
+    ensures few { IfOk result (λ l. TakesFew (1 + nodes (expression_of e.now)) t b.old b.new
+        l.slot) }
     ensures landed { IfOk result (λ l. IsTrue (is_landed l)) }
     ensures literals { OnOk result (IsTrue (literals_fit (expression_of e.now))) }
 {
@@ -199,12 +209,15 @@ fn sides(
     from: u32,
     t: u32,
 ) -> Result<BothSides, AllocError>
-    requires room { HasRoom (nodes (expression_of left.now) + nodes (expression_of right.now)) t b.old }
+    requires room { HasRoom (nodes (expression_of left.now) + nodes (expression_of right.now)) t
+        b.old }
     ensures adds { IfOk result (λ l. AddsBoth
-        (kept_value_if (has_call (expression_of right.now) || overflows) (value_of (expression_of left.now)))
+        (kept_value_if (has_call (expression_of right.now) || overflows)
+        (value_of (expression_of left.now)))
         (value_of (expression_of right.now)) from t b.old b.new l) }
     ensures few { IfOk result
-        (λ l. TakesFew (nodes (expression_of left.now) + nodes (expression_of right.now)) t b.old b.new l.right.slot) }
+        (λ l. TakesFew (nodes (expression_of left.now) + nodes (expression_of right.now)) t b.old
+        b.new l.right.slot) }
     ensures left { IfOk result (λ l. IsTrue (is_operand l.left)) }
     ensures right { IfOk result (λ l. IsTrue (is_landed l.right)) }
     ensures left_literals { OnOk result (IsTrue (literals_fit (expression_of left.now))) }
@@ -230,12 +243,15 @@ fn sum(
     from: u32,
     t: u32,
 ) -> Result<Landed, AllocError>
-    requires room { HasRoom (1 + nodes (expression_of left.now) + nodes (expression_of right.now)) t b.old }
+    requires room { HasRoom (1 + nodes (expression_of left.now) + nodes (expression_of right.now)) t
+        b.old }
     ensures adds { IfOk result (λ l. Adds
-        (added (has_call (expression_of right.now)) (value_of (expression_of left.now)) (value_of (expression_of right.now)))
+        (added (has_call (expression_of right.now)) (value_of (expression_of left.now))
+        (value_of (expression_of right.now)))
         from t b.old b.new l) }
     ensures few { IfOk result
-        (λ l. TakesFew (1 + nodes (expression_of left.now) + nodes (expression_of right.now)) t b.old b.new l.slot) }
+        (λ l. TakesFew (1 + nodes (expression_of left.now) + nodes (expression_of right.now)) t
+        b.old b.new l.slot) }
     ensures landed { IfOk result (λ l. IsTrue (is_landed l)) }
     ensures left_literals { OnOk result (IsTrue (literals_fit (expression_of left.now))) }
     ensures right_literals { OnOk result (IsTrue (literals_fit (expression_of right.now))) }
@@ -263,12 +279,15 @@ fn difference(
     from: u32,
     t: u32,
 ) -> Result<Landed, AllocError>
-    requires room { HasRoom (1 + nodes (expression_of left.now) + nodes (expression_of right.now)) t b.old }
+    requires room { HasRoom (1 + nodes (expression_of left.now) + nodes (expression_of right.now)) t
+        b.old }
     ensures adds { IfOk result (λ l. Adds
-        (subtracted (has_call (expression_of right.now)) (value_of (expression_of left.now)) (value_of (expression_of right.now)))
+        (subtracted (has_call (expression_of right.now)) (value_of (expression_of left.now))
+        (value_of (expression_of right.now)))
         from t b.old b.new l) }
     ensures few { IfOk result
-        (λ l. TakesFew (1 + nodes (expression_of left.now) + nodes (expression_of right.now)) t b.old b.new l.slot) }
+        (λ l. TakesFew (1 + nodes (expression_of left.now) + nodes (expression_of right.now)) t
+        b.old b.new l.slot) }
     ensures landed { IfOk result (λ l. IsTrue (is_landed l)) }
     ensures left_literals { OnOk result (IsTrue (literals_fit (expression_of left.now))) }
     ensures right_literals { OnOk result (IsTrue (literals_fit (expression_of right.now))) }
@@ -288,7 +307,8 @@ fn difference(
     Ok(in_slot(to, t, right.slot))
 }
 
-/// A sum, a difference or a product. A product is a multiple by a side that has a value before the run; without one a
+/// A sum, a difference or a product. A product is a multiple by a side that has a value before the
+/// run; without one a
 /// side stops the run, and the edge behind both is never taken.
 #[cycle(expressions)]
 fn arithmetic(
@@ -301,11 +321,14 @@ fn arithmetic(
     t: u32,
 ) -> Result<Landed, AllocError>
     requires arithmetic { is_arithmetic op ≡ true }
-    requires room { HasRoom (1 + nodes (expression_of left.now) + nodes (expression_of right.now)) t b.old }
+    requires room { HasRoom (1 + nodes (expression_of left.now) + nodes (expression_of right.now)) t
+        b.old }
     ensures adds { IfOk result
-        (λ l. Adds (binary_value op (expression_of left.now) (expression_of right.now)) from t b.old b.new l) }
+        (λ l. Adds (binary_value op (expression_of left.now) (expression_of right.now)) from t b.old
+        b.new l) }
     ensures few { IfOk result
-        (λ l. TakesFew (1 + nodes (expression_of left.now) + nodes (expression_of right.now)) t b.old b.new l.slot) }
+        (λ l. TakesFew (1 + nodes (expression_of left.now) + nodes (expression_of right.now)) t
+        b.old b.new l.slot) }
     ensures landed { IfOk result (λ l. IsTrue (is_landed l)) }
     ensures left_literals { OnOk result (IsTrue (literals_fit (expression_of left.now))) }
     ensures right_literals { OnOk result (IsTrue (literals_fit (expression_of right.now))) }
@@ -325,7 +348,8 @@ fn arithmetic(
     }
 }
 
-/// An expression as a test, from a node to one of two targets. The result is the first slot that it doesn't take.
+/// An expression as a test, from a node to one of two targets. The result is the first slot that it
+/// doesn't take.
 #[cycle(expressions)]
 pub fn test(
     b: &mut Builder,
@@ -337,7 +361,8 @@ pub fn test(
     t: u32,
 ) -> Result<u32, AllocError>
     requires room { HasRoom (nodes (expression_of e.now)) t b.old }
-    ensures adds { IfOk result (λ l. AddsTest (test_of (expression_of e.now)) from met unmet t b.old b.new l) }
+    ensures adds { IfOk result (λ l. AddsTest (test_of (expression_of e.now)) from met unmet t b.old
+        b.new l) }
     ensures few { IfOk result (λ l. TakesFew (nodes (expression_of e.now)) t b.old b.new l) }
     ensures literals { OnOk result (IsTrue (literals_fit (expression_of e.now))) }
 {
@@ -370,12 +395,17 @@ fn condition(
     t: u32,
 ) -> Result<u32, AllocError>
     requires condition { is_arithmetic op ≡ false }
-    requires room { HasRoom (nodes (expression_of left.now) + nodes (expression_of right.now)) t b.old }
-    requires middle { b.old.next + 5 * (nodes (expression_of left.now) + nodes (expression_of right.now)) < 4000000000 }
+    requires room { HasRoom (nodes (expression_of left.now) + nodes (expression_of right.now)) t
+        b.old }
+    requires middle { b.old.next
+        + 5 * (nodes (expression_of left.now) + nodes (expression_of right.now))
+        < 4000000000 }
     ensures adds { IfOk result
-        (λ l. AddsTest (binary_test op (expression_of left.now) (expression_of right.now)) from met unmet t b.old b.new l) }
+        (λ l. AddsTest (binary_test op (expression_of left.now) (expression_of right.now)) from met
+        unmet t b.old b.new l) }
     ensures few { IfOk result
-        (λ l. TakesFew (nodes (expression_of left.now) + nodes (expression_of right.now)) t b.old b.new l) }
+        (λ l. TakesFew (nodes (expression_of left.now) + nodes (expression_of right.now)) t b.old
+        b.new l) }
     ensures left_literals { OnOk result (IsTrue (literals_fit (expression_of left.now))) }
     ensures right_literals { OnOk result (IsTrue (literals_fit (expression_of right.now))) }
 {

@@ -49,7 +49,8 @@ pub fn kept_if(
 ) -> Result<Landed, AllocError>
     requires room { b.old.next + 1 < 2 ^ 32 }
     requires slots { landed.slot + 1 < 2 ^ 32 }
-    ensures edges { OnOk result (b.new.edges.items ≡ b.old.edges.items ++ copied keep landed b.old.next) }
+    ensures edges { OnOk result (b.new.edges.items ≡ b.old.edges.items ++ copied keep landed
+        b.old.next) }
     ensures next { OnOk result (b.new.next ≡ b.old.next + copied_nodes keep landed) }
     ensures node { IfOk result (λ l. l.node ≡ copied_node keep landed b.old.next) }
     ensures operand { IfOk result (λ l. l.operand ≡ copied_operand keep landed) }
@@ -82,13 +83,19 @@ pub fn multiple(
     requires room { b.old.next + 1 < 2 ^ 32 }
     requires slots { landed.slot + 1 < 2 ^ 32 }
     requires landed { IsTrue (is_landed landed) }
-    ensures edges { OnOk result (let keep = overflows_in_place coefficient landed.operand in b.new.edges.items ≡
+    ensures edges { OnOk result (let keep = overflows_in_place coefficient landed.operand in
+        b.new.edges.items ≡
         b.old.edges.items ++ (copied keep landed b.old.next ++
-        Assign (copied_node keep landed b.old.next) to slot (scaled_lin coefficient (copied_operand keep landed)) ∷ [])) }
-    ensures next { OnOk result (b.new.next ≡ b.old.next + copied_nodes (overflows_in_place coefficient landed.operand) landed) }
+        Assign (copied_node keep landed b.old.next) to slot
+        (scaled_lin coefficient (copied_operand keep landed)) ∷ [])) }
+    ensures next { OnOk result
+        (b.new.next ≡ b.old.next + copied_nodes (overflows_in_place coefficient landed.operand)
+        landed) }
     ensures node { IfOk result (λ l. l.node ≡ to) }
     ensures operand { IfOk result (λ l. l.operand ≡ Operand.Variable slot) }
-    ensures slot { IfOk result (λ l. l.slot ≡ landed.slot + copied_nodes (overflows_in_place coefficient landed.operand) landed) }
+    ensures slot { IfOk result
+        (λ l. l.slot ≡ landed.slot + copied_nodes (overflows_in_place coefficient landed.operand)
+        landed) }
     ensures in_place { IfOk result (λ l. l.in_place ≡ false) }
 {
     let keep = overflows_by(coefficient, landed.operand);
@@ -155,7 +162,8 @@ pub fn settle(
     free: u32,
 ) -> Result<Landed, AllocError>
     ensures edges { OnOk result (b.new.edges.items ≡ b.old.edges.items ++
-        Assign truth.met truth.to slot (constant_lin (pos 1)) ∷ Assign truth.unmet truth.to slot (constant_lin (pos 0)) ∷ []) }
+        Assign truth.met truth.to slot (constant_lin (pos 1)) ∷ Assign truth.unmet truth.to slot
+        (constant_lin (pos 0)) ∷ []) }
     ensures next { b.new.next ≡ b.old.next }
     ensures node { IfOk result (λ l. l.node ≡ truth.to) }
     ensures operand { IfOk result (λ l. l.operand ≡ Operand.Variable slot) }

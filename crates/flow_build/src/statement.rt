@@ -44,7 +44,8 @@ pub struct Exits {
 
 /// An edge that is always taken.
 fn skip(b: &mut Builder, alloc: Global, from: u32, to: u32) -> Result<(), AllocError>
-    ensures edges { OnOk result (b.new.edges.items ≡ b.old.edges.items ++ Guard from to (record { atoms = [] }) ∷ []) }
+    ensures edges { OnOk result (b.new.edges.items ≡ b.old.edges.items ++ Guard from to
+        (record { atoms = [] }) ∷ []) }
     ensures next { b.new.next ≡ b.old.next }
 {
     let rows = Cube {
@@ -73,7 +74,8 @@ fn give_back(
 ) -> Result<u32, AllocError>
     requires room { HasRoom (1 + nodes (expression_of e.now)) frame.free b.old }
     ensures adds { IfOk result (λ l. AddsResult (expression_of e.now) frame from b.old b.new l) }
-    ensures few { IfOk result (λ l. TakesFew (1 + nodes (expression_of e.now)) frame.free b.old b.new l) }
+    ensures few { IfOk result (λ l. TakesFew (1 + nodes (expression_of e.now)) frame.free b.old
+        b.new l) }
     ensures literals { OnOk result (IsTrue (literals_fit (expression_of e.now))) }
 {
     let landed = value(b, alloc, e, from, frame.free)?;
@@ -108,8 +110,10 @@ pub fn statement(
     exits: Exits,
 ) -> Result<u32, AllocError>
     requires room { HasRoom (statement_nodes (statement_of s.now)) frame.free b.old }
-    ensures adds { IfOk result (λ l. AddsStatement (statement_of s.now) frame from exits b.old b.new l) }
-    ensures few { IfOk result (λ l. TakesFew (statement_nodes (statement_of s.now)) frame.free b.old b.new l) }
+    ensures adds { IfOk result (λ l. AddsStatement (statement_of s.now) frame from exits b.old b.new
+        l) }
+    ensures few { IfOk result (λ l. TakesFew (statement_nodes (statement_of s.now)) frame.free b.old
+        b.new l) }
     ensures literals { OnOk result (IsTrue (statement_literals_fit (statement_of s.now))) }
 {
     match s {
@@ -165,8 +169,11 @@ pub fn block(
     exits: Exits,
 ) -> Result<u32, AllocError>
     requires room { HasRoom (1 + statements_nodes (statements_of ss.now)) frame.free b.old }
-    ensures adds { IfOk result (λ l. AddsStatement (block (statements_of ss.now)) frame from exits b.old b.new l) }
-    ensures few { IfOk result (λ l. TakesFew (1 + statements_nodes (statements_of ss.now)) frame.free b.old b.new l) }
+    ensures adds { IfOk result (λ l. AddsStatement (block (statements_of ss.now)) frame from exits
+        b.old b.new l) }
+    ensures few { IfOk result (λ l. TakesFew (1 + statements_nodes (statements_of ss.now))
+        frame.free
+        b.old b.new l) }
     ensures literals { OnOk result (IsTrue (statements_literals_fit (statements_of ss.now))) }
 {
     if ss.is_empty() {
@@ -196,8 +203,10 @@ fn set(
     to: u32,
 ) -> Result<u32, AllocError>
     requires room { HasRoom (nodes (expression_of e.now)) frame.free b.old }
-    ensures adds { IfOk result (λ l. AddsSet variable (expression_of e.now) frame from to b.old b.new l) }
-    ensures few { IfOk result (λ l. TakesFew (nodes (expression_of e.now)) frame.free b.old b.new l) }
+    ensures adds { IfOk result (λ l. AddsSet variable (expression_of e.now) frame from to b.old
+        b.new l) }
+    ensures few { IfOk result (λ l. TakesFew (nodes (expression_of e.now)) frame.free b.old b.new
+        l) }
     ensures literals { OnOk result (IsTrue (literals_fit (expression_of e.now))) }
 {
     let landed = value(b, alloc, e, from, frame.free)?;
@@ -224,17 +233,21 @@ fn choice(
     exits: Exits,
 ) -> Result<u32, AllocError>
     requires room { HasRoom
-        (1 + nodes (expression_of e.now) + statement_nodes (statement_of met.now) + statement_nodes (statement_of unmet.now))
+        (1 + nodes (expression_of e.now) + statement_nodes (statement_of met.now) + statement_nodes
+        (statement_of unmet.now))
         frame.free b.old }
     ensures adds { IfOk result
-        (λ l. AddsStatement (if_else (expression_of e.now) (statement_of met.now) (statement_of unmet.now))
+        (λ l. AddsStatement (if_else (expression_of e.now) (statement_of met.now)
+        (statement_of unmet.now))
         frame from exits b.old b.new l) }
     ensures few { IfOk result (λ l. TakesFew
-        (1 + nodes (expression_of e.now) + statement_nodes (statement_of met.now) + statement_nodes (statement_of unmet.now))
+        (1 + nodes (expression_of e.now) + statement_nodes (statement_of met.now) + statement_nodes
+        (statement_of unmet.now))
         frame.free b.old b.new l) }
     ensures test_literals { OnOk result (IsTrue (literals_fit (expression_of e.now))) }
     ensures met_literals { OnOk result (IsTrue (statement_literals_fit (statement_of met.now))) }
-    ensures unmet_literals { OnOk result (IsTrue (statement_literals_fit (statement_of unmet.now))) }
+    ensures unmet_literals { OnOk result
+        (IsTrue (statement_literals_fit (statement_of unmet.now))) }
 {
     let first = b.node();
     let second = b.node();
@@ -265,13 +278,16 @@ fn repetition(
     exits: Exits,
 ) -> Result<u32, AllocError>
     requires room { HasRoom
-        (1 + nodes (expression_of e.now) + statement_nodes (statement_of step.now) + statement_nodes (statement_of body.now))
+        (1 + nodes (expression_of e.now) + statement_nodes (statement_of step.now) + statement_nodes
+        (statement_of body.now))
         frame.free b.old }
     ensures adds { IfOk result
-        (λ l. AddsStatement (loop (expression_of e.now) (statement_of step.now) (statement_of body.now))
+        (λ l. AddsStatement (loop (expression_of e.now) (statement_of step.now)
+        (statement_of body.now))
         frame from exits b.old b.new l) }
     ensures few { IfOk result (λ l. TakesFew
-        (1 + nodes (expression_of e.now) + statement_nodes (statement_of step.now) + statement_nodes (statement_of body.now))
+        (1 + nodes (expression_of e.now) + statement_nodes (statement_of step.now) + statement_nodes
+        (statement_of body.now))
         frame.free b.old b.new l) }
     ensures test_literals { OnOk result (IsTrue (literals_fit (expression_of e.now))) }
     ensures step_literals { OnOk result (IsTrue (statement_literals_fit (statement_of step.now))) }
@@ -315,11 +331,15 @@ fn tested_repetition(
     from: u32,
     exits: Exits,
 ) -> Result<u32, AllocError>
-    requires room { HasRoom (1 + statement_nodes (statement_of body.now) + nodes (expression_of e.now)) frame.free b.old }
+    requires room { HasRoom (1 + statement_nodes (statement_of body.now)
+        + nodes (expression_of e.now))
+        frame.free b.old }
     ensures adds { IfOk result
-        (λ l. AddsStatement (do_while (statement_of body.now) (expression_of e.now)) frame from exits b.old b.new l) }
+        (λ l. AddsStatement (do_while (statement_of body.now) (expression_of e.now)) frame from
+        exits b.old b.new l) }
     ensures few { IfOk result (λ l. TakesFew
-        (1 + statement_nodes (statement_of body.now) + nodes (expression_of e.now)) frame.free b.old b.new l) }
+        (1 + statement_nodes (statement_of body.now) + nodes (expression_of e.now)) frame.free b.old
+        b.new l) }
     ensures body_literals { OnOk result (IsTrue (statement_literals_fit (statement_of body.now))) }
     ensures test_literals { OnOk result (IsTrue (literals_fit (expression_of e.now))) }
 {

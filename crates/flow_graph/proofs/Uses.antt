@@ -1,12 +1,12 @@
 -- What a run uses of its inputs, and frames that go on.
-use Rattle.std.proofs.Common.{◌≡◌, ℕ, zero, suc, List, [], ◌∷◌, ◌++◌, Option, Some, None, ℤ, pos, refl, sym, ap, ◌∙◌, subst, append_assoc, IsTrue, get_or}
-use Rattle.std.specs.Prelude.{slice_get, map}
+use Rattle.std.proofs.Common.{◌≡◌, ℕ, zero, suc, List, [], ◌∷◌, ◌++◌, Option, Some, None, ℤ, refl, sym, ap, ◌∙◌, subst, append_assoc}
+use Rattle.std.specs.Prelude.{slice_get}
 use Rattle.std.proofs.lemmas.List.{append-nil}
-use Rattle.c_tree.specs.Meaning.{State, entered, is_value, with_slot}
+use Rattle.c_tree.specs.Meaning.{State, entered}
 use Rattle.flow_graph.specs.declared.graph.Edge.{Edge}
 use Rattle.flow_graph.specs.declared.graph.Edge.TheVariants.{Entry, Assign, Guard, Input, Pick, Call, Assert, Return}
 use Rattle.flow_graph.specs.declared.graph.Graph.{Graph}
-use Rattle.flow_graph.specs.Runs.{End, came, stopped, failed, Place, inside, left, failing, halted, Called, Step, Moves, Frame, Finishes, EndsIn, EntersGraph, GraphRun}
+use Rattle.flow_graph.specs.Runs.{End, Place, inside, left, failing, halted, Called, Step, Moves, Frame, EndsIn, EntersGraph, GraphRun}
 
 -- what is used, and the same with other inputs behind it
 pub record Uses (P : List ℤ → List ℤ → Type 0) (ins rest : List ℤ) : Type 0 where
@@ -38,7 +38,8 @@ module _ (C : Called) (cuts : Cuts C) where
   moves_cut g (failing id s) b ins rest h = absurd h
   moves_cut g halted b ins rest h = absurd h
 
-  pub ends_cut : (g : List Edge) (k : ℕ) (a : Place) (ins rest : List ℤ) (end : End) → EndsIn C g k a ins rest end → Uses (λ i r. EndsIn C g k a i r end) ins rest
+  pub ends_cut : (g : List Edge) (k : ℕ) (a : Place) (ins rest : List ℤ) (end : End) → EndsIn C g k a ins rest end →
+      Uses (λ i r. EndsIn C g k a i r end) ins rest
   ends_cut g zero a ins rest end h = record { used = []; split = sym h.1; again = λ more. (h.0, refl) }
   ends_cut g (suc k) a ins rest end h =
       let m = moves_cut g a h.0 ins h.1 h.2 in
@@ -46,10 +47,17 @@ module _ (C : Called) (cuts : Cuts C) where
       record {
         used = m.used ++ n.used;
         split = m.split ∙ ap (λ l. m.used ++ l) n.split ∙ sym (append_assoc m.used n.used rest);
-        again = λ more. (h.0, n.used ++ more, subst (λ i. Moves C g a i h.0 (n.used ++ more)) (sym (append_assoc m.used n.used more)) (m.again (n.used ++ more)), n.again more);
+        again = λ more. (
+          h.0,
+          n.used ++ more,
+          subst (λ i. Moves C g a i h.0 (n.used ++ more)) (sym (append_assoc m.used n.used more))
+              (m.again (n.used ++ more)),
+          n.again more,
+        );
       }
 
-  pub frame_cut : (g : List Edge) (k : ℕ) (a b : Place) (ins rest : List ℤ) → Frame C g k a ins b rest → Uses (λ i r. Frame C g k a i b r) ins rest
+  pub frame_cut : (g : List Edge) (k : ℕ) (a b : Place) (ins rest : List ℤ) → Frame C g k a ins b rest → Uses (λ i r. Frame C g k a i b r)
+      ins rest
   frame_cut g zero a b ins rest h = record { used = []; split = sym h.1; again = λ more. (h.0, refl) }
   frame_cut g (suc k) a b ins rest h =
       let m = moves_cut g a h.0 ins h.1 h.2 in
@@ -57,10 +65,17 @@ module _ (C : Called) (cuts : Cuts C) where
       record {
         used = m.used ++ n.used;
         split = m.split ∙ ap (λ l. m.used ++ l) n.split ∙ sym (append_assoc m.used n.used rest);
-        again = λ more. (h.0, n.used ++ more, subst (λ i. Moves C g a i h.0 (n.used ++ more)) (sym (append_assoc m.used n.used more)) (m.again (n.used ++ more)), n.again more);
+        again = λ more. (
+          h.0,
+          n.used ++ more,
+          subst (λ i. Moves C g a i h.0 (n.used ++ more)) (sym (append_assoc m.used n.used more))
+              (m.again (n.used ++ more)),
+          n.again more,
+        );
       }
 
-  enters_cut : (o : Option Graph) (args ins rest : List ℤ) (end : End) → EntersGraph C o args ins rest end → Uses (λ i r. EntersGraph C o args i r end) ins rest
+  enters_cut : (o : Option Graph) (args ins rest : List ℤ) (end : End) → EntersGraph C o args ins rest end →
+      Uses (λ i r. EntersGraph C o args i r end) ins rest
   enters_cut None args ins rest end h = absurd h
   enters_cut (Some g) args ins rest end h =
       let c = ends_cut g.edges h.2 (inside h.0 (entered args)) ins rest end h.4 in

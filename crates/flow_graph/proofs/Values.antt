@@ -1,5 +1,5 @@
 -- States hold values, and what is returned are values.
-use Rattle.std.proofs.Common.{◌≡◌, ℕ, zero, suc, List, [], ◌∷◌, Option, Some, None, ℤ, pos, Bool, true, false, cond, ◌==◌, refl, sym, subst, IsTrue, get_or}
+use Rattle.std.proofs.Common.{ℕ, zero, suc, List, [], ◌∷◌, Option, Some, None, ℤ, pos, Bool, true, false, cond, ◌==◌, refl, sym, subst, IsTrue, get_or}
 use Rattle.std.specs.Prelude.{slice_get, map}
 use Rattle.c_tree.specs.Meaning.{State, entered, is_value, with_slot}
 use Rattle.flow_graph.specs.declared.graph.Edge.{Edge}
@@ -57,7 +57,8 @@ module _ (C : Called) (good : AllReturnValues C) where
   finish_good g (failing id s) e h f = subst ReturnsValues (sym f) tt
   finish_good g halted e h f = subst ReturnsValues (sym f) tt
 
-  pub ends_good : (g : List Edge) (k : ℕ) (a : Place) (ins rest : List ℤ) (e : End) → HoldsValues a → EndsIn C g k a ins rest e → ReturnsValues e
+  pub ends_good : (g : List Edge) (k : ℕ) (a : Place) (ins rest : List ℤ) (e : End) → HoldsValues a → EndsIn C g k a ins rest e →
+      ReturnsValues e
   ends_good g zero a ins rest e h f = finish_good g a e h f.0
   ends_good g (suc k) a ins rest e h f = ends_good g k f.0 f.1 rest e (moves_good g a f.0 ins f.1 h f.2) f.3
 
@@ -65,7 +66,8 @@ module _ (C : Called) (good : AllReturnValues C) where
   frame_good g zero a b ins rest h f = subst HoldsValues (sym f.0) h
   frame_good g (suc k) a b ins rest h f = frame_good g k f.0 b f.1 rest (moves_good g a f.0 ins f.1 h f.2) f.3
 
-  enters_good : (o : Option Graph) (args ins rest : List ℤ) (e : End) → AreAllValues args → EntersGraph C o args ins rest e → ReturnsValues e
+  enters_good : (o : Option Graph) (args ins rest : List ℤ) (e : End) → AreAllValues args → EntersGraph C o args ins rest e →
+      ReturnsValues e
   enters_good None args ins rest e h f = absurd f
   enters_good (Some g) args ins rest e h f = ends_good g.edges f.2 (inside f.0 (entered args)) ins rest e h f.4
 

@@ -12,5 +12,6 @@ takes (Some g) n = g.params == n
 abbrev pub AreGraphs : List Graph → Type 0
 AreGraphs gs =
     (p : ℕ) (g : Graph) → slice_get gs p ≡ Some g →
-    (i from to proc : ℕ) (args : List ℕ) (slot : ℕ) → slice_get g.edges i ≡ Some (Call from to proc args slot) →
+    (i from to proc : ℕ) (args : List ℕ) (slot : ℕ) → slice_get g.edges i
+    ≡ Some (Call from to proc args slot) →
     IsTrue (takes (slice_get gs proc) (length args))

@@ -20,7 +20,7 @@ reading slots entry x =
 abbrev pub entry_reading : (params : ℕ) → ℕ → LinearSum
 entry_reading params x =
     if nat_lt x first_entry then
-      (if nat_lt x params then column_sum (first_entry + x) else constant_sum (pos 0))
+    (if nat_lt x params then column_sum (first_entry + x) else constant_sum (pos 0))
     else column_sum x
 
 -- this sum for one column; the others stay

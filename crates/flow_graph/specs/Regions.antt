@@ -28,7 +28,8 @@ IsAtNode halted = ⊥
 abbrev pub LiesIn : (entry : List ℤ) → List Atom → Place → Type 0
 LiesIn entry rows place = IsAtNode place × HoldsAll (place_columns entry place) rows
 
--- the columns of a region behind the edge: slots and entry values, and at the exit entry and exit values
+-- the columns of a region behind the edge: slots and entry values, and at the exit entry and exit
+-- values
 abbrev pub is_region_column : Edge → ℕ → Bool
 is_region_column (Return from to slot) x = is_value_column first_entry first_entry x
 is_region_column _ x = is_slot_column x || is_entry_column first_entry x
@@ -38,13 +39,15 @@ pub record FitsEdge (edge : Edge) (target : List Atom) : Type 0 where
   pub slots : IsTrue (has_slots max_slots edge)
   pub columns : IsTrue (rows_name_only (is_region_column edge) target)
 
--- From a state of slots and entry values, over the edge, into the target. Before the entry edge there are entry values
+-- From a state of slots and entry values, over the edge, into the target. Before the entry edge
+-- there are entry values
 -- alone. (An edge that is no call needs no graphs.)
 abbrev pub GoesInto : Edge → List Atom → State → (entry : List ℤ) → Type 0
 GoesInto (Entry to params) target s entry =
     (length entry ≡ params) × LiesIn entry target (inside to (entered entry))
 GoesInto edge target s entry =
-    (ins rest : List ℤ) × (b : Place) × Step (GraphRun [] 0) edge s ins b rest × LiesIn entry target b
+    (ins rest : List ℤ) × (b : Place) × Step (GraphRun [] 0) edge s ins b rest × LiesIn entry target
+    b
 
 -- the state before the edge meets the rows
 abbrev pub MeetsBefore : Edge → List Atom → State → (entry : List ℤ) → Type 0

@@ -49,21 +49,26 @@ after_call to slot s (failed id) = failing id s
 abbrev pub Step : Called → Edge → State → List ℤ → Place → List ℤ → Type 0
 Step C (Entry to params) s ins b rest = ⊥
 Step C (Assign from to slot value) s ins b rest =
-    IsTrue (is_value (lin_value s value)) × (b ≡ inside to (with_slot s slot (lin_value s value))) × (rest ≡ ins)
+    IsTrue (is_value (lin_value s value)) × (b ≡ inside to (with_slot s slot (lin_value s value)))
+    × (rest ≡ ins)
 Step C (Guard from to rows) s ins b rest = HoldsAll s rows.atoms × (b ≡ inside to s) × (rest ≡ ins)
 Step C (Input from to slot) s ins b rest =
     (v : ℤ) × IsTrue (is_value v) × (ins ≡ v ∷ rest) × (b ≡ inside to (with_slot s slot v))
 Step C (Pick from to slot rows) s ins b rest =
-    (v : ℤ) × IsTrue (is_value v) × HoldsAll (with_slot s slot v) rows.atoms × (b ≡ inside to (with_slot s slot v)) × (rest ≡ ins)
-Step C (Call from to proc args slot) s ins b rest = (end : End) × C proc (map s args) ins rest end × (b ≡ after_call to slot s end)
-Step C (Assert from to id rows) s ins b rest = HoldsAll s rows.atoms × (b ≡ failing id s) × (rest ≡ ins)
+    (v : ℤ) × IsTrue (is_value v) × HoldsAll (with_slot s slot v) rows.atoms
+    × (b ≡ inside to (with_slot s slot v)) × (rest ≡ ins)
+Step C (Call from to proc args slot) s ins b rest = (end : End) × C proc (map s args) ins rest end
+    × (b ≡ after_call to slot s end)
+Step C (Assert from to id rows) s ins b rest = HoldsAll s rows.atoms × (b ≡ failing id s)
+    × (rest ≡ ins)
 Step C (Return from to slot) s ins b rest = (b ≡ left (s slot ∷ [])) × (rest ≡ ins)
 
 module _ (C : Called) (edges : List Edge) where
   -- over one of the edges, from one place to the next
   abbrev pub Moves : Place → List ℤ → Place → List ℤ → Type 0
   Moves (inside n s) ins b rest =
-      (i : ℕ) × (e : Edge) × (slice_get edges i ≡ Some e) × (source e ≡ Some n) × Step C e s ins b rest
+      (i : ℕ) × (e : Edge) × (slice_get edges i ≡ Some e) × (source e ≡ Some n) × Step C e s ins b
+      rest
   Moves (left values) ins b rest = ⊥
   Moves (failing id s) ins b rest = ⊥
   Moves halted ins b rest = ⊥
@@ -71,7 +76,8 @@ module _ (C : Called) (edges : List Edge) where
   -- over k edges
   abbrev pub Frame : ℕ → Place → List ℤ → Place → List ℤ → Type 0
   Frame zero a ins b rest = (b ≡ a) × (rest ≡ ins)
-  Frame (suc k) a ins b rest = (c : Place) × (mid : List ℤ) × Moves a ins c mid × Frame k c mid b rest
+  Frame (suc k) a ins b rest = (c : Place) × (mid : List ℤ) × Moves a ins c mid × Frame k c mid b
+      rest
 
   -- no call leaves the node, and no step is possible there
   abbrev pub IsStuck : ℕ → State → Type 0
@@ -87,18 +93,21 @@ module _ (C : Called) (edges : List Edge) where
   -- from a place to an end, over k edges
   abbrev pub EndsIn : ℕ → Place → List ℤ → List ℤ → End → Type 0
   EndsIn zero a ins rest end = Finishes a end × (rest ≡ ins)
-  EndsIn (suc k) a ins rest end = (b : Place) × (mid : List ℤ) × Moves a ins b mid × EndsIn k b mid rest end
+  EndsIn (suc k) a ins rest end = (b : Place) × (mid : List ℤ) × Moves a ins b mid × EndsIn k b mid
+      rest end
 
 -- a frame begins over edge 0, with the arguments in the first slots and 0 in the others
 abbrev pub EntersGraph : Called → Option Graph → List ℤ → List ℤ → List ℤ → End → Type 0
 EntersGraph C None args ins rest end = ⊥
 EntersGraph C (Some g) args ins rest end =
-    (to params k : ℕ) × (slice_get g.edges 0 ≡ Some (Entry to params)) × EndsIn C g.edges k (inside to (entered args)) ins rest end
+    (to params k : ℕ) × (slice_get g.edges 0 ≡ Some (Entry to params)) × EndsIn C g.edges k
+    (inside to (entered args)) ins rest end
 
 -- the runs of depth at most d
 abbrev pub GraphRun : List Graph → ℕ → Called
 GraphRun gs zero p args ins rest end = ⊥
-GraphRun gs (suc d) p args ins rest end = EntersGraph (GraphRun gs d) (slice_get gs p) args ins rest end
+GraphRun gs (suc d) p args ins rest end = EntersGraph (GraphRun gs d) (slice_get gs p) args ins rest
+    end
 
 -- the run consumes exactly these inputs
 abbrev pub GraphRuns : List Graph → ℕ → ℕ → List ℤ → List ℤ → End → Type 0

@@ -26,8 +26,10 @@ has_slots slots (Entry to params) = nat_le params slots
 has_slots slots (Assign from to slot value) = nat_lt slot slots && is_lin slots value
 has_slots slots (Guard from to rows) = list_all (names_slots slots) rows.atoms
 has_slots slots (Input from to slot) = nat_lt slot slots
-has_slots slots (Pick from to slot rows) = nat_lt slot slots && list_all (names_slots slots) rows.atoms
-has_slots slots (Call from to proc args slot) = nat_lt slot slots && list_all (λ x. nat_lt x slots) args
+has_slots slots (Pick from to slot rows) = nat_lt slot slots && list_all (names_slots slots)
+    rows.atoms
+has_slots slots (Call from to proc args slot) = nat_lt slot slots && list_all (λ x. nat_lt x slots)
+    args
 has_slots slots (Assert from to id rows) = list_all (names_slots slots) rows.atoms
 has_slots slots (Return from to slot) = nat_lt slot slots
 
@@ -38,7 +40,8 @@ has_terms (Pick from to slot rows) = are_terms rows.atoms
 has_terms (Assert from to id rows) = are_terms rows.atoms
 has_terms _ = true
 
--- nothing leaves the exit and `fail`; a return leads to the exit and nothing else does, and of edges an assertion to `fail`
+-- nothing leaves the exit and `fail`; a return leads to the exit and nothing else does, and of
+-- edges an assertion to `fail`
 pub record IsEdge (nodes exit fail slots : ℕ) (e : Edge) : Type 0 where
   pub leaves : (n : ℕ) → source e ≡ Some n → (n < nodes) × (n ≢ exit) × (n ≢ fail)
   pub in_range : target e < nodes
@@ -67,4 +70,5 @@ pub record IsGraph (nodes exit fail params slots : ℕ) (edges : List Edge) : Ty
   pub are_edges : (i : ℕ) (e : Edge) → slice_get edges i ≡ Some e → IsEdge nodes exit fail slots e
   pub begins : IsTrue (is_entry_of params (slice_get edges 0))
   pub one_entry : (i : ℕ) (e : Edge) → 0 < i → slice_get edges i ≡ Some e → is_entry e ≡ false
-  pub alone : (i : ℕ) (e : Edge) → 0 < i → slice_get edges i ≡ Some e → leads fail e (first_node edges) ≡ false
+  pub alone : (i : ℕ) (e : Edge) → 0 < i → slice_get edges i ≡ Some e →
+      leads fail e (first_node edges) ≡ false

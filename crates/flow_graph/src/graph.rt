@@ -200,7 +200,8 @@ impl Edges {
     }
 }
 
-/// The graph of a procedure. Nodes and slots are numbered from 0; frames end at `exit` and at `fail`.
+/// The graph of a procedure. Nodes and slots are numbered from 0; frames end at `exit` and at
+/// `fail`.
 #[derive(Drop)]
 pub struct Graph {
     pub nodes: u32,

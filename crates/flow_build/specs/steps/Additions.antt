@@ -15,10 +15,12 @@ use Rattle.flow_build.specs.steps.Lowering.{operand_at, landing, landing_of_all,
 use Rattle.flow_build.specs.steps.Building.{is_in_place}
 
 abbrev pub binary_value : Op → Expression → Expression → Value
-binary_value op a b = value_by op (constant_value a) (constant_value b) (has_call b) (value_of a) (value_of b) (test_of a) (test_of b)
+binary_value op a b = value_by op (constant_value a) (constant_value b) (has_call b) (value_of a)
+    (value_of b) (test_of a) (test_of b)
 
 abbrev pub binary_test : Op → Expression → Expression → Test
-binary_test op a b = test_by op (constant_value a) (constant_value b) (has_call b) (value_of a) (value_of b) (test_of a) (test_of b)
+binary_test op a b = test_by op (constant_value a) (constant_value b) (has_call b) (value_of a)
+    (value_of b) (test_of a) (test_of b)
 
 abbrev pub argument_of : (later_call : Bool) → Value → Value
 argument_of later_call v = in_slot (kept_if later_call v)
@@ -56,7 +58,8 @@ pub record AddsAll (vs : Values) (from t : ℕ) (old new : Builder) (l : Reached
   pub slot : l.slot ≡ t + slots_of_all vs
 
 -- a value in a slot
-pub record AddsSlot (v : Value) (from t : ℕ) (old new : Builder) (l : Reached) (slot : ℕ) : Type 0 where
+pub record AddsSlot (v : Value) (from t : ℕ) (old new : Builder) (l : Reached) (slot : ℕ) : Type
+    0 where
   pub blocks : AddsBlocks (value_blocks v from t old.next) (nodes_of v) old new
   pub node : l.node ≡ landing v from old.next
   pub free : l.slot ≡ t + slots_of v
@@ -64,7 +67,9 @@ pub record AddsSlot (v : Value) (from t : ℕ) (old new : Builder) (l : Reached)
 
 -- the values of both sides
 pub record AddsBoth (v u : Value) (from t : ℕ) (old new : Builder) (l : BothSides) : Type 0 where
-  pub blocks : AddsBlocks (value_blocks v from t old.next ++ value_blocks u (landing v from old.next) (t + slots_of v) (old.next + nodes_of v)) (nodes_of v + nodes_of u) old new
+  pub blocks : AddsBlocks (value_blocks v from t old.next ++ value_blocks u
+      (landing v from old.next)
+      (t + slots_of v) (old.next + nodes_of v)) (nodes_of v + nodes_of u) old new
   pub left : l.left ≡ operand_at v t
   pub right : l.right.operand ≡ operand_at u (t + slots_of v)
   pub node : l.right.node ≡ landing u (landing v from old.next) (old.next + nodes_of v)
@@ -72,6 +77,7 @@ pub record AddsBoth (v u : Value) (from t : ℕ) (old new : Builder) (l : BothSi
   pub in_place : l.right.in_place ≡ is_in_place u
 
 -- a test's blocks are added, from a node to one of the targets
-pub record AddsTest (c : Test) (from : ℕ) (met unmet : Target) (t : ℕ) (old new : Builder) (free : ℕ) : Type 0 where
+pub record AddsTest (c : Test) (from : ℕ) (met unmet : Target) (t : ℕ) (old new : Builder)
+    (free : ℕ) : Type 0 where
   pub blocks : AddsBlocks (test_blocks c from met unmet t old.next) (nodes_of_test c) old new
   pub slot : free ≡ t + slots_of_test c

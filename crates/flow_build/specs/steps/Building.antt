@@ -79,8 +79,10 @@ abbrev mutual
   statement_literals_fit (ignore e) = literals_fit e
   statement_literals_fit (assume e) = literals_fit e
   statement_literals_fit (assert id e) = literals_fit e
-  statement_literals_fit (if_else e a b) = literals_fit e && statement_literals_fit a && statement_literals_fit b
-  statement_literals_fit (loop e step body) = literals_fit e && statement_literals_fit body && statement_literals_fit step
+  statement_literals_fit (if_else e a b) = literals_fit e && statement_literals_fit a &&
+      statement_literals_fit b
+  statement_literals_fit (loop e step body) = literals_fit e && statement_literals_fit body &&
+      statement_literals_fit step
   statement_literals_fit (do_while body e) = statement_literals_fit body && literals_fit e
   statement_literals_fit break = true
   statement_literals_fit continue = true

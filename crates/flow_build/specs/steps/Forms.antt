@@ -1,4 +1,5 @@
--- Expressions in the forms that edges can have: values, which come to an operand, and tests, which lead one of two ways.
+-- Expressions in the forms that edges can have: values, which come to an operand, and tests, which
+-- lead one of two ways.
 use Rattle.std.specs.Prelude.{ℕ, ℤ, Bool}
 use Rattle.c_tree.specs.declared.tree.Op.{Op}
 

@@ -1,4 +1,5 @@
--- The blocks of values, tests and statements. Each begins at a given node; its other nodes are numbered from `lo` on, and
+-- The blocks of values, tests and statements. Each begins at a given node; its other nodes are
+-- numbered from `lo` on, and
 -- its slots from `t` on.
 use Rattle.std.specs.Prelude.{ℕ, ◌+◌, max, Bool, true, false, List, [], ◌∷◌, ◌++◌, None, Some, pos}
 use Rattle.c_tree.specs.Syntax.{Expression, Statement, block, set, ignore, assume, assert, if_else, loop, do_while, break, continue, return, Statements, no_statements, statement}
@@ -96,29 +97,37 @@ abbrev mutual
   value_blocks input from t lo = one from (Input from lo t) ∷ []
   value_blocks (call p vs) from t lo =
       let n = landing_of_all vs from (lo + 1) in
-      values_blocks vs from (t + 1) (lo + 1) ++ one n (Call n lo p (argument_slots vs (t + 1)) t) ∷ []
+      values_blocks vs from (t + 1) (lo + 1) ++ one n (Call n lo p (argument_slots vs (t + 1)) t)
+      ∷ []
   value_blocks (scale c v) from t lo =
       let n = landing v from (lo + 1) in
-      value_blocks v from (t + 1) (lo + 1) ++ one n (Assign n lo t (scaled_lin c (operand_at v (t + 1)))) ∷ []
+      value_blocks v from (t + 1) (lo + 1)
+      ++ one n (Assign n lo t (scaled_lin c (operand_at v (t + 1))))
+      ∷ []
   value_blocks (sum v u) from t lo =
       let m = landing v from (lo + 1) in
       let n = landing u m (lo + 1 + nodes_of v) in
       value_blocks v from (t + 1) (lo + 1)
       ++ (value_blocks u m (t + 1 + slots_of v) (lo + 1 + nodes_of v)
-      ++ one n (Assign n lo t (sum_lin (operand_at v (t + 1)) (operand_at u (t + 1 + slots_of v)))) ∷ [])
+      ++ one n (Assign n lo t (sum_lin (operand_at v (t + 1)) (operand_at u (t + 1 + slots_of v))))
+      ∷ [])
   value_blocks (difference v u) from t lo =
       let m = landing v from (lo + 1) in
       let n = landing u m (lo + 1 + nodes_of v) in
       value_blocks v from (t + 1) (lo + 1)
       ++ (value_blocks u m (t + 1 + slots_of v) (lo + 1 + nodes_of v)
-      ++ one n (Assign n lo t (difference_lin (operand_at v (t + 1)) (operand_at u (t + 1 + slots_of v)))) ∷ [])
+      ++ one n (Assign n lo t
+      (difference_lin (operand_at v (t + 1)) (operand_at u (t + 1 + slots_of v))))
+      ∷ [])
   value_blocks (truth c) from t lo =
       test_blocks c from (Node (lo + 1)) (Node (lo + 2)) (t + 1) (lo + 3)
-      ++ one (lo + 1) (Assign (lo + 1) lo t (constant_lin (pos 1))) ∷ one (lo + 2) (Assign (lo + 2) lo t (constant_lin (pos 0))) ∷ []
+      ++ one (lo + 1) (Assign (lo + 1) lo t (constant_lin (pos 1)))
+      ∷ one (lo + 2) (Assign (lo + 2) lo t (constant_lin (pos 0))) ∷ []
 
   pub values_blocks : Values → (from t lo : ℕ) → List Block
   values_blocks no_values from t lo = []
-  values_blocks (value v vs) from t lo = value_blocks v from t lo ++ values_blocks vs (landing v from lo) (t + slots_of v) (lo + nodes_of v)
+  values_blocks (value v vs) from t lo = value_blocks v from t lo ++ values_blocks vs
+      (landing v from lo) (t + slots_of v) (lo + nodes_of v)
 
   -- from a node to one of the targets
   pub test_blocks : Test → (from : ℕ) → (met unmet : Target) → (t lo : ℕ) → List Block
@@ -129,12 +138,19 @@ abbrev mutual
       let b = operand_at u (t + slots_of v) in
       value_blocks v from t lo
       ++ (value_blocks u m (t + slots_of v) (lo + nodes_of v)
-      ++ record { node = n; edges = ways n met (rows_where op a b) ++ ways n unmet (rows_where (opposite_op op) a b) } ∷ [])
+      ++ record {
+        node = n;
+        edges = ways n met (rows_where op a b) ++ ways n unmet
+            (rows_where (opposite_op op) a b);
+      } ∷ [])
   test_blocks (opposite c) from met unmet t lo = test_blocks c from unmet met t lo
   test_blocks (both c d) from met unmet t lo =
-      test_blocks c from (Node lo) unmet t (lo + 1) ++ test_blocks d lo met unmet (t + slots_of_test c) (lo + 1 + nodes_of_test c)
+      test_blocks c from (Node lo) unmet t (lo + 1) ++ test_blocks d lo met unmet
+      (t + slots_of_test c) (lo + 1 + nodes_of_test c)
   test_blocks (either c d) from met unmet t lo =
-      test_blocks c from met (Node lo) t (lo + 1) ++ test_blocks d lo met unmet (t + slots_of_test c) (lo + 1 + nodes_of_test c)
+      test_blocks c from met (Node lo) t (lo + 1) ++ test_blocks d lo met unmet
+      (t + slots_of_test c)
+      (lo + 1 + nodes_of_test c)
 
 -- the node between a statement and those behind it
 abbrev pub between : Statements → (to lo : ℕ) → ℕ
@@ -156,8 +172,10 @@ abbrev mutual
   nodes_of_statement (ignore e) = nodes_of (value_of e)
   nodes_of_statement (assume e) = nodes_of_test (test_of e)
   nodes_of_statement (assert id e) = nodes_of_test (test_of e)
-  nodes_of_statement (if_else e a b) = 2 + nodes_of_test (test_of e) + nodes_of_statement a + nodes_of_statement b
-  nodes_of_statement (loop e step body) = 2 + nodes_of_test (test_of e) + nodes_of_statement body + nodes_of_statement step
+  nodes_of_statement (if_else e a b) = 2 + nodes_of_test (test_of e) + nodes_of_statement a
+      + nodes_of_statement b
+  nodes_of_statement (loop e step body) = 2 + nodes_of_test (test_of e) + nodes_of_statement body
+      + nodes_of_statement step
   nodes_of_statement (do_while body e) = 1 + nodes_of_statement body + nodes_of_test (test_of e)
   nodes_of_statement break = 0
   nodes_of_statement continue = 0
@@ -166,7 +184,8 @@ abbrev mutual
 
   pub nodes_of_statements : Statements → ℕ
   nodes_of_statements no_statements = 0
-  nodes_of_statements (statement s ss) = nodes_between ss + nodes_of_statement s + nodes_of_statements ss
+  nodes_of_statements (statement s ss) = nodes_between ss + nodes_of_statement s
+      + nodes_of_statements ss
 
 -- the most slots that a statement takes at a time
 abbrev mutual
@@ -176,8 +195,10 @@ abbrev mutual
   slots_of_statement (ignore e) = slots_of (value_of e)
   slots_of_statement (assume e) = slots_of_test (test_of e)
   slots_of_statement (assert id e) = slots_of_test (test_of e)
-  slots_of_statement (if_else e a b) = max (slots_of_test (test_of e)) (max (slots_of_statement a) (slots_of_statement b))
-  slots_of_statement (loop e step body) = max (slots_of_test (test_of e)) (max (slots_of_statement body) (slots_of_statement step))
+  slots_of_statement (if_else e a b) = max (slots_of_test (test_of e))
+      (max (slots_of_statement a) (slots_of_statement b))
+  slots_of_statement (loop e step body) = max (slots_of_test (test_of e))
+      (max (slots_of_statement body) (slots_of_statement step))
   slots_of_statement (do_while body e) = max (slots_of_statement body) (slots_of_test (test_of e))
   slots_of_statement break = 0
   slots_of_statement continue = 0
@@ -198,11 +219,13 @@ module _ (gives : Bool) (t : ℕ) where
   abbrev mutual
     -- from a node to `to`; `brk` and `con` are where Break and Continue lead
     pub statement_blocks : Statement → (from to brk con lo : ℕ) → List Block
-    statement_blocks (block no_statements) from to brk con lo = one from (Guard from to (record { atoms = [] })) ∷ []
+    statement_blocks (block no_statements) from to brk con lo = one from
+        (Guard from to (record { atoms = [] })) ∷ []
     statement_blocks (block (statement s ss)) from to brk con lo =
         let m = between ss to lo in
         let l = lo + nodes_between ss in
-        statement_blocks s from m brk con l ++ statements_blocks ss m to brk con (l + nodes_of_statement s)
+        statement_blocks s from m brk con l ++ statements_blocks ss m to brk con
+        (l + nodes_of_statement s)
     statement_blocks (set x e) from to brk con lo =
         let v = value_of e in
         let n = landing v from lo in
@@ -211,22 +234,29 @@ module _ (gives : Bool) (t : ℕ) where
         let v = value_of e in
         let n = landing v from lo in
         value_blocks v from t lo ++ one n (Guard n to (record { atoms = [] })) ∷ []
-    statement_blocks (assume e) from to brk con lo = test_blocks (test_of e) from (Node to) Nowhere t lo
-    statement_blocks (assert id e) from to brk con lo = test_blocks (test_of e) from (Node to) (Fails id) t lo
+    statement_blocks (assume e) from to brk con lo = test_blocks (test_of e) from (Node to) Nowhere
+        t lo
+    statement_blocks (assert id e) from to brk con lo = test_blocks (test_of e) from (Node to)
+        (Fails id) t lo
     statement_blocks (if_else e a b) from to brk con lo =
         let i = lo + 2 + nodes_of_test (test_of e) in
         test_blocks (test_of e) from (Node lo) (Node (lo + 1)) t (lo + 2)
-        ++ (statement_blocks a lo to brk con i ++ statement_blocks b (lo + 1) to brk con (i + nodes_of_statement a))
+        ++ (statement_blocks a lo to brk con i ++ statement_blocks b (lo + 1) to brk con
+        (i + nodes_of_statement a))
     statement_blocks (loop e step body) from to brk con lo =
         let i = lo + 2 + nodes_of_test (test_of e) in
         test_blocks (test_of e) from (Node lo) (Node to) t (lo + 2)
-        ++ (statement_blocks body lo (lo + 1) to (lo + 1) i ++ statement_blocks step (lo + 1) from to from (i + nodes_of_statement body))
+        ++ (statement_blocks body lo (lo + 1) to (lo + 1) i ++ statement_blocks step (lo + 1) from
+        to from (i + nodes_of_statement body))
     statement_blocks (do_while body e) from to brk con lo =
         statement_blocks body from lo to lo (lo + 1)
         ++ test_blocks (test_of e) lo (Node from) (Node to) t (lo + 1 + nodes_of_statement body)
-    statement_blocks break from to brk con lo = one from (Guard from brk (record { atoms = [] })) ∷ []
-    statement_blocks continue from to brk con lo = one from (Guard from con (record { atoms = [] })) ∷ []
-    statement_blocks (return None) from to brk con lo = one from (Assign from return_node t (constant_lin (pos 0))) ∷ []
+    statement_blocks break from to brk con lo = one from (Guard from brk (record { atoms = [] }))
+        ∷ []
+    statement_blocks continue from to brk con lo = one from (Guard from con (record { atoms = [] }))
+        ∷ []
+    statement_blocks (return None) from to brk con lo = one from
+        (Assign from return_node t (constant_lin (pos 0))) ∷ []
     statement_blocks (return (Some e)) from to brk con lo =
         let v = result_of e in
         let n = landing v from lo in
@@ -238,4 +268,5 @@ module _ (gives : Bool) (t : ℕ) where
     statements_blocks (statement s ss) from to brk con lo =
         let m = between ss to lo in
         let l = lo + nodes_between ss in
-        statement_blocks s from m brk con l ++ statements_blocks ss m to brk con (l + nodes_of_statement s)
+        statement_blocks s from m brk con l ++ statements_blocks ss m to brk con
+        (l + nodes_of_statement s)

@@ -47,10 +47,16 @@ abbrev pub operand_lin : Operand → Lin
 operand_lin a = record { parts = multiple_parts (pos 1) a; constant = constant_of a }
 
 abbrev pub sum_lin : Operand → Operand → Lin
-sum_lin a b = record { parts = multiple_parts (pos 1) a ++ multiple_parts (pos 1) b; constant = constant_of a +ℤ constant_of b }
+sum_lin a b = record {
+  parts = multiple_parts (pos 1) a ++ multiple_parts (pos 1) b;
+  constant = constant_of a +ℤ constant_of b;
+}
 
 abbrev pub difference_lin : Operand → Operand → Lin
-difference_lin a b = record { parts = multiple_parts (pos 1) a ++ multiple_parts (negsuc 0) b; constant = constant_of a -ℤ constant_of b }
+difference_lin a b = record {
+  parts = multiple_parts (pos 1) a ++ multiple_parts (negsuc 0) b;
+  constant = constant_of a -ℤ constant_of b;
+}
 
 abbrev pub operand_sum : Operand → LinearSum
 operand_sum (Variable x) = column_sum x
@@ -58,7 +64,10 @@ operand_sum (Constant n) = constant_sum n
 
 -- a - b + k <= 0
 abbrev pub row : Operand → Operand → ℤ → Atom
-row a b k = record { term = combination ((pos 1, operand_sum a) ∷ (negsuc 0, operand_sum b) ∷ []) k }
+row a b k = record {
+  term = combination ((pos 1, operand_sum a) ∷ (negsuc 0, operand_sum b) ∷ [])
+      k;
+}
 
 abbrev pub less : Operand → Operand → Atom
 less a b = row a b (pos 1)

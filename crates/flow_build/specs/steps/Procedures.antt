@@ -14,7 +14,8 @@ procedure_blocks p =
     one entry_node (Guard entry_node body_node (record { atoms = [] }))
     ∷ one end_node (Assign end_node return_node p.slots (constant_lin (pos 0)))
     ∷ one return_node (Return return_node exit_node p.slots)
-    ∷ statement_blocks p.gives p.slots (block p.body) body_node end_node end_node end_node first_free
+    ∷ statement_blocks p.gives p.slots (block p.body) body_node end_node end_node end_node
+    first_free
 
 abbrev pub procedure_edges : PureProcedure → List Edge
 procedure_edges p = Entry entry_node p.params ∷ edges_of (procedure_blocks p)

@@ -12,16 +12,25 @@ use Rattle.flow_build.specs.steps.Lowering.{operand_at, argument_slot, landing, 
 use Rattle.flow_build.specs.steps.Additions.{AddsBlocks}
 
 -- the assignment of an expression's value to a variable
-pub record AddsSet (x : ℕ) (e : Expression) (frame : Frame) (from to : ℕ) (old new : Builder) (free : ℕ) : Type 0 where
-  pub blocks : AddsBlocks (value_blocks (value_of e) from frame.free old.next ++ one (landing (value_of e) from old.next) (Assign (landing (value_of e) from old.next) to x (operand_lin (operand_at (value_of e) frame.free))) ∷ []) (nodes_of (value_of e)) old new
+pub record AddsSet (x : ℕ) (e : Expression) (frame : Frame) (from to : ℕ) (old new : Builder)
+    (free : ℕ) : Type 0 where
+  pub blocks : AddsBlocks (value_blocks (value_of e) from frame.free old.next
+      ++ one (landing (value_of e) from old.next) (Assign (landing (value_of e) from old.next) to x
+      (operand_lin (operand_at (value_of e) frame.free))) ∷ []) (nodes_of (value_of e)) old new
   pub slot : free ≡ frame.free + slots_of (value_of e)
 
 -- the return of an expression's value
-pub record AddsResult (e : Expression) (frame : Frame) (from : ℕ) (old new : Builder) (free : ℕ) : Type 0 where
-  pub blocks : AddsBlocks (value_blocks (result_of e) from frame.free old.next ++ one (landing (result_of e) from old.next) (return_edge frame.gives (landing (result_of e) from old.next) (argument_slot (result_of e) frame.free) frame.free) ∷ []) (nodes_of (result_of e)) old new
+pub record AddsResult (e : Expression) (frame : Frame) (from : ℕ) (old new : Builder) (free : ℕ) :
+    Type 0 where
+  pub blocks : AddsBlocks (value_blocks (result_of e) from frame.free old.next
+      ++ one (landing (result_of e) from old.next)
+      (return_edge frame.gives (landing (result_of e) from old.next)
+      (argument_slot (result_of e) frame.free) frame.free) ∷ []) (nodes_of (result_of e)) old new
   pub slot : free ≡ frame.free + slots_of (result_of e)
 
 -- a statement's blocks are added, from a node on
-pub record AddsStatement (s : Statement) (frame : Frame) (from : ℕ) (exits : Exits) (old new : Builder) (free : ℕ) : Type 0 where
-  pub blocks : AddsBlocks (statement_blocks frame.gives frame.free s from exits.to exits.on_break exits.on_continue old.next) (nodes_of_statement s) old new
+pub record AddsStatement (s : Statement) (frame : Frame) (from : ℕ) (exits : Exits)
+    (old new : Builder) (free : ℕ) : Type 0 where
+  pub blocks : AddsBlocks (statement_blocks frame.gives frame.free s from exits.to exits.on_break
+      exits.on_continue old.next) (nodes_of_statement s) old new
   pub slot : free ≡ frame.free + slots_of_statement s

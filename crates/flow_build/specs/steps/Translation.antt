@@ -1,5 +1,5 @@
 -- The form of an expression.
-use Rattle.std.specs.Prelude.{Bool, true, false, ◌||◌, not as not_bool, Option, None, Some, ℤ, pos, negsuc, ◌+ℤ◌, ◌-ℤ◌, ◌*ℤ◌, neg_ℤ, if◌then◌else◌}
+use Rattle.std.specs.Prelude.{Bool, true, false, ◌||◌, not as not_bool, Option, None, Some, ℤ, pos, negsuc, ◌+ℤ◌, ◌-ℤ◌, ◌*ℤ◌}
 use Rattle.c_tree.specs.Meaning.{is_value}
 use Rattle.c_tree.specs.declared.tree.Op.{Op}
 use Rattle.c_tree.specs.declared.tree.Op.TheVariants.{Add, Subtract, Multiply, Unequal, And, Or}
@@ -56,9 +56,11 @@ added later_call v u = sum (kept_if (later_call || overflows (λ x y. x +ℤ y) 
 -- The least value has no negative one.
 abbrev pub subtracted : (later_call : Bool) → Value → Value → Value
 subtracted later_call v u =
-    difference (kept_if (later_call || overflows (λ x y. x -ℤ y) v u) v) (kept_if (overflows_by (negsuc 0) u) u)
+    difference (kept_if (later_call || overflows (λ x y. x -ℤ y) v u) v)
+    (kept_if (overflows_by (negsuc 0) u) u)
 
--- A product is a multiple by a side that has a value before the run. Where neither side has, a constant side stops the
+-- A product is a multiple by a side that has a value before the run. Where neither side has, a
+-- constant side stops the
 -- run, and what is done with the sides' values is never reached.
 abbrev pub multiplied : (left right : Option ℤ) → (later_call : Bool) → Value → Value → Value
 multiplied (Some c) right later_call v u = scaled c u
@@ -73,7 +75,8 @@ abbrev pub nonzero : Value → Test
 nonzero v = compare Unequal v (literal false (pos 0))
 
 -- the form of an operation with these sides
-abbrev pub value_by : Op → (left right : Option ℤ) → (later_call : Bool) → (v u : Value) → (c d : Test) → Value
+abbrev pub value_by : Op → (left right : Option ℤ) → (later_call : Bool) → (v u : Value) →
+    (c d : Test) → Value
 value_by Add left right later_call v u c d = added later_call v u
 value_by Subtract left right later_call v u c d = subtracted later_call v u
 value_by Multiply left right later_call v u c d = multiplied left right later_call v u
@@ -81,7 +84,8 @@ value_by And left right later_call v u c d = truth (both c d)
 value_by Or left right later_call v u c d = truth (either c d)
 value_by op left right later_call v u c d = truth (compared op later_call v u)
 
-abbrev pub test_by : Op → (left right : Option ℤ) → (later_call : Bool) → (v u : Value) → (c d : Test) → Test
+abbrev pub test_by : Op → (left right : Option ℤ) → (later_call : Bool) → (v u : Value) →
+    (c d : Test) → Test
 test_by Add left right later_call v u c d = nonzero (added later_call v u)
 test_by Subtract left right later_call v u c d = nonzero (subtracted later_call v u)
 test_by Multiply left right later_call v u c d = nonzero (multiplied left right later_call v u)
@@ -97,7 +101,8 @@ abbrev mutual
   value_of (source.call p es) = call p (values_of es)
   value_of (source.negate e) = scaled (negsuc 0) (value_of e)
   value_of (source.not e) = truth (opposite (test_of e))
-  value_of (source.binary op a b) = value_by op (constant_value a) (constant_value b) (has_call b) (value_of a) (value_of b) (test_of a) (test_of b)
+  value_of (source.binary op a b) = value_by op (constant_value a) (constant_value b) (has_call b)
+      (value_of a) (value_of b) (test_of a) (test_of b)
 
   -- An argument waits in a slot of its own where a later one has a call.
   pub values_of : Expressions → Values
@@ -111,4 +116,5 @@ abbrev mutual
   test_of (source.call p es) = nonzero (call p (values_of es))
   test_of (source.negate e) = nonzero (scaled (negsuc 0) (value_of e))
   test_of (source.not e) = opposite (test_of e)
-  test_of (source.binary op a b) = test_by op (constant_value a) (constant_value b) (has_call b) (value_of a) (value_of b) (test_of a) (test_of b)
+  test_of (source.binary op a b) = test_by op (constant_value a) (constant_value b) (has_call b)
+      (value_of a) (value_of b) (test_of a) (test_of b)

@@ -5,7 +5,7 @@ use Rattle.std.specs.Int.{w64}
 use Rattle.c_tree.specs.declared.tree.Expr.{Expr}
 use Rattle.flow_graph.specs.declared.graph.Edge.{Edge}
 use Rattle.c_tree.proofs.Rows.{call_of}
-use Rattle.c_tree.specs.Syntax.{Expression, Expressions}
+use Rattle.c_tree.specs.Syntax.{Expression}
 use Rattle.c_tree.specs.Syntax as source
 use Rattle.c_tree.specs.View.{expression_of, expressions_of}
 use Rattle.c_tree.specs.WellFormed.{nodes, nodes_all}
@@ -37,58 +37,84 @@ argument-returns-clause-adds t c =
     let k = c.in_ok-landed-2.ensures in
     let keep : c.if-later_call.keep ≡ (c.args.later_call || is_constant_operand (operand_at v c.args.t)) =
     elim c.if-later_call.branch [
-      | argument-then-later_call w ↦ w.keep-is ∙ w.if-later_call.true ∙ ap (λ b. b || is_constant_operand (operand_at v c.args.t)) (sym w.if-later_call.true)
+      | argument-then-later_call w ↦ w.keep-is ∙ w.if-later_call.true ∙ ap (λ b. b || is_constant_operand (operand_at v c.args.t))
+          (sym w.if-later_call.true)
       | argument-else-later_call w ↦
-          w.keep-is ∙ w.is_constant-keep.ensures ∙ ap is_constant_operand c.in_ok-landed.ensures.adds.operand ∙ ap (λ b. b || is_constant_operand (operand_at v c.args.t)) (sym w.if-later_call.false)
+          w.keep-is ∙ w.is_constant-keep.ensures ∙ ap is_constant_operand c.in_ok-landed.ensures.adds.operand
+          ∙ ap (λ b. b || is_constant_operand (operand_at v c.args.t)) (sym w.if-later_call.false)
     ] in
     let P : Bool → Type 0 = λ b. Adds (kept_value_if b v) c.args.from c.args.t c.args.b.now c.kept_if.new.b m in
-    let added = kept_added c.if-later_call.keep v c.args.from c.args.t c.args.b.now c.value.new.b c.kept_if.new.b l m c.in_ok-landed.ensures.adds k.edges k.next k.node k.operand k.slot k.in_place in
-    slot_added c.args.later_call v c.args.from c.args.t c.slot.result c.args.b.now c.kept_if.new.b m (record { node = m.node; slot = m.slot }) (subst P keep added) refl refl c.slot.ensures
+    let added = kept_added c.if-later_call.keep v c.args.from c.args.t c.args.b.now c.value.new.b c.kept_if.new.b l m
+    c.in_ok-landed.ensures.adds k.edges k.next k.node k.operand k.slot k.in_place in
+    slot_added c.args.later_call v c.args.from c.args.t c.slot.result c.args.b.now c.kept_if.new.b m
+    (record { node = m.node; slot = m.slot })
+    (subst P keep added) refl refl c.slot.ensures
 
 pub arguments-returns-in_ok-push-in-len1-up-clause-adds :
     goal.arguments-returns-in_ok-push-in-len1-up-clause-adds
 arguments-returns-in_ok-push-in-len1-up-clause-adds t c =
-    if_ok c.arguments.result (λ l. AddsAll (values_of (expressions_of c.args.es.now)) c.args.from c.args.t c.args.b.now c.arguments.new.b l) (λ l e.
+    if_ok c.arguments.result (λ l. AddsAll (values_of (expressions_of c.args.es.now)) c.args.from c.args.t c.args.b.now c.arguments.new.b l)
+    (λ l e.
     let rest = take (length c.args.es.now - 1) (drop 1 c.args.es.now) in
     let first = c.first-item.result in
     let w = c.in_ok-argument-in-len1-up.argument in
-    let more = if_at c.arguments.result l (λ x. AddsAll (values_of (expressions_of rest)) w.last.node w.last.slot c.argument.new.b c.arguments.new.b x) e c.arguments.ensures.adds in
+    let more = if_at c.arguments.result l (λ x. AddsAll (values_of (expressions_of rest)) w.last.node w.last.slot c.argument.new.b
+    c.arguments.new.b x) e c.arguments.ensures.adds in
     let P : List Expr → Type 0 = λ es. AddsAll (values_of (expressions_of es)) c.args.from c.args.t c.args.b.now c.arguments.new.b l in
-    let Q : Bool → Type 0 = λ b. AddsSlot (argument_of b (value_of (expression_of first))) c.args.from c.args.t c.args.b.now c.argument.new.b w.last w.slot in
+    let Q : Bool → Type 0 = λ b. AddsSlot (argument_of b (value_of (expression_of first))) c.args.from c.args.t c.args.b.now
+    c.argument.new.b
+    w.last w.slot in
     let one = subst Q c.have_call.ensures c.in_ok-argument-in-len1-up.ensures.adds in
     subst P (sym (first_and_rest c.args.es.now first c.in-len1-up.len_at_least c.first-item.is))
-    (arguments_added (argument_of (have_call (expressions_of rest)) (value_of (expression_of first))) (values_of (expressions_of rest)) c.args.from c.args.t w.slot c.args.b.now c.argument.new.b c.arguments.new.b w.last l one more))
+    (arguments_added (argument_of (have_call (expressions_of rest)) (value_of (expression_of first))) (values_of (expressions_of rest))
+    c.args.from c.args.t w.slot c.args.b.now c.argument.new.b c.arguments.new.b w.last l one more))
 
 pub call-returns-clause-adds : goal.call-returns-clause-adds
 call-returns-clause-adds t c =
-    call_added c.args.proc (values_of (expressions_of c.args.es.now)) c.args.from c.args.t c.args.b.now c.node-to.new.self c.arguments.new.b c.push.new.self c.arguments.new.args.items c.in_ok-last.last c.in_slot.result
+    call_added c.args.proc (values_of (expressions_of c.args.es.now)) c.args.from c.args.t c.args.b.now c.node-to.new.self c.arguments.new.b
+    c.push.new.self c.arguments.new.args.items c.in_ok-last.last c.in_slot.result
     c.node-to.ensures.edges c.node-to.ensures.next c.in_ok-last.ensures.adds
-    (c.in_ok-last.ensures.args ∙ ap (λ l. l ++ argument_slots (values_of (expressions_of c.args.es.now)) (c.args.t + 1)) c.new-args.ensures.items)
-    (c.in_ok-push.ensures.edges ∙ ap (λ i. c.arguments.new.b.edges.items ++ Call c.in_ok-last.last.node i c.args.proc c.from_vec.result c.args.t ∷ []) c.node-to.ensures.node
-    ∙ ap (λ l. c.arguments.new.b.edges.items ++ Call c.in_ok-last.last.node c.args.b.now.next c.args.proc l c.args.t ∷ []) c.from_vec.ensures)
-    c.push.ensures.next (c.in_slot.ensures.node ∙ c.node-to.ensures.node) c.in_slot.ensures.operand c.in_slot.ensures.slot c.in_slot.ensures.in_place
+    (c.in_ok-last.ensures.args ∙ ap (λ l. l ++ argument_slots (values_of (expressions_of c.args.es.now)) (c.args.t + 1))
+    c.new-args.ensures.items)
+    (c.in_ok-push.ensures.edges ∙ ap (λ i. c.arguments.new.b.edges.items ++ Call c.in_ok-last.last.node i c.args.proc c.from_vec.result
+    c.args.t ∷ []) c.node-to.ensures.node
+    ∙ ap (λ l. c.arguments.new.b.edges.items ++ Call c.in_ok-last.last.node c.args.b.now.next c.args.proc l c.args.t ∷ [])
+    c.from_vec.ensures)
+    c.push.ensures.next (c.in_slot.ensures.node ∙ c.node-to.ensures.node) c.in_slot.ensures.operand c.in_slot.ensures.slot
+    c.in_slot.ensures.in_place
 
 pub condition-returns-in_ok-free-in-And-clause-adds :
     goal.condition-returns-in_ok-free-in-And-clause-adds
 condition-returns-in_ok-free-in-And-clause-adds t c =
     let a = expression_of c.args.left.now in
     let b = expression_of c.args.right.now in
-    if_ok c.test-in-And.result (λ l. AddsTest (binary_test c.args.op a b) c.args.from c.args.met c.args.unmet c.args.t c.args.b.now c.test-in-And.new.b l) (λ l e.
-    let P : Op → Type 0 = λ op. AddsTest (binary_test op a b) c.args.from c.args.met c.args.unmet c.args.t c.args.b.now c.test-in-And.new.b l in
+    if_ok c.test-in-And.result (λ l. AddsTest (binary_test c.args.op a b) c.args.from c.args.met c.args.unmet c.args.t c.args.b.now
+    c.test-in-And.new.b l) (λ l e.
+    let P : Op → Type 0 = λ op. AddsTest (binary_test op a b) c.args.from c.args.met c.args.unmet c.args.t c.args.b.now c.test-in-And.new.b
+    l
+    in
     subst P (sym c.in-And.is)
-    (both_tests_added (test_of a) (test_of b) c.args.from c.args.met c.args.unmet c.args.t c.node-middle.result c.in_ok-free-in-And.free l c.args.b.now c.node-middle.new.self c.test.new.b c.test-in-And.new.b
-    c.node-middle.ensures.edges c.node-middle.ensures.next c.node-middle.ensures.node c.in_ok-free-in-And.ensures.adds (if_at c.test-in-And.result l (λ x. AddsTest (test_of b) c.node-middle.result c.args.met c.args.unmet c.in_ok-free-in-And.free c.test.new.b c.test-in-And.new.b x) e c.test-in-And.ensures.adds)))
+    (both_tests_added (test_of a) (test_of b) c.args.from c.args.met c.args.unmet c.args.t c.node-middle.result c.in_ok-free-in-And.free l
+    c.args.b.now c.node-middle.new.self c.test.new.b c.test-in-And.new.b
+    c.node-middle.ensures.edges c.node-middle.ensures.next c.node-middle.ensures.node c.in_ok-free-in-And.ensures.adds
+    (if_at c.test-in-And.result l (λ x. AddsTest (test_of b) c.node-middle.result c.args.met c.args.unmet c.in_ok-free-in-And.free
+    c.test.new.b c.test-in-And.new.b x) e c.test-in-And.ensures.adds)))
 
 pub condition-returns-in_ok-free-in-Or-clause-adds :
     goal.condition-returns-in_ok-free-in-Or-clause-adds
 condition-returns-in_ok-free-in-Or-clause-adds t c =
     let a = expression_of c.args.left.now in
     let b = expression_of c.args.right.now in
-    if_ok c.test-in-Or-2.result (λ l. AddsTest (binary_test c.args.op a b) c.args.from c.args.met c.args.unmet c.args.t c.args.b.now c.test-in-Or-2.new.b l) (λ l e.
-    let P : Op → Type 0 = λ op. AddsTest (binary_test op a b) c.args.from c.args.met c.args.unmet c.args.t c.args.b.now c.test-in-Or-2.new.b l in
+    if_ok c.test-in-Or-2.result (λ l. AddsTest (binary_test c.args.op a b) c.args.from c.args.met c.args.unmet c.args.t c.args.b.now
+    c.test-in-Or-2.new.b l) (λ l e.
+    let P : Op → Type 0 = λ op. AddsTest (binary_test op a b) c.args.from c.args.met c.args.unmet c.args.t c.args.b.now c.test-in-Or-2.new.b
+    l in
     subst P (sym c.in-Or.is)
-    (either_tests_added (test_of a) (test_of b) c.args.from c.args.met c.args.unmet c.args.t c.node-middle-in-Or.result c.in_ok-free-in-Or.free l c.args.b.now c.node-middle-in-Or.new.self c.test-in-Or.new.b c.test-in-Or-2.new.b
-    c.node-middle-in-Or.ensures.edges c.node-middle-in-Or.ensures.next c.node-middle-in-Or.ensures.node c.in_ok-free-in-Or.ensures.adds (if_at c.test-in-Or-2.result l (λ x. AddsTest (test_of b) c.node-middle-in-Or.result c.args.met c.args.unmet c.in_ok-free-in-Or.free c.test-in-Or.new.b c.test-in-Or-2.new.b x) e c.test-in-Or-2.ensures.adds)))
+    (either_tests_added (test_of a) (test_of b) c.args.from c.args.met c.args.unmet c.args.t c.node-middle-in-Or.result
+    c.in_ok-free-in-Or.free l c.args.b.now c.node-middle-in-Or.new.self c.test-in-Or.new.b c.test-in-Or-2.new.b
+    c.node-middle-in-Or.ensures.edges c.node-middle-in-Or.ensures.next c.node-middle-in-Or.ensures.node c.in_ok-free-in-Or.ensures.adds
+    (if_at c.test-in-Or-2.result l (λ x. AddsTest (test_of b) c.node-middle-in-Or.result c.args.met c.args.unmet c.in_ok-free-in-Or.free
+    c.test-in-Or.new.b c.test-in-Or-2.new.b x) e c.test-in-Or-2.ensures.adds)))
 
 pub product-returns-clause-adds : goal.product-returns-clause-adds
 product-returns-clause-adds t c =
@@ -101,10 +127,13 @@ product-returns-clause-adds t c =
     let k = overflows_in_place z w.operand in
     let old = c.value.new.b in
     let new = c.multiple.new.b in
-    let Last : ℕ → List Edge = λ to. old.edges.items ++ (copied k w old.next ++ Assign (copied_node k w old.next) to c.args.t (scaled_lin z (copied_operand k w)) ∷ []) in
-    let edges : new.edges.items ≡ Last c.node-to.result = on_at c.multiple.result l (new.edges.items ≡ Last c.node-to.result) e c.multiple.ensures.edges in
+    let Last : ℕ → List Edge = λ to. old.edges.items ++ (copied k w old.next ++ Assign (copied_node k w old.next) to c.args.t
+    (scaled_lin z (copied_operand k w)) ∷ []) in
+    let edges : new.edges.items ≡ Last c.node-to.result = on_at c.multiple.result l (new.edges.items ≡ Last c.node-to.result) e
+    c.multiple.ensures.edges in
     let next = on_at c.multiple.result l (new.next ≡ old.next + copied_nodes k w) e c.multiple.ensures.next in
-    scaled_added z v c.args.from c.args.t c.args.b.now c.node-to.new.self old new w l c.node-to.ensures.edges c.node-to.ensures.next c.in_ok-landed.ensures.adds (edges ∙ ap Last c.node-to.ensures.node) next
+    scaled_added z v c.args.from c.args.t c.args.b.now c.node-to.new.self old new w l c.node-to.ensures.edges c.node-to.ensures.next
+    c.in_ok-landed.ensures.adds (edges ∙ ap Last c.node-to.ensures.node) next
     (if_at c.multiple.result l (λ x. x.node ≡ c.node-to.result) e c.multiple.ensures.node ∙ c.node-to.ensures.node)
     (if_at c.multiple.result l (λ x. x.operand ≡ Variable c.args.t) e c.multiple.ensures.operand)
     (if_at c.multiple.result l (λ x. x.slot ≡ w.slot + copied_nodes k w) e c.multiple.ensures.slot)
@@ -120,12 +149,16 @@ sides-returns-clause-adds t c =
     let k = c.in_ok-landed-2.ensures in
     let keep : c.if-has_call.keep ≡ (call || c.args.overflows) =
     elim c.if-has_call.branch [
-      | sides-then-has_call w ↦ w.keep-is ∙ w.if-has_call.true ∙ ap (λ b. b || c.args.overflows) (sym (sym c.has_call.ensures ∙ w.if-has_call.true))
+      | sides-then-has_call w ↦ w.keep-is ∙ w.if-has_call.true ∙ ap (λ b. b || c.args.overflows)
+          (sym (sym c.has_call.ensures ∙ w.if-has_call.true))
       | sides-else-has_call w ↦ w.keep-is ∙ ap (λ b. b || c.args.overflows) (sym (sym c.has_call.ensures ∙ w.if-has_call.false))
     ] in
     let P : Bool → Type 0 = λ b. Adds (kept_value_if b v) c.args.from c.args.t c.args.b.now c.kept_if.new.b m in
-    let added = kept_added c.if-has_call.keep v c.args.from c.args.t c.args.b.now c.value.new.b c.kept_if.new.b l m c.in_ok-landed.ensures.adds k.edges k.next k.node k.operand k.slot k.in_place in
-    sides_added (kept_value_if (call || c.args.overflows) v) u c.args.from c.args.t c.args.b.now c.kept_if.new.b c.value-2.new.b m c.in_ok-other.other (record { left = m.operand; right = c.in_ok-other.other }) (subst P keep added) c.in_ok-other.ensures.adds refl refl
+    let added = kept_added c.if-has_call.keep v c.args.from c.args.t c.args.b.now c.value.new.b c.kept_if.new.b l m
+    c.in_ok-landed.ensures.adds
+    k.edges k.next k.node k.operand k.slot k.in_place in
+    sides_added (kept_value_if (call || c.args.overflows) v) u c.args.from c.args.t c.args.b.now c.kept_if.new.b c.value-2.new.b m
+    c.in_ok-other.other (record { left = m.operand; right = c.in_ok-other.other }) (subst P keep added) c.in_ok-other.ensures.adds refl refl
 
 pub sum-returns-clause-adds : goal.sum-returns-clause-adds
 sum-returns-clause-adds t c =
@@ -134,11 +167,14 @@ sum-returns-clause-adds t c =
     let call = has_call (expression_of c.args.right.now) in
     let s = c.in_ok-sides.sides in
     let P : Bool → Type 0 = λ b. AddsBoth (kept_value_if (call || b) v) u c.args.from (c.args.t + 1) c.node-to.new.self c.sides.new.b s in
-    sum_added (kept_value_if (call || overflows (λ x y. x +ℤ y) v u) v) u c.args.from c.args.t c.args.b.now c.node-to.new.self c.sides.new.b c.push.new.self s c.in_slot.result
+    sum_added (kept_value_if (call || overflows (λ x y. x +ℤ y) v u) v) u c.args.from c.args.t c.args.b.now c.node-to.new.self c.sides.new.b
+    c.push.new.self s c.in_slot.result
     c.node-to.ensures.edges c.node-to.ensures.next (subst P c.sum_overflows-overflows.ensures c.in_ok-sides.ensures.adds)
-    (c.in_ok-push.ensures.edges ∙ ap (λ i. c.sides.new.b.edges.items ++ Assign s.right.node i c.args.t c.in_ok-value.value ∷ []) c.node-to.ensures.node
+    (c.in_ok-push.ensures.edges ∙ ap (λ i. c.sides.new.b.edges.items ++ Assign s.right.node i c.args.t c.in_ok-value.value ∷ [])
+    c.node-to.ensures.node
     ∙ ap (λ x. c.sides.new.b.edges.items ++ Assign s.right.node c.args.b.now.next c.args.t x ∷ []) c.in_ok-value.ensures)
-    c.push.ensures.next (c.in_slot.ensures.node ∙ c.node-to.ensures.node) c.in_slot.ensures.operand c.in_slot.ensures.slot c.in_slot.ensures.in_place
+    c.push.ensures.next (c.in_slot.ensures.node ∙ c.node-to.ensures.node) c.in_slot.ensures.operand c.in_slot.ensures.slot
+    c.in_slot.ensures.in_place
 
 pub test-returns-clause-adds : goal.test-returns-clause-adds
 test-returns-clause-adds t c =
@@ -149,22 +185,31 @@ test-returns-clause-adds t c =
           let a = expression_of w.in-Binary.left.value in
           let b = expression_of w.in-Binary.right.value in
           let same = ap expression_of w.in-Binary.is in
-          ap test_of same ∙ test_is_nonzero a b w.in-Binary.op (sym w.is_arithmetic.ensures ∙ w.if-not-is_arithmetic.false) ∙ ap (λ e. nonzero (value_of e)) (sym same)
+          ap test_of same ∙ test_is_nonzero a b w.in-Binary.op (sym w.is_arithmetic.ensures ∙ w.if-not-is_arithmetic.false)
+          ∙ ap (λ e. nonzero (value_of e)) (sym same)
       | test-in_default w ↦ other_test c.args.e.now w.in_default.not-Not w.in_default.not-Binary
     ] in
     let P : Test → Type 0 = λ d. AddsTest d c.args.from c.args.met c.args.unmet c.args.t c.args.b.now c.compare.new.b c.in_ok-l.l.slot in
     subst P (sym plain)
-    (nonzero_added (value_of e) c.args.from c.args.met c.args.unmet c.args.t c.in_ok-l.l.slot c.args.b.now c.value.new.b c.compare.new.b c.in_ok-l.l c.in_ok-l.ensures.adds c.in_ok-compare.ensures.edges c.compare.ensures.next refl)
+    (nonzero_added (value_of e) c.args.from c.args.met c.args.unmet c.args.t c.in_ok-l.l.slot c.args.b.now c.value.new.b c.compare.new.b
+    c.in_ok-l.l c.in_ok-l.ensures.adds c.in_ok-compare.ensures.edges c.compare.ensures.next refl)
 
 -- What the code's tree is, by its parts.
 
 pub value-call-requires : goal.value-call-requires
 value-call-requires t c =
     let same : expression_of c.args.e.now ≡ source.call c.in-Call.proc (expressions_of c.deref.result.now) =
-    ap expression_of c.in-Call.is ∙ call_of c.in-Call.proc c.in-Call.es ∙ ap (λ l. source.call c.in-Call.proc (expressions_of l)) (sym c.deref.ensures.value) in
+    ap expression_of c.in-Call.is ∙ call_of c.in-Call.proc c.in-Call.es ∙ ap (λ l. source.call c.in-Call.proc (expressions_of l))
+    (sym c.deref.ensures.value) in
     let w : weight (expression_of c.args.e.now) ≡ 1 + weight_of_all (expressions_of c.deref.result.now) = ap weight same in
-    let n : nodes (expression_of c.args.e.now) ≡ 1 + nodes_all (expressions_of c.deref.result.now) = ap nodes same in
-    (omega (arith, w), record { nodes = let r = c.requires.room.nodes in omega (arith, n, r); slots = let r = c.requires.room.slots in omega (arith, n, r) })
+    let n : nodes (expression_of c.args.e.now) ≡ 1 + nodes_all (expressions_of c.deref.result.now) = ap nodes same in (
+      omega (arith, w),
+      record {
+        nodes = let r = c.requires.room.nodes in omega (arith, n, r);
+        slots = let r = c.requires.room.slots in
+            omega (arith, n, r);
+      },
+    )
 
 pub condition-returns-in_ok-compare-in_default : goal.condition-returns-in_ok-compare-in_default
 condition-returns-in_ok-compare-in_default t c =
@@ -172,8 +217,11 @@ condition-returns-in_ok-compare-in_default t c =
     let b = expression_of c.args.right.now in
     let w = c.in_ok-sides-in_default in
     let P : Test → Type 0 = λ d. AddsTest d c.args.from c.args.met c.args.unmet c.args.t c.args.b.now c.compare.new.b w.sides.right.slot in
-    let Q : Bool → Type 0 = λ k. AddsBoth (kept_value_if k (value_of a)) (value_of b) c.args.from c.args.t c.args.b.now c.sides.new.b w.sides in
-    let added = compare_added c.args.op (kept_value_if (has_call b) (value_of a)) (value_of b) c.args.from c.args.met c.args.unmet c.args.t w.sides.right.slot c.args.b.now c.sides.new.b c.compare.new.b w.sides
+    let Q : Bool → Type 0 = λ k. AddsBoth (kept_value_if k (value_of a)) (value_of b) c.args.from c.args.t c.args.b.now c.sides.new.b
+    w.sides
+    in
+    let added = compare_added c.args.op (kept_value_if (has_call b) (value_of a)) (value_of b) c.args.from c.args.met c.args.unmet c.args.t
+    w.sides.right.slot c.args.b.now c.sides.new.b c.compare.new.b w.sides
     (subst Q (or_false (has_call b)) w.ensures.adds) c.in_ok-compare-in_default.ensures.edges c.compare.ensures.next refl in
     record {
       adds = subst P (sym (test_is_compared a b c.args.op c.requires.condition c.in_default.not-And c.in_default.not-Or)) added;
@@ -193,14 +241,18 @@ difference-difference_lin-requires t c =
     let keep = c.overflows_by-keep.ensures in
     let left : s.left ≡ operand_at (kept_value_if (call || overflows f v u) v) (c.args.t + 1) =
     w.ensures.adds.left ∙ ap (λ b. operand_at (kept_value_if (call || b) v) (c.args.t + 1)) c.difference_overflows-overflows.ensures in
-    let right : c.in_ok-right.right.operand ≡ copied_operand (overflows_in_place (negsuc 0) s.right.operand) s.right = c.in_ok-right.ensures.operand ∙ ap (λ b. copied_operand b s.right) keep in
+    let right : c.in_ok-right.right.operand ≡ copied_operand (overflows_in_place (negsuc 0) s.right.operand) s.right =
+    c.in_ok-right.ensures.operand ∙ ap (λ b. copied_operand b s.right) keep in
     let fits = negated_fits s.right.node s.right.slot s.right.operand s.right.in_place w.ensures.right in
     let first = kept_value_if (call || c.difference_overflows-overflows.result) v in
     let k = c.in_ok-right.ensures in
     let z : BothSides = record { left = s.left; right = c.in_ok-right.right } in
-    let both = right_kept c.overflows_by-keep.result first u c.args.from (c.args.t + 1) c.node-to.new.self c.sides.new.b c.kept_if.new.b s z c.in_ok-right.right w.ensures.adds k.edges k.next k.node k.operand k.slot k.in_place refl refl in
+    let both = right_kept c.overflows_by-keep.result first u c.args.from (c.args.t + 1) c.node-to.new.self c.sides.new.b c.kept_if.new.b s z
+    c.in_ok-right.right w.ensures.adds k.edges k.next k.node k.operand k.slot k.in_place refl refl in
     let P : Operand → Type 0 = λ a. IsTrue (is_value (pos 0 -ℤ constant_of a)) in
-    operation_fits f (λ n. omega (arith, ints)) call v u (c.args.t + 1) s.left c.in_ok-right.right.operand left (literal_of c.overflows_by-keep.result u (c.args.t + 1 + slots_of first) c.in_ok-right.right.operand both.right) w.ensures.left (subst P (sym right) fits)
+    operation_fits f (λ n. omega (arith, ints)) call v u (c.args.t + 1) s.left c.in_ok-right.right.operand left
+    (literal_of c.overflows_by-keep.result u (c.args.t + 1 + slots_of first) c.in_ok-right.right.operand both.right) w.ensures.left
+    (subst P (sym right) fits)
 
 pub difference-returns-clause-adds : goal.difference-returns-clause-adds
 difference-returns-clause-adds t c =
@@ -212,64 +264,87 @@ difference-returns-clause-adds t c =
     let z : BothSides = record { left = s.left; right = m } in
     let w = kept_value_if (call || overflows (λ x y. x -ℤ y) v u) v in
     let keep : c.overflows_by-keep.result ≡ overflows_by (negsuc 0) u =
-    c.overflows_by-keep.ensures ∙ ap (λ a. overflows_in_place (negsuc 0) a) c.in_ok-sides.ensures.adds.right ∙ sym (overflow_same (negsuc 0) u (c.args.t + 1 + slots_of (kept_value_if (call || c.difference_overflows-overflows.result) v))) in
+    c.overflows_by-keep.ensures ∙ ap (λ a. overflows_in_place (negsuc 0) a) c.in_ok-sides.ensures.adds.right
+    ∙ sym (overflow_same (negsuc 0) u (c.args.t + 1 + slots_of (kept_value_if (call || c.difference_overflows-overflows.result) v))) in
     let P : Bool → Type 0 = λ b. AddsBoth (kept_value_if (call || b) v) u c.args.from (c.args.t + 1) c.node-to.new.self c.sides.new.b s in
     let Q : Bool → Type 0 = λ b. AddsBoth w (kept_value_if b u) c.args.from (c.args.t + 1) c.node-to.new.self c.kept_if.new.b z in
     let k = c.in_ok-right.ensures in
-    let both = subst Q keep (right_kept c.overflows_by-keep.result w u c.args.from (c.args.t + 1) c.node-to.new.self c.sides.new.b c.kept_if.new.b s z m
-    (subst P c.difference_overflows-overflows.ensures c.in_ok-sides.ensures.adds) k.edges k.next k.node k.operand k.slot k.in_place refl refl) in
-    difference_added w (kept_value_if (overflows_by (negsuc 0) u) u) c.args.from c.args.t c.args.b.now c.node-to.new.self c.kept_if.new.b c.push.new.self z c.in_slot.result
+    let both = subst Q keep (right_kept c.overflows_by-keep.result w u c.args.from (c.args.t + 1) c.node-to.new.self c.sides.new.b
+    c.kept_if.new.b s z m
+    (subst P c.difference_overflows-overflows.ensures c.in_ok-sides.ensures.adds) k.edges k.next k.node k.operand k.slot k.in_place refl
+    refl)
+    in
+    difference_added w (kept_value_if (overflows_by (negsuc 0) u) u) c.args.from c.args.t c.args.b.now c.node-to.new.self c.kept_if.new.b
+    c.push.new.self z c.in_slot.result
     c.node-to.ensures.edges c.node-to.ensures.next both
-    (c.in_ok-push.ensures.edges ∙ ap (λ i. c.kept_if.new.b.edges.items ++ Assign m.node i c.args.t c.in_ok-value.value ∷ []) c.node-to.ensures.node
+    (c.in_ok-push.ensures.edges ∙ ap (λ i. c.kept_if.new.b.edges.items ++ Assign m.node i c.args.t c.in_ok-value.value ∷ [])
+    c.node-to.ensures.node
     ∙ ap (λ x. c.kept_if.new.b.edges.items ++ Assign m.node c.args.b.now.next c.args.t x ∷ []) c.in_ok-value.ensures)
-    c.push.ensures.next (c.in_slot.ensures.node ∙ c.node-to.ensures.node) c.in_slot.ensures.operand c.in_slot.ensures.slot c.in_slot.ensures.in_place
+    c.push.ensures.next (c.in_slot.ensures.node ∙ c.node-to.ensures.node) c.in_slot.ensures.operand c.in_slot.ensures.slot
+    c.in_slot.ensures.in_place
 
 pub value-condition-requires : goal.value-condition-requires
 value-condition-requires t c =
-    let same : expression_of c.args.e.now ≡ source.binary c.in-Binary.op (expression_of c.deref-in-Binary.result.now) (expression_of c.deref-in-Binary-2.result.now) =
-    ap expression_of c.in-Binary.is ∙ ap (λ x. source.binary c.in-Binary.op (expression_of x) (expression_of c.in-Binary.right.value)) (sym c.deref-in-Binary.ensures)
-    ∙ ap (λ x. source.binary c.in-Binary.op (expression_of c.deref-in-Binary.result.now) (expression_of x)) (sym c.deref-in-Binary-2.ensures) in
+    let same : expression_of c.args.e.now ≡ source.binary c.in-Binary.op (expression_of c.deref-in-Binary.result.now)
+    (expression_of c.deref-in-Binary-2.result.now) =
+    ap expression_of c.in-Binary.is ∙ ap (λ x. source.binary c.in-Binary.op (expression_of x) (expression_of c.in-Binary.right.value))
+    (sym c.deref-in-Binary.ensures)
+    ∙ ap (λ x. source.binary c.in-Binary.op (expression_of c.deref-in-Binary.result.now) (expression_of x))
+    (sym c.deref-in-Binary-2.ensures)
+    in
     let w = ap weight same in
     let n = ap nodes same in
     let r = c.requires.room.nodes in
     let s = c.requires.room.slots in
-    let next = c.truth_nodes-truth-in-Binary.ensures.next in
-    (omega (arith, w), (sym c.is_arithmetic.ensures ∙ c.if-is_arithmetic.false, (record { nodes = omega (arith, n, r, next); slots = omega (arith, n, s) }, omega (arith, n, r, next))))
+    let next = c.truth_nodes-truth-in-Binary.ensures.next in (
+      omega (arith, w),
+      (
+        sym c.is_arithmetic.ensures ∙ c.if-is_arithmetic.false,
+        (record { nodes = omega (arith, n, r, next); slots = omega (arith, n, s) }, omega (arith, n, r, next)),
+      ),
+    )
 
 pub value-returns-in-Call-clause-adds : goal.value-returns-in-Call-clause-adds
 value-returns-in-Call-clause-adds t c =
     let same : expression_of c.args.e.now ≡ source.call c.in-Call.proc (expressions_of c.deref.result.now) =
-    ap expression_of c.in-Call.is ∙ call_of c.in-Call.proc c.in-Call.es ∙ ap (λ l. source.call c.in-Call.proc (expressions_of l)) (sym c.deref.ensures.value) in
+    ap expression_of c.in-Call.is ∙ call_of c.in-Call.proc c.in-Call.es ∙ ap (λ l. source.call c.in-Call.proc (expressions_of l))
+    (sym c.deref.ensures.value) in
     let P : Expression → Type 0 = λ x. IfOk c.call.result (λ l. Adds (value_of x) c.args.from c.args.t c.args.b.now c.call.new.b l) in
     subst P (sym same) c.call.ensures.adds
 
 pub value-returns-in-Call-clause-few : goal.value-returns-in-Call-clause-few
 value-returns-in-Call-clause-few t c =
     let same : expression_of c.args.e.now ≡ source.call c.in-Call.proc (expressions_of c.deref.result.now) =
-    ap expression_of c.in-Call.is ∙ call_of c.in-Call.proc c.in-Call.es ∙ ap (λ l. source.call c.in-Call.proc (expressions_of l)) (sym c.deref.ensures.value) in
+    ap expression_of c.in-Call.is ∙ call_of c.in-Call.proc c.in-Call.es ∙ ap (λ l. source.call c.in-Call.proc (expressions_of l))
+    (sym c.deref.ensures.value) in
     let P : Expression → Type 0 = λ x. IfOk c.call.result (λ l. TakesFew (nodes x) c.args.t c.args.b.now c.call.new.b l.slot) in
     subst P (sym same) c.call.ensures.few
 
 pub value-returns-in-Call-clause-literals : goal.value-returns-in-Call-clause-literals
 value-returns-in-Call-clause-literals t c =
     let same : expression_of c.args.e.now ≡ source.call c.in-Call.proc (expressions_of c.deref.result.now) =
-    ap expression_of c.in-Call.is ∙ call_of c.in-Call.proc c.in-Call.es ∙ ap (λ l. source.call c.in-Call.proc (expressions_of l)) (sym c.deref.ensures.value) in
+    ap expression_of c.in-Call.is ∙ call_of c.in-Call.proc c.in-Call.es ∙ ap (λ l. source.call c.in-Call.proc (expressions_of l))
+    (sym c.deref.ensures.value) in
     let P : Expression → Type 0 = λ x. OnOk c.call.result (IsTrue (literals_fit x)) in
     subst P (sym same) c.call.ensures.literals
 
 pub value-returns-in_ok-free-in-Not-clause-adds : goal.value-returns-in_ok-free-in-Not-clause-adds
 value-returns-in_ok-free-in-Not-clause-adds t c =
     let d = test_of (expression_of c.deref-in-Not.result.now) in
-    let same : expression_of c.args.e.now ≡ source.not (expression_of c.deref-in-Not.result.now) = ap expression_of c.in-Not.is ∙ ap (λ x. source.not (expression_of x)) (sym c.deref-in-Not.ensures) in
+    let same : expression_of c.args.e.now ≡ source.not (expression_of c.deref-in-Not.result.now) = ap expression_of c.in-Not.is
+    ∙ ap (λ x. source.not (expression_of x)) (sym c.deref-in-Not.ensures) in
     let P : Expression → Type 0 = λ x. IfOk c.settle.result (λ l. Adds (value_of x) c.args.from c.args.t c.args.b.now c.settle.new.b l) in
     let truth = c.truth_nodes-truth in
     let inner = c.in_ok-free-in-Not.ensures.adds in
-    let Last : ℕ → List Edge = λ to. c.test.new.b.edges.items ++ Assign truth.result.met to c.args.t (constant_lin (pos 1)) ∷ Assign truth.result.unmet to c.args.t (constant_lin (pos 0)) ∷ [] in
+    let Last : ℕ → List Edge = λ to. c.test.new.b.edges.items ++ Assign truth.result.met to c.args.t (constant_lin (pos 1))
+    ∷ Assign truth.result.unmet to c.args.t (constant_lin (pos 0)) ∷ [] in
     subst P (sym same)
     (if_ok c.settle.result (λ l. Adds (form.truth (form.opposite d)) c.args.from c.args.t c.args.b.now c.settle.new.b l) (λ l e.
-    truth_added (form.opposite d) c.args.from c.args.t truth.result.met truth.result.unmet c.in_ok-free-in-Not.free c.args.b.now truth.new.b c.test.new.b c.settle.new.b l
+    truth_added (form.opposite d) c.args.from c.args.t truth.result.met truth.result.unmet c.in_ok-free-in-Not.free c.args.b.now truth.new.b
+    c.test.new.b c.settle.new.b l
     truth.ensures.edges truth.ensures.next truth.ensures.met truth.ensures.unmet (record { blocks = inner.blocks; slot = inner.slot })
-    (on_at c.settle.result l (c.settle.new.b.edges.items ≡ Last truth.result.to) e c.settle.ensures.edges ∙ ap Last truth.ensures.to) c.settle.ensures.next
+    (on_at c.settle.result l (c.settle.new.b.edges.items ≡ Last truth.result.to) e c.settle.ensures.edges ∙ ap Last truth.ensures.to)
+    c.settle.ensures.next
     (if_at c.settle.result l (λ x. x.node ≡ truth.result.to) e c.settle.ensures.node ∙ truth.ensures.to)
     (if_at c.settle.result l (λ x. x.operand ≡ Variable c.args.t) e c.settle.ensures.operand)
     (if_at c.settle.result l (λ x. x.slot ≡ c.in_ok-free-in-Not.free) e c.settle.ensures.slot)
@@ -281,18 +356,26 @@ value-returns-in_ok-free-in-Binary-clause-adds t c =
     let y = expression_of c.deref-in-Binary-2.result.now in
     let d = binary_test c.in-Binary.op x y in
     let same : expression_of c.args.e.now ≡ source.binary c.in-Binary.op x y =
-    ap expression_of c.in-Binary.is ∙ ap (λ x. source.binary c.in-Binary.op (expression_of x) (expression_of c.in-Binary.right.value)) (sym c.deref-in-Binary.ensures)
-    ∙ ap (λ x. source.binary c.in-Binary.op (expression_of c.deref-in-Binary.result.now) (expression_of x)) (sym c.deref-in-Binary-2.ensures) in
-    let form_is : value_of (expression_of c.args.e.now) ≡ form.truth d = ap value_of same ∙ value_is_truth x y c.in-Binary.op (sym c.is_arithmetic.ensures ∙ c.if-is_arithmetic.false) in
-    let P : Value → Type 0 = λ v. IfOk c.settle-in-Binary.result (λ l. Adds v c.args.from c.args.t c.args.b.now c.settle-in-Binary.new.b l) in
+    ap expression_of c.in-Binary.is ∙ ap (λ x. source.binary c.in-Binary.op (expression_of x) (expression_of c.in-Binary.right.value))
+    (sym c.deref-in-Binary.ensures)
+    ∙ ap (λ x. source.binary c.in-Binary.op (expression_of c.deref-in-Binary.result.now) (expression_of x))
+    (sym c.deref-in-Binary-2.ensures)
+    in
+    let form_is : value_of (expression_of c.args.e.now) ≡ form.truth d = ap value_of same ∙ value_is_truth x y c.in-Binary.op
+    (sym c.is_arithmetic.ensures ∙ c.if-is_arithmetic.false) in
+    let P : Value → Type 0 = λ v. IfOk c.settle-in-Binary.result (λ l. Adds v c.args.from c.args.t c.args.b.now c.settle-in-Binary.new.b l)
+    in
     let truth = c.truth_nodes-truth-in-Binary in
     let settle = c.settle-in-Binary in
-    let Last : ℕ → List Edge = λ to. c.condition.new.b.edges.items ++ Assign truth.result.met to c.args.t (constant_lin (pos 1)) ∷ Assign truth.result.unmet to c.args.t (constant_lin (pos 0)) ∷ [] in
+    let Last : ℕ → List Edge = λ to. c.condition.new.b.edges.items ++ Assign truth.result.met to c.args.t (constant_lin (pos 1))
+    ∷ Assign truth.result.unmet to c.args.t (constant_lin (pos 0)) ∷ [] in
     subst P (sym form_is)
     (if_ok settle.result (λ l. Adds (form.truth d) c.args.from c.args.t c.args.b.now settle.new.b l) (λ l e.
-    truth_added d c.args.from c.args.t truth.result.met truth.result.unmet c.in_ok-free-in-Binary.free c.args.b.now truth.new.b c.condition.new.b settle.new.b l
+    truth_added d c.args.from c.args.t truth.result.met truth.result.unmet c.in_ok-free-in-Binary.free c.args.b.now truth.new.b
+    c.condition.new.b settle.new.b l
     truth.ensures.edges truth.ensures.next truth.ensures.met truth.ensures.unmet c.in_ok-free-in-Binary.ensures.adds
-    (on_at settle.result l (settle.new.b.edges.items ≡ Last truth.result.to) e settle.ensures.edges ∙ ap Last truth.ensures.to) settle.ensures.next
+    (on_at settle.result l (settle.new.b.edges.items ≡ Last truth.result.to) e settle.ensures.edges ∙ ap Last truth.ensures.to)
+    settle.ensures.next
     (if_at settle.result l (λ x. x.node ≡ truth.result.to) e settle.ensures.node ∙ truth.ensures.to)
     (if_at settle.result l (λ x. x.operand ≡ Variable c.args.t) e settle.ensures.operand)
     (if_at settle.result l (λ x. x.slot ≡ c.in_ok-free-in-Binary.free) e settle.ensures.slot)

@@ -17,4 +17,5 @@ unreachable-requires c =
     let P : List (ℤ × LinearSum) → Type 0 = λ l. IsTrue (is_within (combination l c.args.k)) in
     let Q : ℤ → Type 0 = λ z. IsTrue (is_within (combination c.as_slice.result.now z)) in
     c.in-Err-Wide.ensures.wide (ap Err c.in-Err-Wide.field-0-is)
-    (subst Q (sym k) (subst P (sym items) (row_within c.args.a c.args.b c.args.k c.in_ok-term.ensures.fits c.in_ok-term-2.ensures.fits c.requires)))
+    (subst Q (sym k) (subst P (sym items) (row_within c.args.a c.args.b c.args.k c.in_ok-term.ensures.fits c.in_ok-term-2.ensures.fits
+    c.requires)))

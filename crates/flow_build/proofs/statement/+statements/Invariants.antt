@@ -11,13 +11,18 @@ abbrev pub decreases-block : goal.decreases-block
 decreases-block l = 3 * statements_nodes (statements_of l.ss.now) + 1
 
 abbrev pub decreases-choice : goal.decreases-choice
-decreases-choice l = 3 * (nodes (expression_of l.e.now) + statement_nodes (statement_of l.met.now) + statement_nodes (statement_of l.unmet.now)) + 1
+decreases-choice l = 3 * (nodes (expression_of l.e.now) + statement_nodes (statement_of l.met.now) + statement_nodes
+    (statement_of l.unmet.now))
+    + 1
 
 abbrev pub decreases-repetition : goal.decreases-repetition
-decreases-repetition l = 3 * (nodes (expression_of l.e.now) + statement_nodes (statement_of l.step.now) + statement_nodes (statement_of l.body.now)) + 1
+decreases-repetition l = 3 * (nodes (expression_of l.e.now) + statement_nodes (statement_of l.step.now) + statement_nodes
+    (statement_of l.body.now))
+    + 1
 
 abbrev pub decreases-tested_repetition : goal.decreases-tested_repetition
 decreases-tested_repetition l = 3 * (statement_nodes (statement_of l.body.now) + nodes (expression_of l.e.now)) + 1
 
 abbrev pub invariant-block-loop-i : goal.invariant-block-loop-i
-invariant-block-loop-i l = Left (statements_of l.fn.ss) (statements_of (drop l.i l.ss)) l.fn.frame l.fn.from l.fn.exits l.fn.b l.b l.node l.free
+invariant-block-loop-i l = Left (statements_of l.fn.ss) (statements_of (drop l.i l.ss)) l.fn.frame l.fn.from l.fn.exits l.fn.b l.b l.node
+    l.free

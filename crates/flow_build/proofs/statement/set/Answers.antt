@@ -14,9 +14,14 @@ returns-clause-adds c =
     let l = c.in_ok-landed.landed in
     let h = c.in_ok-landed.ensures.adds in
     let d : ℕ → Edge = λ n. Assign n c.args.to c.args.variable (operand_lin (operand_at v c.args.frame.free)) in
-    let last = c.in_ok-push.ensures.edges ∙ ap (λ x. c.value.new.b.edges.items ++ Assign l.node c.args.to c.args.variable x ∷ []) c.in_ok-value.ensures
+    let last = c.in_ok-push.ensures.edges ∙ ap (λ x. c.value.new.b.edges.items ++ Assign l.node c.args.to c.args.variable x ∷ [])
+    c.in_ok-value.ensures
     ∙ ap (λ a. c.value.new.b.edges.items ++ Assign l.node c.args.to c.args.variable (operand_lin a) ∷ []) h.operand in
     record {
-      blocks = record { edges = value_then v d c.args.from c.args.frame.free c.args.b.now c.value.new.b c.push.new.self l h last c.push.ensures.next; next = c.push.ensures.next ∙ h.blocks.next };
+      blocks = record {
+        edges = value_then v d c.args.from c.args.frame.free c.args.b.now c.value.new.b c.push.new.self l h last
+            c.push.ensures.next;
+        next = c.push.ensures.next ∙ h.blocks.next;
+      };
       slot = h.slot;
     }
