@@ -16,10 +16,10 @@ source_of() {
 
 ghost use Rattle.std.specs.Prelude.{◌≤◌, length};
 
-use c_lexer::scan::lex;
+use c_lexer::lex;
 use c_parser::parse::parse;
 use c_tree::tree::{Expr, Program, Stmt};
-use c_typing::check::check_types;
+use c_typing::check_types;
 use flow_build::build::build;
 use flow_graph::graphs::Graphs;
 use outer_io::{FromReader, read_all};
@@ -86,7 +86,7 @@ fn syntax_nodes(program: &Program) -> u64 {
 fn sizes(graphs: &Graphs) -> (u64, u64) {
     let mut nodes: u64 = 0;
     let mut edges: u64 = 0;
-    for graph in &graphs.graphs {
+    for graph in graphs.graphs.as_slice() {
         nodes = nodes.saturating_add(u64::from(graph.nodes));
         edges = edges.saturating_add(graph.edges.as_slice().len() as u64);
     }

@@ -1,6 +1,7 @@
 #!/bin/sh
 # Lexing, parsing and typing of sources of 8, 16, 32 and 64 KiB: the least user and system time of five runs, and, where
-# valgrind is there, instructions and by how much they grow at each doubling.
+# valgrind is there, instructions and by how much they grow at each doubling. (Sources are whole procedures and a comment:
+# the growth is that of the instructions for a byte of the procedures, times 2.)
 # Each shape is measured refused, by its last line alone so that all before it is read, parsed and checked, and accepted:
 # then it is replayed too, and `main` returns at once. Two shapes are refused by their names: so many of one procedure, and
 # as many whose hashes collide in the map of names.
@@ -24,11 +25,12 @@ shape() {
         awk -v shape="$1" -v size="$size" -v last="$6" -v file="$names" -f "$top/bench/source.awk" > "$work/source.c"
         taken=$(measure --status "$3" --text "$4" --input "$work/source.c" --count -- "$program" $2) || exit 1
         set -- "$1" "$2" "$3" "$4" "$5" "$6" $taken
-        growth=$(echo "$9 $before" | awk '{ print ($2 > 0 ? sprintf("%.2f", $1 / $2) : "-") }')
+        each=$(grep -v '^/\*' "$work/source.c" | wc -c | awk -v count="$9" '{ print (count == "-" ? "-" : count / $1) }')
+        growth=$(echo "$each $before" | awk '{ print ($2 > 0 ? sprintf("%.2f", 2 * $1 / $2) : "-") }')
         printf '%-14s %8d %10s %14s %6s\n' "$label" "$(wc -c < "$work/source.c")" "$7" "$9" "$growth"
         hold front "$label" "$size" instructions "$9"
         hold front "$label" "$size" growth "$growth"
-        before=$9
+        before=$each
         set -- "$1" "$2" "$3" "$4" "$5" "$6"
     done
 }

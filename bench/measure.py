@@ -26,7 +26,7 @@ def options(words):
         name = word.removeprefix("--")
         if name not in given:
             sys.exit(f"measure.py: {word}?")
-        given[name] = True if name == "count" else type(given[name] or "")(words.pop(0))
+        given[name] = True if name == "count" else int(words.pop(0)) if name in ("runs", "status") else words.pop(0)
     return given, command
 
 

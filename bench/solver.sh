@@ -34,20 +34,18 @@ fn term_of(alloc: Global, row: &Row) -> Result<Term, LinError> {
     Term::combine(alloc, &summands, row.1)
 }
 
-fn push(atoms: &mut Vec<Atom>, alloc: Global, row: &Row) -> Result<(), LinError> {
+fn push(atoms: &mut Atoms, alloc: Global, row: &Row) -> Result<(), LinError> {
     let term = term_of(alloc, row)?;
     atoms.push(Atom { term })?;
     Ok(())
 }
 
 fn cube_of(alloc: Global, rows: &[Row]) -> Result<Cube, LinError> {
-    let mut atoms = Vec::new(alloc);
+    let mut atoms = Atoms::new(alloc);
     for row in rows {
         push(&mut atoms, alloc, row)?;
     }
-    Ok(Cube {
-        atoms: Atoms::from_vec(atoms),
-    })
+    Ok(Cube { atoms })
 }
 
 /// The lock is held, the counters differ, and the loop is left.
@@ -96,25 +94,21 @@ fn random_row(alloc: Global, seed: &mut u64) -> Result<Atom, LinError> {
 
 fn random(alloc: Global) -> Result<Cube, LinError> {
     let mut seed = 7;
-    let mut atoms = Vec::new(alloc);
+    let mut atoms = Atoms::new(alloc);
     for _ in 0..60 {
         atoms.push(random_row(alloc, &mut seed)?)?;
     }
-    Ok(Cube {
-        atoms: Atoms::from_vec(atoms),
-    })
+    Ok(Cube { atoms })
 }
 
 /// 63 upper and 63 lower rows of column 0, each with a column of its own.
 fn fan(alloc: Global) -> Result<Cube, LinError> {
-    let mut atoms = Vec::new(alloc);
+    let mut atoms = Atoms::new(alloc);
     for i in 0..63 {
         push(&mut atoms, alloc, &(&[(1, 0), (1, 1 + i)], 0))?;
         push(&mut atoms, alloc, &(&[(-1, 0), (1, 1001 + i)], 0))?;
     }
-    Ok(Cube {
-        atoms: Atoms::from_vec(atoms),
-    })
+    Ok(Cube { atoms })
 }
 
 /// Twice one column is twice another one and 1.
