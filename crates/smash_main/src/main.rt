@@ -3,15 +3,11 @@
 
 mod accept;
 mod plain;
-#[cfg(test)]
-mod pre_tests;
 mod reply;
 mod report;
 mod run;
 #[cfg(test)]
 mod tests;
-#[cfg(test)]
-mod walk_tests;
 mod words;
 
 use crate::run::run;
