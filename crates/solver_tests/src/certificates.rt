@@ -109,9 +109,16 @@ fn rounding(
     )
 }
 
+/// Whether the step refutes the low side of a branch at 3, where twice the column 0 is 7.
+fn refutes_low(alloc: Global, step: Step) -> Result<bool, LinError> {
+    let cube = twice_is_seven(alloc)?;
+    let low = close(alloc, &[step])?;
+    let certificate = branch(alloc, 0, 3, low, high_side(alloc)?)?;
+    Ok(refutes(&cube, &certificate))
+}
+
 #[test]
 fn decides_steps(rt: HostRuntime) -> Result<(), Fail> {
-    let cube = twice_is_seven(rt.alloc())?;
     let cases: [(&str, Step, bool); 17] = [
         ("right", (&[(4, 2), (1, 1)], 1, 0, 1), true),
         ("multiplier 0", (&[(4, 2), (1, 1), (0, 0)], 1, 0, 1), true),
@@ -144,42 +151,84 @@ fn decides_steps(rt: HostRuntime) -> Result<(), Fail> {
         ("a column is left", (&[(1, 1)], 1, -2, 7), false),
     ];
     for (name, step, right) in cases {
-        let low = close(rt.alloc(), &[step])?;
-        let certificate = branch(rt.alloc(), 0, 3, low, high_side(rt.alloc())?)?;
-        assert_eq!(rt; refutes(&cube, &certificate), right, "{name}");
+        let found = refutes_low(rt.alloc(), step)?;
+        assert_eq!(rt; found, right, "{name}");
     }
     Ok(())
 }
 
+/// Whether a branch at the value refutes that twice the column 0 is the number, with its sides as they
+/// are or exchanged.
+fn refutes_at(alloc: Global, number: i32, at: i64, exchanged: bool) -> Result<bool, LinError> {
+    let cube = cube_of(
+        alloc,
+        row_of(alloc, 2, -i64::from(number))?,
+        row_of(alloc, -2, i64::from(number))?,
+    )?;
+    let (low, high) = (low_side(alloc)?, high_side(alloc)?);
+    let certificate = if exchanged {
+        branch(alloc, 0, at, high, low)?
+    } else {
+        branch(alloc, 0, at, low, high)?
+    };
+    Ok(refutes(&cube, &certificate))
+}
+
 #[test]
-fn decides_nodes(rt: HostRuntime) -> Result<(), Fail> {
-    let alloc = rt.alloc();
-    let cube = twice_is_seven(alloc)?;
-    let right = branch(alloc, 0, 3, low_side(alloc)?, high_side(alloc)?)?;
-    let with_point = cube_of(alloc, row_of(alloc, 2, -8)?, row_of(alloc, -2, 8)?)?;
-    assert!(rt; !refutes(&with_point, &right));
-    let exchanged = branch(alloc, 0, 3, high_side(alloc)?, low_side(alloc)?)?;
-    assert!(rt; !refutes(&cube, &exchanged));
-    let elsewhere = branch(alloc, 0, 4, low_side(alloc)?, high_side(alloc)?)?;
-    assert!(rt; !refutes(&cube, &elsewhere));
-    assert!(rt; !refutes(&cube, &close(alloc, &[])?));
-    for (lower, upper, is_right) in [(4, -3, true), (3, -3, false), (4, -4, false)] {
-        let certificate = rounding(alloc, &[(4, 1), (5, 1)], lower, upper)?;
-        assert_eq!(rt; refutes(&cube, &certificate), is_right, "{lower} {upper}");
-    }
-    // the column 5 is not in the cube, and the branch's row is not used
-    for (at, is_right) in [(i64::MIN, true), (i64::MAX - 1, true), (i64::MAX, false)] {
-        let low = rounding(alloc, &[(5, 1), (6, 1)], 4, -3)?;
-        let high = rounding(alloc, &[(5, 1), (6, 1)], 4, -3)?;
-        let certificate = branch(alloc, 5, at, low, high)?;
-        assert_eq!(rt; refutes(&cube, &certificate), is_right, "{at}");
+fn decides_sides(rt: HostRuntime) -> Result<(), Fail> {
+    let cases = [
+        (7, 3, false, true),
+        (8, 3, false, false),
+        (7, 3, true, false),
+        (7, 4, false, false),
+    ];
+    for (number, at, exchanged, right) in cases {
+        let found = refutes_at(rt.alloc(), number, at, exchanged)?;
+        assert_eq!(rt; found, right, "{number} {at} {exchanged}");
     }
     Ok(())
 }
 
+fn refutes_nothing(alloc: Global) -> Result<bool, LinError> {
+    Ok(refutes(&twice_is_seven(alloc)?, &close(alloc, &[])?))
+}
+
+fn refutes_rounded(alloc: Global, lower: i64, upper: i64) -> Result<bool, LinError> {
+    let certificate = rounding(alloc, &[(4, 1), (5, 1)], lower, upper)?;
+    Ok(refutes(&twice_is_seven(alloc)?, &certificate))
+}
+
 #[test]
-fn numbers_ranges(rt: HostRuntime) -> Result<(), Fail> {
-    let alloc = rt.alloc();
+fn decides_closed_nodes(rt: HostRuntime) -> Result<(), Fail> {
+    let empty = refutes_nothing(rt.alloc())?;
+    assert!(rt; !empty);
+    for (lower, upper, right) in [(4, -3, true), (3, -3, false), (4, -4, false)] {
+        let found = refutes_rounded(rt.alloc(), lower, upper)?;
+        assert_eq!(rt; found, right, "{lower} {upper}");
+    }
+    Ok(())
+}
+
+/// The column 5 is not in the cube, and the branch's row is not used.
+fn refutes_elsewhere(alloc: Global, at: i64) -> Result<bool, LinError> {
+    let low = rounding(alloc, &[(5, 1), (6, 1)], 4, -3)?;
+    let high = rounding(alloc, &[(5, 1), (6, 1)], 4, -3)?;
+    let certificate = branch(alloc, 5, at, low, high)?;
+    Ok(refutes(&twice_is_seven(alloc)?, &certificate))
+}
+
+#[test]
+fn decides_bounds(rt: HostRuntime) -> Result<(), Fail> {
+    for (at, right) in [(i64::MIN, true), (i64::MAX - 1, true), (i64::MAX, false)] {
+        let found = refutes_elsewhere(rt.alloc(), at)?;
+        assert_eq!(rt; found, right, "{at}");
+    }
+    Ok(())
+}
+
+/// Whether the row of the numbers is a contradiction: the column 7 is above its range, and the column 3
+/// below.
+fn refutes_ranges(alloc: Global, parts: &[(u32, i64)]) -> Result<bool, LinError> {
     let above = Atom {
         term: term_of(alloc, 7, -1, 9_223_372_036_854_775_808)?,
     };
@@ -187,6 +236,12 @@ fn numbers_ranges(rt: HostRuntime) -> Result<(), Fail> {
         term: term_of(alloc, 3, 1, 9_223_372_036_854_775_809)?,
     };
     let cube = cube_of(alloc, above, below)?;
+    let certificate = close(alloc, &[(parts, 1, 0, 1)])?;
+    Ok(refutes(&cube, &certificate))
+}
+
+#[test]
+fn numbers_ranges(rt: HostRuntime) -> Result<(), Fail> {
     let cases: [(&[(u32, i64)], bool); 6] = [
         (&[(0, 1), (4, 1)], true),
         (&[(1, 1), (3, 1)], true),
@@ -196,20 +251,25 @@ fn numbers_ranges(rt: HostRuntime) -> Result<(), Fail> {
         (&[(0, 1), (4, 1), (6, 0)], false),
     ];
     for (parts, right) in cases {
-        let certificate = close(alloc, &[(parts, 1, 0, 1)])?;
-        assert_eq!(rt; refutes(&cube, &certificate), right, "{parts:?}");
+        let found = refutes_ranges(rt.alloc(), parts)?;
+        assert_eq!(rt; found, right, "{parts:?}");
     }
     Ok(())
 }
 
+fn great_constants(alloc: Global) -> Result<Cube, LinError> {
+    let first = constant_of(alloc, 1 << 84);
+    let second = constant_of(alloc, 1 - (1 << 84));
+    cube_of(alloc, first, second)
+}
+
+fn refutes_great(alloc: Global, parts: &[(u32, i64)]) -> Result<bool, LinError> {
+    let certificate = close(alloc, &[(parts, i64::MAX, 0, 1)])?;
+    Ok(refutes(&great_constants(alloc)?, &certificate))
+}
+
 #[test]
-fn keeps_the_limits(rt: HostRuntime) -> Result<(), Fail> {
-    let alloc = rt.alloc();
-    let cube = cube_of(
-        alloc,
-        constant_of(alloc, 1 << 84),
-        constant_of(alloc, 1 - (1 << 84)),
-    )?;
+fn keeps_sums_of_128_bits(rt: HostRuntime) -> Result<(), Fail> {
     let cases: [(&[(u32, i64)], bool); 4] = [
         (&[(0, 1), (1, 1)], true),
         (
@@ -223,35 +283,62 @@ fn keeps_the_limits(rt: HostRuntime) -> Result<(), Fail> {
         (&[(0, 1 << 43), (1, 1 << 43)], false),
     ];
     for (parts, right) in cases {
-        let certificate = close(alloc, &[(parts, i64::MAX, 0, 1)])?;
-        assert_eq!(rt; refutes(&cube, &certificate), right, "{parts:?}");
-    }
-    for (depth, right) in [(512, true), (513, false)] {
-        let mut certificate = close(alloc, &[(&[(0, 1), (1, 1)], 1, 0, 1)])?;
-        for _ in 0..depth {
-            let low = close(alloc, &[(&[(0, 1), (1, 1)], 1, 0, 1)])?;
-            certificate = branch(alloc, 0, 0, low, certificate)?;
-        }
-        assert_eq!(rt; refutes(&cube, &certificate), right, "{depth}");
+        let found = refutes_great(rt.alloc(), parts)?;
+        assert_eq!(rt; found, right, "{parts:?}");
     }
     Ok(())
 }
 
+fn nested(alloc: Global, depth: u32) -> Result<Certificate, LinError> {
+    let mut certificate = close(alloc, &[(&[(0, 1), (1, 1)], 1, 0, 1)])?;
+    for _ in 0..depth {
+        let low = close(alloc, &[(&[(0, 1), (1, 1)], 1, 0, 1)])?;
+        certificate = branch(alloc, 0, 0, low, certificate)?;
+    }
+    Ok(certificate)
+}
+
+fn refutes_nested(alloc: Global, depth: u32) -> Result<bool, LinError> {
+    Ok(refutes(&great_constants(alloc)?, &nested(alloc, depth)?))
+}
+
 #[test]
-fn copies(rt: HostRuntime) -> Result<(), Fail> {
-    let alloc = rt.alloc();
-    let cube = twice_is_seven(alloc)?;
+fn keeps_the_nesting(rt: HostRuntime) -> Result<(), Fail> {
+    for (depth, right) in [(512, true), (513, false)] {
+        let found = refutes_nested(rt.alloc(), depth)?;
+        assert_eq!(rt; found, right, "{depth}");
+    }
+    Ok(())
+}
+
+fn copies_refute(alloc: Global) -> Result<bool, LinError> {
     let high = rounding(alloc, &[(5, 1), (6, 1)], 4, -3)?;
     let certificate = branch(alloc, 0, 3, low_side(alloc)?, high)?;
     let copy = certificate.copy(alloc)?;
-    assert!(rt; refutes(&cube, &certificate) && refutes(&cube, &copy));
-    let Certificate::Close(rows) = rounding(alloc, &[(4, 1), (5, 1)], 4, -3)?.copy(alloc)? else {
-        return Err(Fail::from("not closed"));
-    };
-    let Some(second) = rows.get(1) else {
-        return Err(Fail::from("no second row"));
-    };
-    assert_eq!(rt; second.parts.as_slice(), [(0, 1)].as_slice());
-    assert_eq!(rt; (second.divide, second.row.term.constant()), (2, -3));
+    let cube = twice_is_seven(alloc)?;
+    Ok(refutes(&cube, &certificate) && refutes(&cube, &copy))
+}
+
+/// The parts, the divisor and the constant of a copy's second row are those that were made.
+fn copies_rows(alloc: Global) -> Result<bool, LinError> {
+    match rounding(alloc, &[(4, 1), (5, 1)], 4, -3)?.copy(alloc)? {
+        Certificate::Close(rows) => match rows.get(1) {
+            Some(second) => Ok(
+                second.parts.as_slice() == [(0, 1)].as_slice()
+                    && second.divide == 2
+                    && second.row.term.constant() == -3,
+            ),
+            None => Ok(false),
+        },
+        Certificate::Branch { .. } => Ok(false),
+    }
+}
+
+#[test]
+fn copies(rt: HostRuntime) -> Result<(), Fail> {
+    let refuted = copies_refute(rt.alloc())?;
+    assert!(rt; refuted);
+    let kept = copies_rows(rt.alloc())?;
+    assert!(rt; kept);
     Ok(())
 }
