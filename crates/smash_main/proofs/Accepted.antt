@@ -19,11 +19,11 @@ use Rattle.c_typing.specs.declared.fault.TypeError.{TypeError}
 use Rattle.c_typing.specs.declared.fault.TypeError.TheVariants as type_error
 use Rattle.c_typing.specs.Answer.{IsFirstFault}
 use Rattle.smash_main.specs.declared.accept.Reason.{Reason}
-use Rattle.smash_main.specs.declared.accept.Reason.TheVariants.{BadByte, OpenComment, TooWide, Unexpected, End, TooDeep, Typing}
+use Rattle.smash_main.specs.declared.accept.Reason.TheVariants.{Lexing, Parsing, Typing}
 use Rattle.smash_main.specs.declared.accept.Rejection.{Rejection}
 use Rattle.smash_main.specs.declared.accept.Rejection.TheVariants.{Refused, Memory}
 use Rattle.smash_main.specs.Source.{IsRefused, bad_byte, open_comment, too_wide, unexpected, unfinished, too_deep, ill_typed}
-use Rattle.smash_main.specs.Accepting.{reason_text, lex_rejection, parse_rejection, type_rejection, Gives}
+use Rattle.smash_main.specs.steps.Accepting.{reason_text, lex_rejection, parse_rejection, type_rejection, Gives}
 
 -- what is known of an error is known of this one
 pub told : {A : Type 0} (res : Result A Rejection) (F : Rejection → Type 0) → IsErrAnd res F → (r : Rejection) → res ≡ Err r → F r
@@ -31,7 +31,8 @@ told (Ok a) F h r e = absurd h
 told (Err x) F h r e = subst F (let same : x ≡ r = cc in same) h
 
 -- an error of which only Memory can be is Memory
-pub only_memory : (res : Result Program Rejection) (F : Rejection → Type 0) → IsErrAnd res F → ((r : Rejection) → F r → r ≡ Memory) → (P : PureProgram) → Gives res P
+pub only_memory : (res : Result Program Rejection) (F : Rejection → Type 0) → IsErrAnd res F → ((r : Rejection) → F r → r ≡ Memory) →
+    (P : PureProgram) → Gives res P
 only_memory (Ok p) F h m P = absurd h
 only_memory (Err r) F h m P = m r h
 
@@ -39,38 +40,53 @@ module _ (bytes : List ℕ) (res : Result (Vec Token Global) LexError)
     (bad : (at : Pos) → res ≡ Err (lex_error.BadByte at) → HasFault bytes (lex_error.BadByte at))
     (unclosed : (at : Pos) → res ≡ Err (lex_error.OpenComment at) → HasFault bytes (lex_error.OpenComment at))
     (wide : (at : Pos) → res ≡ Err (lex_error.TooWide at) → HasFault bytes (lex_error.TooWide at)) where
-  pub lex_refused : (e : LexError) → res ≡ Err e → (why : Reason) (at : Pos) → Refused why at ≡ lex_rejection e → IsRefused bytes at (reason_text why)
+  pub lex_refused : (e : LexError) → res ≡ Err e → (why : Reason) (at : Pos) → Refused why at ≡ lex_rejection e →
+      IsRefused bytes at (reason_text why)
   lex_refused (lex_error.BadByte p) was why at same =
-      let w : why ≡ BadByte = cc in let a : p ≡ at = cc in
-      subst (λ z. IsRefused bytes at (reason_text z)) (sym w) (subst (λ z. IsRefused bytes z (reason_text BadByte)) a (bad_byte (bad p was)))
+      let w : why ≡ Lexing (lex_error.BadByte p) = cc in let a : p ≡ at = cc in
+      subst (λ z. IsRefused bytes at (reason_text z)) (sym w) (subst (λ z. IsRefused bytes z (reason_text (Lexing (lex_error.BadByte p)))) a
+      (bad_byte (bad p was)))
   lex_refused (lex_error.OpenComment p) was why at same =
-      let w : why ≡ OpenComment = cc in let a : p ≡ at = cc in
-      subst (λ z. IsRefused bytes at (reason_text z)) (sym w) (subst (λ z. IsRefused bytes z (reason_text OpenComment)) a (open_comment (unclosed p was)))
+      let w : why ≡ Lexing (lex_error.OpenComment p) = cc in let a : p ≡ at = cc in
+      subst (λ z. IsRefused bytes at (reason_text z)) (sym w)
+      (subst (λ z. IsRefused bytes z (reason_text (Lexing (lex_error.OpenComment p))))
+      a (open_comment (unclosed p was)))
   lex_refused (lex_error.TooWide p) was why at same =
-      let w : why ≡ TooWide = cc in let a : p ≡ at = cc in
-      subst (λ z. IsRefused bytes at (reason_text z)) (sym w) (subst (λ z. IsRefused bytes z (reason_text TooWide)) a (too_wide (wide p was)))
+      let w : why ≡ Lexing (lex_error.TooWide p) = cc in let a : p ≡ at = cc in
+      subst (λ z. IsRefused bytes at (reason_text z)) (sym w) (subst (λ z. IsRefused bytes z (reason_text (Lexing (lex_error.TooWide p)))) a
+      (too_wide (wide p was)))
   lex_refused lex_error.Memory was why at same = absurd (cc)
 
 module _ (bytes : List ℕ) (tokens : List Token) (lexed : IsTokens bytes tokens) (res : Result Tree ParseError)
     (never : (at : Pos) → res ≡ Err (parse_error.Unexpected at) → parser.IsUnexpected (pure_tokens bytes tokens) at)
     (unclosed : (at : Pos) → res ≡ Err (parse_error.End at) → parser.IsUnfinished bytes (pure_tokens bytes tokens) at)
     (deep : (at : Pos) → res ≡ Err (parse_error.TooDeep at) → parser.IsFirstTooDeep (pure_tokens bytes tokens) at) where
-  pub parse_refused : (e : ParseError) → res ≡ Err e → (why : Reason) (at : Pos) → Refused why at ≡ parse_rejection e → IsRefused bytes at (reason_text why)
+  pub parse_refused : (e : ParseError) → res ≡ Err e → (why : Reason) (at : Pos) → Refused why at ≡ parse_rejection e →
+      IsRefused bytes at (reason_text why)
   parse_refused (parse_error.Unexpected p) was why at same =
-      let w : why ≡ Unexpected = cc in let a : p ≡ at = cc in
-      subst (λ z. IsRefused bytes at (reason_text z)) (sym w) (subst (λ z. IsRefused bytes z (reason_text Unexpected)) a (unexpected tokens lexed (never p was)))
+      let w : why ≡ Parsing (parse_error.Unexpected p) = cc in let a : p ≡ at = cc in
+      subst (λ z. IsRefused bytes at (reason_text z)) (sym w)
+      (subst (λ z. IsRefused bytes z (reason_text (Parsing (parse_error.Unexpected p))))
+      a (unexpected tokens lexed (never p was)))
   parse_refused (parse_error.End p) was why at same =
-      let w : why ≡ End = cc in let a : p ≡ at = cc in
-      subst (λ z. IsRefused bytes at (reason_text z)) (sym w) (subst (λ z. IsRefused bytes z (reason_text End)) a (unfinished tokens lexed (unclosed p was)))
+      let w : why ≡ Parsing (parse_error.End p) = cc in let a : p ≡ at = cc in
+      subst (λ z. IsRefused bytes at (reason_text z)) (sym w) (subst (λ z. IsRefused bytes z (reason_text (Parsing (parse_error.End p)))) a
+      (unfinished tokens lexed (unclosed p was)))
   parse_refused (parse_error.TooDeep p) was why at same =
-      let w : why ≡ TooDeep = cc in let a : p ≡ at = cc in
-      subst (λ z. IsRefused bytes at (reason_text z)) (sym w) (subst (λ z. IsRefused bytes z (reason_text TooDeep)) a (too_deep tokens lexed (deep p was)))
+      let w : why ≡ Parsing (parse_error.TooDeep p) = cc in let a : p ≡ at = cc in
+      subst (λ z. IsRefused bytes at (reason_text z)) (sym w)
+      (subst (λ z. IsRefused bytes z (reason_text (Parsing (parse_error.TooDeep p))))
+      a (too_deep tokens lexed (deep p was)))
   parse_refused parse_error.Memory was why at same = absurd (cc)
 
-module _ (bytes : List ℕ) (tokens : List Token) (lexed : IsTokens bytes tokens) (items : List FileItem) (parsed : parser.IsShallowFile (pure_tokens bytes tokens) items)
-    (res : Result Program TypeError) (first : (f : TypeFault) (at : Pos) → res ≡ Err (type_error.Refused f at) → IsFirstFault items f at) where
-  pub type_refused : (e : TypeError) → res ≡ Err e → (why : Reason) (at : Pos) → Refused why at ≡ type_rejection e → IsRefused bytes at (reason_text why)
+module _ (bytes : List ℕ) (tokens : List Token) (lexed : IsTokens bytes tokens) (items : List FileItem)
+    (parsed : parser.IsShallowFile (pure_tokens bytes tokens) items)
+    (res : Result Program TypeError) (first : (f : TypeFault) (at : Pos) → res ≡ Err (type_error.Refused f at) →
+    IsFirstFault items f at) where
+  pub type_refused : (e : TypeError) → res ≡ Err e → (why : Reason) (at : Pos) → Refused why at ≡ type_rejection e →
+      IsRefused bytes at (reason_text why)
   type_refused (type_error.Refused f p) was why at same =
       let w : why ≡ Typing f = cc in let a : p ≡ at = cc in
-      subst (λ z. IsRefused bytes at (reason_text z)) (sym w) (subst (λ z. IsRefused bytes z (reason_text (Typing f))) a (ill_typed tokens lexed items parsed f (first f p was)))
+      subst (λ z. IsRefused bytes at (reason_text z)) (sym w) (subst (λ z. IsRefused bytes z (reason_text (Typing f))) a
+      (ill_typed tokens lexed items parsed f (first f p was)))
   type_refused type_error.Memory was why at same = absurd (cc)

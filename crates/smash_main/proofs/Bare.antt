@@ -5,14 +5,7 @@ use Rattle.c_tree.specs.declared.tree.Op.TheVariants.{Add, Subtract, Multiply, L
 use Rattle.c_tree.specs.Syntax.{Expression, literal, read, input, call, negate, not as not_of, binary, Statement, block, set, ignore, assume, assert, if_else, loop, do_while, break, continue, return, Statements, no_statements, statement}
 use Rattle.c_tree.specs.Meaning.{State, World, Progress, goes, ends, Ending, stopped, failed, starved, spent, Flow, normal, broken, continued, returned, Relation, Gives, Ends, Onward, Then, Ticked, Counted, Choice, is_value, ExactOrStopped, decided, Applied, is_zero, RightSide, Callee, Eval, Returns, AfterNormal, Exec, Execs, UnlessZero, world_of}
 use Rattle.c_tree.specs.WellFormed.{nodes, nodes_optional, statement_nodes, statements_nodes}
-
-pub and_first : (a b : Bool) → IsTrue (a && b) → IsTrue a
-and_first true b h = refl
-and_first false b h = cc
-
-pub and_second : (a b : Bool) → IsTrue (a && b) → IsTrue b
-and_second true b h = h
-and_second false b h = cc
+use Rattle.run_replay.proofs.Keeps.{and_left, and_right}
 
 pub not_true : IsTrue false → ⊥
 not_true h = cc
@@ -94,7 +87,8 @@ ends_within e fine = record {
   inputs = λ w r room h. ap inputs_of h;
 }
 
-pub then_within : {A B : Type 0} (n m : ℕ) (P : Relation A) (Q : A → Relation B) → IsWithin n P → ((v : A) → IsWithin m (Q v)) → IsWithin (n + m) (Then P Q)
+pub then_within : {A B : Type 0} (n m : ℕ) (P : Relation A) (Q : A → Relation B) → IsWithin n P → ((v : A) → IsWithin m (Q v)) →
+    IsWithin (n + m) (Then P Q)
 then_within {A} {B} n m P Q p q = record { own = own; steps = steps; inputs = inputs }
   where
     own : (w : World) (r : Progress B) → n + m ≤ w.steps_left → Then P Q w r → IsOwn r
@@ -133,7 +127,8 @@ counted_within {A} n P p = record {
     own w r zero e room h = absurd (omega arith)
     own w r (suc l) e room h = p.own (record w { steps_left = l }) r (omega arith) h
 
-    steps : (w : World) (r : Progress A) (l : ℕ) → l ≡ w.steps_left → 1 + n ≤ w.steps_left → Ticked P w l r → w.steps_left ≤ steps_of r + (1 + n)
+    steps : (w : World) (r : Progress A) (l : ℕ) → l ≡ w.steps_left → 1 + n ≤ w.steps_left → Ticked P w l r → w.steps_left ≤ steps_of r
+        + (1 + n)
     steps w r zero e room h = absurd (omega arith)
     steps w r (suc l) e room h = omega (arith, p.steps (record w { steps_left = l }) r (omega arith) h)
 
@@ -161,7 +156,8 @@ applied_within Unequal x y = gives_within _
 applied_within And x y = gives_within _
 applied_within Or x y = gives_within _
 
-right_within : (d : Option ℤ) (n : ℕ) (F : ℤ → Relation ℤ) (Q : Relation ℤ) → ((y : ℤ) → IsWithin 0 (F y)) → IsWithin n Q → IsWithin (n + 0) (RightSide d F Q)
+right_within : (d : Option ℤ) (n : ℕ) (F : ℤ → Relation ℤ) (Q : Relation ℤ) → ((y : ℤ) → IsWithin 0 (F y)) → IsWithin n Q →
+    IsWithin (n + 0) (RightSide d F Q)
 right_within (Some v) n F Q f q = more_within 0 (n + 0) (Gives v) (omega arith) (gives_within v)
 right_within None n F Q f q = then_within n 0 Q F q f
 
@@ -181,13 +177,15 @@ module _ (C : Callee) where
   eval_within input s h = absurd (not_true h)
   eval_within (call p es) s h = absurd (not_true h)
   eval_within (negate e) s h =
-      more_within (1 + (nodes e + 0)) (nodes (negate e)) _ (omega arith) (counted_within (nodes e + 0) _ (then_within (nodes e) 0 _ _ (eval_within e s h) (λ v. exact_within (neg_ℤ v))))
+      more_within (1 + (nodes e + 0)) (nodes (negate e)) _ (omega arith)
+      (counted_within (nodes e + 0) _ (then_within (nodes e) 0 _ _ (eval_within e s h) (λ v. exact_within (neg_ℤ v))))
   eval_within (not_of e) s h =
-      more_within (1 + (nodes e + 0)) (nodes (not_of e)) _ (omega arith) (counted_within (nodes e + 0) _ (then_within (nodes e) 0 _ _ (eval_within e s h) (λ v. gives_within _)))
+      more_within (1 + (nodes e + 0)) (nodes (not_of e)) _ (omega arith)
+      (counted_within (nodes e + 0) _ (then_within (nodes e) 0 _ _ (eval_within e s h) (λ v. gives_within _)))
   eval_within (binary op a b) s h =
       more_within (1 + (nodes a + (nodes b + 0))) (nodes (binary op a b)) _ (omega arith)
-      (counted_within (nodes a + (nodes b + 0)) _ (then_within (nodes a) (nodes b + 0) _ _ (eval_within a s (and_first _ _ h))
-      (λ x. right_within (decided op (is_zero x)) (nodes b) (Applied op x) _ (applied_within op x) (eval_within b s (and_second _ _ h)))))
+      (counted_within (nodes a + (nodes b + 0)) _ (then_within (nodes a) (nodes b + 0) _ _ (eval_within a s (and_left _ _ h))
+      (λ x. right_within (decided op (is_zero x)) (nodes b) (Applied op x) _ (applied_within op x) (eval_within b s (and_right _ _ h)))))
 
   returns_within : (o : Option Expression) (s : State) → IsTrue (returns_bare o) → IsWithin (nodes_optional o + 0) (Returns true C o s)
   returns_within None s h = more_within 0 (nodes_optional None + 0) _ (omega arith) (gives_within _)
@@ -197,31 +195,37 @@ module _ (C : Callee) where
     pub exec_within : (a : Statement) (s : State) → IsTrue (is_bare_statement a) → IsWithin (statement_nodes a) (Exec true C a s)
     exec_within (block ss) s h = counted_within (statements_nodes ss) _ (execs_within ss s h)
     exec_within (set x e) s h =
-        more_within (1 + (nodes e + 0)) (statement_nodes (set x e)) _ (omega arith) (counted_within (nodes e + 0) _ (then_within (nodes e) 0 _ _ (eval_within e s h) (λ v. gives_within _)))
+        more_within (1 + (nodes e + 0)) (statement_nodes (set x e)) _ (omega arith)
+        (counted_within (nodes e + 0) _ (then_within (nodes e) 0 _ _ (eval_within e s h) (λ v. gives_within _)))
     exec_within (ignore e) s h =
-        more_within (1 + (nodes e + 0)) (statement_nodes (ignore e)) _ (omega arith) (counted_within (nodes e + 0) _ (then_within (nodes e) 0 _ _ (eval_within e s h) (λ v. gives_within _)))
+        more_within (1 + (nodes e + 0)) (statement_nodes (ignore e)) _ (omega arith)
+        (counted_within (nodes e + 0) _ (then_within (nodes e) 0 _ _ (eval_within e s h) (λ v. gives_within _)))
     exec_within (assume e) s h =
-        more_within (1 + (nodes e + 0)) (statement_nodes (assume e)) _ (omega arith) (counted_within (nodes e + 0) _ (then_within (nodes e) 0 _ _ (eval_within e s h) (λ v. unless_within stopped s v tt)))
+        more_within (1 + (nodes e + 0)) (statement_nodes (assume e)) _ (omega arith)
+        (counted_within (nodes e + 0) _ (then_within (nodes e) 0 _ _ (eval_within e s h) (λ v. unless_within stopped s v tt)))
     exec_within (assert id e) s h =
-        more_within (1 + (nodes e + 0)) (statement_nodes (assert id e)) _ (omega arith) (counted_within (nodes e + 0) _ (then_within (nodes e) 0 _ _ (eval_within e s h) (λ v. unless_within (failed id) s v tt)))
+        more_within (1 + (nodes e + 0)) (statement_nodes (assert id e)) _ (omega arith)
+        (counted_within (nodes e + 0) _ (then_within (nodes e) 0 _ _ (eval_within e s h) (λ v. unless_within (failed id) s v tt)))
     exec_within (if_else e a b) s h =
-        let test = and_first _ _ (and_first _ _ h) in
+        let test = and_left _ _ (and_left _ _ h) in
         let n = statement_nodes a + statement_nodes b in
         more_within (1 + (nodes e + n)) (statement_nodes (if_else e a b)) _ (omega arith)
         (counted_within (nodes e + n) _ (then_within (nodes e) n _ _ (eval_within e s test)
-        (λ v. choice_within (is_zero v) n _ _ (more_within (statement_nodes b) n _ (omega arith) (exec_within b s (and_second _ _ h))) (more_within (statement_nodes a) n _ (omega arith) (exec_within a s (and_second _ _ (and_first _ _ h)))))))
+        (λ v. choice_within (is_zero v) n _ _ (more_within (statement_nodes b) n _ (omega arith) (exec_within b s (and_right _ _ h)))
+        (more_within (statement_nodes a) n _ (omega arith) (exec_within a s (and_right _ _ (and_left _ _ h)))))))
     exec_within (loop test step body) s h = absurd (not_true h)
     exec_within (do_while body test) s h = absurd (not_true h)
     exec_within break s h = counted_within 0 _ (gives_within _)
     exec_within continue s h = counted_within 0 _ (gives_within _)
     exec_within (return o) s h =
-        more_within (1 + (nodes_optional o + 0)) (statement_nodes (return o)) _ (omega arith) (counted_within (nodes_optional o + 0) _ (returns_within o s h))
+        more_within (1 + (nodes_optional o + 0)) (statement_nodes (return o)) _ (omega arith)
+        (counted_within (nodes_optional o + 0) _ (returns_within o s h))
 
     pub execs_within : (ss : Statements) (s : State) → IsTrue (are_bare ss) → IsWithin (statements_nodes ss) (Execs true C ss s)
     execs_within no_statements s h = gives_within _
     execs_within (statement a ss) s h =
-        then_within (statement_nodes a) (statements_nodes ss) _ _ (exec_within a s (and_first _ _ h))
-        (λ f. next_within f (statements_nodes ss) _ (λ s'. execs_within ss s' (and_second _ _ h)))
+        then_within (statement_nodes a) (statements_nodes ss) _ _ (exec_within a s (and_left _ _ h))
+        (λ f. next_within f (statements_nodes ss) _ (λ s'. execs_within ss s' (and_right _ _ h)))
 
 -- Runs without counting consume nothing.
 pub record IsQuiet {A : Type 0} (P : Relation A) : Type 0 where
@@ -279,7 +283,8 @@ module _ (C : Callee) where
   eval_quiet (negate e) s h = then_quiet _ _ (eval_quiet e s h) (λ v. exact_quiet (neg_ℤ v))
   eval_quiet (not_of e) s h = then_quiet _ _ (eval_quiet e s h) (λ v. gives_quiet _)
   eval_quiet (binary op a b) s h =
-      then_quiet _ _ (eval_quiet a s (and_first _ _ h)) (λ x. right_quiet (decided op (is_zero x)) (Applied op x) _ (applied_quiet op x) (eval_quiet b s (and_second _ _ h)))
+      then_quiet _ _ (eval_quiet a s (and_left _ _ h)) (λ x. right_quiet (decided op (is_zero x)) (Applied op x) _ (applied_quiet op x)
+      (eval_quiet b s (and_right _ _ h)))
 
   returns_quiet : (o : Option Expression) (s : State) → IsTrue (returns_bare o) → IsQuiet (Returns false C o s)
   returns_quiet None s h = gives_quiet _
@@ -296,7 +301,9 @@ module _ (C : Callee) where
     exec_quiet (assume e) s h = then_quiet _ _ (eval_quiet e s h) (unless_quiet stopped s)
     exec_quiet (assert id e) s h = then_quiet _ _ (eval_quiet e s h) (unless_quiet (failed id) s)
     exec_quiet (if_else e a b) s h =
-        then_quiet _ _ (eval_quiet e s (and_first _ _ (and_first _ _ h))) (λ v. choice_quiet (is_zero v) _ _ (exec_quiet b s (and_second _ _ h)) (exec_quiet a s (and_second _ _ (and_first _ _ h))))
+        then_quiet _ _ (eval_quiet e s (and_left _ _ (and_left _ _ h)))
+        (λ v. choice_quiet (is_zero v) _ _ (exec_quiet b s (and_right _ _ h))
+        (exec_quiet a s (and_right _ _ (and_left _ _ h))))
     exec_quiet (loop test step body) s h = absurd (not_true h)
     exec_quiet (do_while body test) s h = absurd (not_true h)
     exec_quiet break s h = gives_quiet _
@@ -305,4 +312,5 @@ module _ (C : Callee) where
 
     pub execs_quiet : (ss : Statements) (s : State) → IsTrue (are_bare ss) → IsQuiet (Execs false C ss s)
     execs_quiet no_statements s h = gives_quiet _
-    execs_quiet (statement a ss) s h = then_quiet _ _ (exec_quiet a s (and_first _ _ h)) (λ f. next_quiet f _ (λ s'. execs_quiet ss s' (and_second _ _ h)))
+    execs_quiet (statement a ss) s h = then_quiet _ _ (exec_quiet a s (and_left _ _ h))
+        (λ f. next_quiet f _ (λ s'. execs_quiet ss s' (and_right _ _ h)))

@@ -10,10 +10,11 @@ use Rattle.smash_main.specs.Report.{status_of, is_found}
 use Rattle.smash_main.specs.Words.{Command, check, replay}
 use Rattle.smash_main.specs.Source.{IsAccepted}
 use Rattle.smash_main.specs.Asked.{Answers, replay_status}
-use Rattle.smash_main.specs.Run.{Change, Ends, Obeys, Completes, IsVerdictStatus}
+use Rattle.smash_main.specs.Run.{Change, EndsWith, Obeys, Completes, IsVerdictStatus}
 
 -- what was read whole is all that there was
-whole : (before after : Option (List ℕ)) (all bytes : List ℕ) → before ≡ Some all → Consumes before after bytes → IsAtEnd after → bytes ≡ all
+whole : (before after : Option (List ℕ)) (all bytes : List ℕ) → before ≡ Some all → Consumes before after bytes → IsAtEnd after →
+    bytes ≡ all
 whole None after all bytes told h end = absurd (let k = told in cc)
 whole (Some xs) None all bytes told h end = absurd h
 whole (Some xs) (Some ys) all bytes told h end =
@@ -21,7 +22,8 @@ whole (Some xs) (Some ys) all bytes told h end =
     sym (append-nil bytes) ∙ ap (λ z. bytes ++ z) (sym end) ∙ sym h ∙ same
 
 -- no more is taken than there was
-at_most : (before after : Option (List ℕ)) (all bytes : List ℕ) → before ≡ Some all → Consumes before after bytes → length bytes ≤ length all
+at_most : (before after : Option (List ℕ)) (all bytes : List ℕ) → before ≡ Some all → Consumes before after bytes →
+    length bytes ≤ length all
 at_most None after all bytes told h = absurd (let k = told in cc)
 at_most (Some xs) None all bytes told h = absurd h
 at_most (Some xs) (Some ys) all bytes told h =
@@ -58,8 +60,9 @@ completes c status source sink (inl w) all P told fits accepted read_well write_
     same : w.bytes ≡ all
     same = whole source.before source.after all w.bytes told w.read.consumed w.read.at_end
 
-    ended : Ends status sink w.due w.text → IsVerdictStatus c P status
-    ended (inl e) = subst (IsVerdictStatus c P) (sym e.0) (answered c P w.due w.text (w.settled P (subst (λ z. IsAccepted z P) (sym same) accepted)))
+    ended : EndsWith status sink w.due w.text → IsVerdictStatus c P status
+    ended (inl e) = subst (IsVerdictStatus c P) (sym e.0)
+        (answered c P w.due w.text (w.settled P (subst (λ z. IsAccepted z P) (sym same) accepted)))
     ended (inr e) = absurd (write_well e.1)
 completes c status source sink (inr (inl l)) all P told fits accepted read_well write_well =
     absurd (omega (arith, at_most source.before source.after all l.taken.0 told l.taken.1, l.taken.2))

@@ -11,7 +11,7 @@ use Rattle.run_replay.specs.declared.outcome.Outcome.{Outcome}
 use Rattle.run_replay.specs.declared.outcome.Outcome.TheVariants.{Returned, Stopped, Failed, Starved, Fuel}
 use Rattle.smash_main.specs.declared.report.Verdict.{Verdict}
 use Rattle.smash_main.specs.declared.report.Verdict.TheVariants.{Proved, Found}
-use Rattle.smash_main.specs.Judging.{verdict_at, verdicts_of}
+use Rattle.smash_main.specs.steps.Judging.{verdict_at, verdicts_of}
 use Rattle.smash_main.specs.Verdicts.{HasVerdict, HaveVerdicts}
 
 -- a program that fails at an assertion on any inputs fails there without inputs, and then its one replay says so
@@ -20,7 +20,8 @@ pub record IsTold (P : PureProgram) (o : Outcome) : Type 0 where
   pub reaches : (id : ℕ) → o ≡ Failed id → Reaches P id []
 
 module _ (P : PureProgram) (o : Outcome) (told : IsTold P o) where
-  found_at : (id : ℕ) → (o ≡ Failed id) ⊎ (o ≢ Failed id) → (verdict_at o id ≡ Found) × (o ≡ Failed id) ⊎ (verdict_at o id ≡ Proved) × (o ≢ Failed id)
+  found_at : (id : ℕ) → (o ≡ Failed id) ⊎ (o ≢ Failed id) → (verdict_at o id ≡ Found) × (o ≡ Failed id) ⊎ (verdict_at o id ≡ Proved)
+      × (o ≢ Failed id)
   found_at id (inl same) = inl (ap (λ z. verdict_at z id) same ∙ at, same)
     where
       at : verdict_at (Failed id) id ≡ Found
@@ -72,12 +73,14 @@ module _ (P : PureProgram) (o : Outcome) (told : IsTold P o) where
 slice_get_inside : {X : Type 0} → (xs : List X) (i : ℕ) (x : X) → slice_get xs i ≡ Some x → i < length xs
 slice_get_inside xs i x at = pick (slice_get_cases xs i).1
   where
-    pick : ((y : _) × (i < length xs) × (slice_get xs i ≡ Some y) × (get_or xs i y ≡ y)) ⊎ ((length xs ≤ i) × (slice_get xs i ≡ None)) → i < length xs
+    pick : ((y : _) × (i < length xs) × (slice_get xs i ≡ Some y) × (get_or xs i y ≡ y)) ⊎ ((length xs ≤ i) × (slice_get xs i ≡ None)) →
+        i < length xs
     pick (inl h) = h.1
     pick (inr h) = absurd (let k = h.1 in cc)
 
 -- one verdict for each assertion
-pub have_verdicts : (P : PureProgram) (o : Outcome) (vs : List Verdict) → IsTold P o → vs ≡ verdicts_of o (length P.asserts) → HaveVerdicts P vs
+pub have_verdicts : (P : PureProgram) (o : Outcome) (vs : List Verdict) → IsTold P o → vs ≡ verdicts_of o (length P.asserts) →
+    HaveVerdicts P vs
 have_verdicts P o vs told same = record {
   each_one = ap length same ∙ length-map-range_with_len (verdict_at o) 0 (length P.asserts);
   right = λ id v at. judged P o told id v (at_place id v (subst (λ z. slice_get z id ≡ Some v) same at));
@@ -86,7 +89,8 @@ have_verdicts P o vs told same = record {
     at_place : (id : ℕ) (v : Verdict) → slice_get (verdicts_of o (length P.asserts)) id ≡ Some v → v ≡ verdict_at o id
     at_place id v at =
         let inside = slice_get_inside _ id v at in
-        sym (get_or_from_slice_get _ id v v at) ∙ get_or-map-range_with_len (verdict_at o) 0 (length P.asserts) id id v (omega (arith, inside, length-map-range_with_len (verdict_at o) 0 (length P.asserts))) (zero-add id)
+        sym (get_or_from_slice_get _ id v v at) ∙ get_or-map-range_with_len (verdict_at o) 0 (length P.asserts) id id v
+        (omega (arith, inside, length-map-range_with_len (verdict_at o) 0 (length P.asserts))) (zero-add id)
 
 pub length-verdicts_of : (o : Outcome) (n : ℕ) → length (verdicts_of o n) ≡ n
 length-verdicts_of o n = length-map-range_with_len (verdict_at o) 0 n

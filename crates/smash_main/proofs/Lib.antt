@@ -1,3 +1,4 @@
+pub mod Bounded
 pub mod Accepted
 pub mod Bare
 pub mod Completed

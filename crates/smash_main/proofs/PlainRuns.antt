@@ -4,41 +4,46 @@ use Rattle.std.specs.Prelude.{slice_get, nat_le}
 use Rattle.std.proofs.lemmas.Option.{slice_get_past}
 use Rattle.std.proofs.lemmas.Bool.{leb-true, eqb-true}
 use Rattle.c_tree.specs.Syntax.{Expression, literal, read, input, call, negate, not as not_of, binary, Statement, block, set, ignore, assume, assert, if_else, loop, do_while, break, continue, return, Statements, no_statements, statement, PureProcedure, PureProgram}
-use Rattle.c_tree.specs.Meaning.{World, Progress, goes, ends, Ending, stopped, failed, starved, spent, Flow, Relation, Gives, Then, Callee, Execs, entered, returned_value, Run, Runs, Reaches, ComesOut, Outcome as Ended, Replays, ReplayOutcome, Comes, replay_of, uncounted, world_of}
+use Rattle.c_tree.specs.Meaning.{World, Progress, goes, ends, stopped, failed, starved, spent, entered, returned_value, Run, Reaches, ComesOut, Outcome as Ended, Replays, ReplayOutcome, Comes, replay_of, uncounted}
 use Rattle.c_tree.specs.Meaning as meaning
 use Rattle.c_tree.specs.WellFormed.{IsWellFormed, takes, is_well_scoped, returns_well_scoped, runs_well_scoped, all_well_scoped, is_well_formed_procedure, statements_nodes}
+use Rattle.run_replay.proofs.Keeps.{and_left, and_right}
 use Rattle.smash_main.specs.Plain.{has_no_input, returns_no_input, is_plain_statement, are_plain, all_plain, is_plain}
-use Rattle.smash_main.proofs.Bare.{and_first, and_second, not_true, is_bare, returns_bare, is_bare_statement, are_bare, inputs_of, IsOwn, then_within, gives_within, execs_within, then_quiet, gives_quiet, execs_quiet}
+use Rattle.smash_main.proofs.Bare.{not_true, is_bare, returns_bare, is_bare_statement, are_bare, inputs_of, IsOwn, then_within, gives_within, execs_within, then_quiet, gives_quiet, execs_quiet}
 
 and_both : (a b : Bool) → IsTrue a → IsTrue b → IsTrue (a && b)
 and_both true b h k = k
 and_both false b h k = absurd (not_true h)
 
 -- No call is sound: then what has no input has no call.
-module _ (P : PureProgram) (slots : ℕ) (no_call : (q n : ℕ) → IsTrue (takes (slice_get P.procedures q) n && not_bool (q == P.main)) → ⊥) where
+module _ (P : PureProgram) (slots : ℕ) (no_call : (q n : ℕ) → IsTrue (takes (slice_get P.procedures q) n && not_bool (q == P.main)) →
+    ⊥) where
   bare_expression : (e : Expression) → IsTrue (is_well_scoped P slots e) → IsTrue (has_no_input e) → IsTrue (is_bare e)
   bare_expression (literal n) s h = refl
   bare_expression (read x) s h = refl
   bare_expression input s h = absurd (not_true h)
-  bare_expression (call p es) s h = absurd (no_call p _ (and_first _ _ s))
+  bare_expression (call p es) s h = absurd (no_call p _ (and_left _ _ s))
   bare_expression (negate e) s h = bare_expression e s h
   bare_expression (not_of e) s h = bare_expression e s h
   bare_expression (binary op a b) s h =
-      and_both _ _ (bare_expression a (and_first _ _ s) (and_first _ _ h)) (bare_expression b (and_second _ _ s) (and_second _ _ h))
+      and_both _ _ (bare_expression a (and_left _ _ s) (and_left _ _ h)) (bare_expression b (and_right _ _ s) (and_right _ _ h))
 
   bare_returns : (o : Option Expression) → IsTrue (returns_well_scoped P slots o) → IsTrue (returns_no_input o) → IsTrue (returns_bare o)
   bare_returns None s h = refl
   bare_returns (Some e) s h = bare_expression e s h
 
   mutual
-    bare_statement : (l : Bool) (a : Statement) → IsTrue (runs_well_scoped P slots l a) → IsTrue (is_plain_statement a) → IsTrue (is_bare_statement a)
+    bare_statement : (l : Bool) (a : Statement) → IsTrue (runs_well_scoped P slots l a) → IsTrue (is_plain_statement a) →
+        IsTrue (is_bare_statement a)
     bare_statement l (block ss) s h = bare_statements l ss s h
-    bare_statement l (set x e) s h = bare_expression e (and_second _ _ s) h
+    bare_statement l (set x e) s h = bare_expression e (and_right _ _ s) h
     bare_statement l (ignore e) s h = bare_expression e s h
     bare_statement l (assume e) s h = bare_expression e s h
-    bare_statement l (assert id e) s h = bare_expression e (and_second _ _ s) h
+    bare_statement l (assert id e) s h = bare_expression e (and_right _ _ s) h
     bare_statement l (if_else e a b) s h =
-        and_both _ _ (and_both _ _ (bare_expression e (and_first _ _ (and_first _ _ s)) (and_first _ _ (and_first _ _ h))) (bare_statement l a (and_second _ _ (and_first _ _ s)) (and_second _ _ (and_first _ _ h)))) (bare_statement l b (and_second _ _ s) (and_second _ _ h))
+        and_both _ _ (and_both _ _ (bare_expression e (and_left _ _ (and_left _ _ s)) (and_left _ _ (and_left _ _ h)))
+        (bare_statement l a (and_right _ _ (and_left _ _ s)) (and_right _ _ (and_left _ _ h)))) (bare_statement l b (and_right _ _ s)
+        (and_right _ _ h))
     bare_statement l (loop e a b) s h = absurd (not_true h)
     bare_statement l (do_while a e) s h = absurd (not_true h)
     bare_statement l break s h = refl
@@ -48,7 +53,7 @@ module _ (P : PureProgram) (slots : ℕ) (no_call : (q n : ℕ) → IsTrue (take
     bare_statements : (l : Bool) (ss : Statements) → IsTrue (all_well_scoped P slots l ss) → IsTrue (are_plain ss) → IsTrue (are_bare ss)
     bare_statements l no_statements s h = refl
     bare_statements l (statement a ss) s h =
-        and_both _ _ (bare_statement l a (and_first _ _ s) (and_first _ _ h)) (bare_statements l ss (and_second _ _ s) (and_second _ _ h))
+        and_both _ _ (bare_statement l a (and_left _ _ s) (and_left _ _ h)) (bare_statements l ss (and_right _ _ s) (and_right _ _ h))
 
 -- `main` without inputs, calls and loops
 pub record IsBareProgram (P : PureProgram) : Type 0 where
@@ -64,9 +69,10 @@ none_takes : (o : Option PureProcedure) (n : ℕ) → o ≡ None → IsTrue (tak
 none_takes o n e h = not_true (subst (λ z. IsTrue (takes z n)) e h)
 
 pub bare_program : (P : PureProgram) → IsWellFormed P → IsTrue (is_plain P) → IsBareProgram P
-bare_program P fine plain = at P.procedures refl P.main refl (and_first _ _ plain) (and_second _ _ plain)
+bare_program P fine plain = at P.procedures refl P.main refl (and_left _ _ plain) (and_right _ _ plain)
   where
-    at : (ps : List PureProcedure) → ps ≡ P.procedures → (m : ℕ) → m ≡ P.main → IsTrue (length P.procedures == 1) → IsTrue (all_plain P.procedures) → IsBareProgram P
+    at : (ps : List PureProcedure) → ps ≡ P.procedures → (m : ℕ) → m ≡ P.main → IsTrue (length P.procedures == 1) →
+        IsTrue (all_plain P.procedures) → IsBareProgram P
     at [] e m k h a = absurd (none_is_one (eqb-true _ _ (subst (λ z. IsTrue (length z == 1)) (sym e) h)))
       where
         none_is_one : length {A = PureProcedure} [] ≡ 1 → ⊥
@@ -76,12 +82,14 @@ bare_program P fine plain = at P.procedures refl P.main refl (and_first _ _ plai
         more_than_one : length (p ∷ q ∷ ps) ≡ 1 → ⊥
         more_than_one l = omega (arith, l)
     at (p ∷ []) e (suc m) k h a =
-        absurd (none_takes (slice_get P.procedures P.main) 0 (subst (λ z. slice_get z P.main ≡ None) e (subst (λ z. slice_get (p ∷ []) z ≡ None) k (none_there m))) fine.main_takes_none)
+        absurd (none_takes (slice_get P.procedures P.main) 0
+        (subst (λ z. slice_get z P.main ≡ None) e (subst (λ z. slice_get (p ∷ []) z ≡ None) k (none_there m))) fine.main_takes_none)
     at (p ∷ []) e zero k h a = record {
       main = p;
       found = found;
-      bare = bare_statements P p.slots no_call false p.body (and_second _ _ (and_first _ _ sound)) (and_first _ _ (subst (λ z. IsTrue (all_plain z)) (sym e) a));
-      few = few (and_second _ _ sound);
+      bare = bare_statements P p.slots no_call false p.body (and_right _ _ (and_left _ _ sound))
+          (and_left _ _ (subst (λ z. IsTrue (all_plain z)) (sym e) a));
+      few = few (and_right _ _ sound);
     }
       where
         found : slice_get P.procedures P.main ≡ Some p
@@ -94,22 +102,26 @@ bare_program P fine plain = at P.procedures refl P.main refl (and_first _ _ plai
         few t = leb-true _ _ t
 
         no_call : (q n : ℕ) → IsTrue (takes (slice_get P.procedures q) n && not_bool (q == P.main)) → ⊥
-        no_call zero n t = not_true (subst (λ z. IsTrue (not_bool (zero == z))) (sym k) (and_second _ _ t))
-        no_call (suc q) n t = none_takes (slice_get P.procedures (suc q)) n (subst (λ z. slice_get z (suc q) ≡ None) e (none_there q)) (and_first _ _ t)
+        no_call zero n t = not_true (subst (λ z. IsTrue (not_bool (zero == z))) (sym k) (and_right _ _ t))
+        no_call (suc q) n t = none_takes (slice_get P.procedures (suc q)) n (subst (λ z. slice_get z (suc q) ≡ None) e (none_there q))
+            (and_left _ _ t)
 
 module _ (P : PureProgram) (b : IsBareProgram P) where
   -- a counted run with a step for each node ends by itself
   pub ends_itself : (d : ℕ) (w : World) (r : Progress ℤ) → 8000 ≤ w.steps_left → Run true P d P.main [] w r → IsOwn r
   ends_itself zero w r room h = absurd h
   ends_itself (suc d) w r room h =
-      (then_within (statements_nodes b.main.body) 0 _ _ (execs_within (Run true P d) b.main.body (entered []) b.bare) (λ f. gives_within (returned_value b.main.gives f))).own w r (omega (arith, b.few, room))
+      (then_within (statements_nodes b.main.body) 0 _ _ (execs_within (Run true P d) b.main.body (entered []) b.bare)
+      (λ f. gives_within (returned_value b.main.gives f))).own w r (omega (arith, b.few, room))
       (subst (λ z. meaning.Enters true (Run true P d) z [] w r) b.found h)
 
   -- a run consumes nothing
   pub consumes_nothing : (d : ℕ) (w : World) (r : Progress ℤ) → Run false P d P.main [] w r → inputs_of r ≡ w.inputs
   consumes_nothing zero w r h = absurd h
   consumes_nothing (suc d) w r h =
-      (then_quiet _ _ (execs_quiet (Run false P d) b.main.body (entered []) b.bare) (λ f. gives_quiet (returned_value b.main.gives f))).keeps w r
+      (then_quiet _ _ (execs_quiet (Run false P d) b.main.body (entered []) b.bare)
+      (λ f. gives_quiet (returned_value b.main.gives f))).keeps
+      w r
       (subst (λ z. meaning.Enters false (Run false P d) z [] w r) b.found h)
 
   come_so : (ins : List ℤ) (id : ℕ) (r : Progress ℤ) → inputs_of r ≡ ins → ComesOut (meaning.Failed id) r → ins ≡ []

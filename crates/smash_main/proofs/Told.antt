@@ -1,7 +1,7 @@
 -- The replay of a program without inputs and loops tells all its runs.
 use Rattle.std.proofs.Common.{◌≡◌, ℕ, zero, suc, [], take, ℤ, IsTrue, refl, ap, ◌∙◌, subst}
 use Rattle.c_tree.specs.Syntax.{PureProgram}
-use Rattle.c_tree.specs.Meaning.{Outcome as Ended, ReplayOutcome, Comes, Replays, Runs, Reaches}
+use Rattle.c_tree.specs.Meaning.{Outcome as Ended, Comes, Replays, Runs}
 use Rattle.c_tree.specs.Meaning as meaning
 use Rattle.c_tree.specs.WellFormed.{IsWellFormed}
 use Rattle.c_tree.proofs.One.{one_outcome}
@@ -23,7 +23,8 @@ failed_so Stopped id h = absurd cc
 failed_so Starved id h = absurd cc
 failed_so Fuel id h = absurd cc
 
-module _ (P : PureProgram) (fine : IsWellFormed P) (plain : IsTrue (is_plain P)) (o : Outcome) (used : ℕ) (replays : Replays P [] 8000 (replay_outcome o) used)
+module _ (P : PureProgram) (fine : IsWellFormed P) (plain : IsTrue (is_plain P)) (o : Outcome) (used : ℕ)
+    (replays : Replays P [] 8000 (replay_outcome o) used)
     (runs : (out : Ended) → replay_outcome o ≡ Comes out → (d : ℕ) × Runs P d P.main [] (take used []) out) where
   run_of : (out : Ended) → replay_outcome o ≡ Comes out → (d : ℕ) × Runs P d P.main [] [] out
   run_of out e = subst (λ ins. (d : ℕ) × Runs P d P.main [] ins out) (takes_none used) (runs out e)

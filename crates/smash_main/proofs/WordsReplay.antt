@@ -2,8 +2,8 @@
 use Rattle.std.specs.Prelude.{◌≡◌, ℕ, ◌≤◌, List, [], ◌∷◌, ◌++◌, length, Bool, true, false, refl, ℤ, ◌⊎◌, Option, Some, None, codes}
 use Rattle.std.proofs.Common.{drop, sym, ◌∙◌, ap, subst, arith, length-append, inl, inr}
 use Rattle.smash_main.specs.Words.{IsFuel, max_fuel, IsList, IsReplayRest, end, list, fuel_word, fuel_equals, dashes}
-use Rattle.smash_main.specs.WordsView as view
-use Rattle.smash_main.specs.WordsView.{Gives, used_of, IsFuelWord, IsFuelEquals, IsOption, IsListWord, IsItem, State, with_item}
+use Rattle.smash_main.specs.steps.WordsView as view
+use Rattle.smash_main.specs.steps.WordsView.{Gives, used_of, IsFuelWord, IsFuelEquals, IsOption, IsListWord, IsItem, State, with_item}
 use Rattle.smash_main.proofs.WordsNumbers.{number_same}
 use Rattle.smash_main.proofs.WordsLists.{list_same, list_of}
 
@@ -23,14 +23,16 @@ Behind (view.fuel n used) d words fuel l = Fuels (drop used words) n fuel l
 Behind (view.list zs) d words fuel l = Lists d words zs fuel l
 
 -- no fuel is given behind `--`
-dashed_none : {d : Bool} {words : List (List ℕ)} {fuel : Option ℕ} {l : Option (List ℤ)} → IsReplayRest d words fuel l → d ≡ true → fuel ≡ None
+dashed_none : {d : Bool} {words : List (List ℕ)} {fuel : Option ℕ} {l : Option (List ℤ)} → IsReplayRest d words fuel l → d ≡ true →
+    fuel ≡ None
 dashed_none end e = refl
 dashed_none (list i h) e = dashed_none h e
 dashed_none (fuel_word i h) e = cc
 dashed_none (fuel_equals t i h) e = cc
 dashed_none (dashes h) e = cc
 
-pub replay_of : (i : Gives) (d : Bool) (words : List (List ℕ)) (fuel : Option ℕ) (l : Option (List ℤ)) → IsItem d words i → Behind i d words fuel l → IsReplayRest d words fuel l
+pub replay_of : (i : Gives) (d : Bool) (words : List (List ℕ)) (fuel : Option ℕ) (l : Option (List ℤ)) → IsItem d words i →
+    Behind i d words fuel l → IsReplayRest d words fuel l
 replay_of view.dashes d words fuel l (e, (rest, is)) h =
     let n = dashed_none h refl in
     let P : List (List ℕ) → Type 0 = λ w. IsReplayRest true (drop 1 w) fuel l in
@@ -50,7 +52,8 @@ replay_of (view.fuel n used) d words fuel l (e, inr (w, u)) h =
     let a : IsReplayRest false w.rest None l = subst (λ ws. IsReplayRest false ws None l) k h.rest in
     let Q : Option ℕ → Type 0 = λ f. IsReplayRest false ((codes "--fuel=" ++ w.text) ∷ w.rest) f l in
     let c : IsReplayRest false ((codes "--fuel=" ++ w.text) ∷ w.rest) fuel l = subst Q (sym h.given) (fuel_equals w.text w.read a) in
-    subst (λ ws. IsReplayRest d ws fuel l) (sym w.whole) (subst (λ x. IsReplayRest x ((codes "--fuel=" ++ w.text) ∷ w.rest) fuel l) (sym e) c)
+    subst (λ ws. IsReplayRest d ws fuel l) (sym w.whole) (subst (λ x. IsReplayRest x ((codes "--fuel=" ++ w.text) ∷ w.rest) fuel l) (sym e)
+    c)
 replay_of (view.list zs) d words fuel l w h =
     let k : drop 1 words ≡ w.rest = ap (drop 1) w.whole in
     let a : IsReplayRest d w.rest fuel None = subst (λ ws. IsReplayRest d ws fuel None) k h.rest in
@@ -70,11 +73,27 @@ pub record HasFirst (d : Bool) (words : List (List ℕ)) (fuel : Option ℕ) (l 
   pub is : IsItem d words item
   pub behind : Behind item d words fuel l
 
-pub first_of : {d : Bool} {words : List (List ℕ)} {fuel : Option ℕ} {l : Option (List ℤ)} → IsReplayRest d words fuel l → IsEnd words fuel l ⊎ HasFirst d words fuel l
+pub first_of : {d : Bool} {words : List (List ℕ)} {fuel : Option ℕ} {l : Option (List ℤ)} → IsReplayRest d words fuel l → IsEnd words fuel l
+    ⊎ HasFirst d words fuel l
 first_of end = inl (record { whole = refl; fuel_none = refl; list_none = refl })
-first_of (list {d} {word} {words} {fuel} {zs} i h) = inr (record { item = view.list zs; is = record { word = word; rest = words; whole = refl; read = i }; behind = record { given = refl; rest = h } })
-first_of (fuel_word {word} {words} {n} {l} i h) = inr (record { item = view.fuel n 2; is = (refl, inl (record { word = word; rest = words; whole = refl; read = i }, refl)); behind = record { given = refl; rest = h } })
-first_of (fuel_equals {words} {n} {l} text i h) = inr (record { item = view.fuel n 1; is = (refl, inr (record { text = text; rest = words; whole = refl; read = i }, refl)); behind = record { given = refl; rest = h } })
+first_of (list {d} {word} {words} {fuel} {zs} i h) = inr
+    (record {
+      item = view.list zs;
+      is = record { word = word; rest = words; whole = refl; read = i };
+      behind = record { given = refl; rest = h };
+    })
+first_of (fuel_word {word} {words} {n} {l} i h) = inr
+    (record {
+      item = view.fuel n 2;
+      is = (refl, inl (record { word = word; rest = words; whole = refl; read = i }, refl));
+      behind = record { given = refl; rest = h };
+    })
+first_of (fuel_equals {words} {n} {l} text i h) = inr
+    (record {
+      item = view.fuel n 1;
+      is = (refl, inr (record { text = text; rest = words; whole = refl; read = i }, refl));
+      behind = record { given = refl; rest = h };
+    })
 first_of (dashes {words} {l} h) = inr (record { item = view.dashes; is = (refl, (words, refl)); behind = h })
 
 -- an item stands in its words alone
@@ -105,13 +124,16 @@ fuel_same : (text : List ℕ) (m n : ℕ) → IsFuel text m → IsFuel text n �
 fuel_same text m n g h = number_same 1 max_fuel m n text g h
 
 dashes_word : (words rest : List (List ℕ)) (n : ℕ) → words ≡ codes "--" ∷ rest → IsFuelWord words n → ⊥
-dashes_word words rest n e w = let h : codes "--" ∷ rest ≡ codes "--fuel" ∷ w.word ∷ w.rest = sym e ∙ w.whole in let a = ap (λ x. length (first_word x)) h in omega (arith, a)
+dashes_word words rest n e w = let h : codes "--" ∷ rest ≡ codes "--fuel" ∷ w.word ∷ w.rest = sym e ∙ w.whole in
+    let a = ap (λ x. length (first_word x)) h in omega (arith, a)
 
 dashes_equals : (words rest : List (List ℕ)) (n : ℕ) → words ≡ codes "--" ∷ rest → IsFuelEquals words n → ⊥
-dashes_equals words rest n e w = let h : codes "--" ∷ rest ≡ (codes "--fuel=" ++ w.text) ∷ w.rest = sym e ∙ w.whole in let a = ap (λ x. length (first_word x)) h in omega (arith, a, length-append (codes "--fuel=") w.text)
+dashes_equals words rest n e w = let h : codes "--" ∷ rest ≡ (codes "--fuel=" ++ w.text) ∷ w.rest = sym e ∙ w.whole in
+    let a = ap (λ x. length (first_word x)) h in omega (arith, a, length-append (codes "--fuel=") w.text)
 
 word_equals : (words : List (List ℕ)) (m n : ℕ) → IsFuelWord words m → IsFuelEquals words n → ⊥
-word_equals words m n v w = let h : codes "--fuel" ∷ v.word ∷ v.rest ≡ (codes "--fuel=" ++ w.text) ∷ w.rest = sym v.whole ∙ w.whole in let a = ap (λ x. length (first_word x)) h in omega (arith, a, length-append (codes "--fuel=") w.text)
+word_equals words m n v w = let h : codes "--fuel" ∷ v.word ∷ v.rest ≡ (codes "--fuel=" ++ w.text) ∷ w.rest = sym v.whole ∙ w.whole in
+    let a = ap (λ x. length (first_word x)) h in omega (arith, a, length-append (codes "--fuel=") w.text)
 
 word_word : (words : List (List ℕ)) (m n : ℕ) → IsFuelWord words m → IsFuelWord words n → m ≡ n
 word_word words m n v w =
@@ -134,10 +156,12 @@ option_same words view.dashes (view.fuel n used) (rest, is) (inr (w, u)) = absur
 option_same words view.dashes (view.list zs) g h = absurd h
 option_same words (view.fuel n used) view.dashes (inl (w, u)) (rest, is) = absurd (dashes_word words rest n is w)
 option_same words (view.fuel n used) view.dashes (inr (w, u)) (rest, is) = absurd (dashes_equals words rest n is w)
-option_same words (view.fuel m k) (view.fuel n l) (inl (v, t)) (inl (w, u)) = ap (λ x. view.fuel x k) (word_word words m n v w) ∙ ap (view.fuel n) (t ∙ sym u)
+option_same words (view.fuel m k) (view.fuel n l) (inl (v, t)) (inl (w, u)) = ap (λ x. view.fuel x k) (word_word words m n v w)
+    ∙ ap (view.fuel n) (t ∙ sym u)
 option_same words (view.fuel m k) (view.fuel n l) (inl (v, t)) (inr (w, u)) = absurd (word_equals words m n v w)
 option_same words (view.fuel m k) (view.fuel n l) (inr (v, t)) (inl (w, u)) = absurd (word_equals words n m w v)
-option_same words (view.fuel m k) (view.fuel n l) (inr (v, t)) (inr (w, u)) = ap (λ x. view.fuel x k) (equals_equals words m n v w) ∙ ap (view.fuel n) (t ∙ sym u)
+option_same words (view.fuel m k) (view.fuel n l) (inr (v, t)) (inr (w, u)) = ap (λ x. view.fuel x k) (equals_equals words m n v w)
+    ∙ ap (view.fuel n) (t ∙ sym u)
 option_same words (view.fuel n used) (view.list zs) g h = absurd h
 option_same words (view.list zs) j g h = absurd g
 
@@ -157,7 +181,8 @@ item_same d words (view.list ys) (view.list zs) v w =
     ap view.list (list_same w.word ys zs (subst P e v.read) w.read)
 
 -- an item in its words, and what stands behind it
-pub behind_only : (i : Gives) (d : Bool) (words : List (List ℕ)) (fuel : Option ℕ) (l : Option (List ℤ)) → IsItem d words i → IsReplayRest d words fuel l → Behind i d words fuel l
+pub behind_only : (i : Gives) (d : Bool) (words : List (List ℕ)) (fuel : Option ℕ) (l : Option (List ℤ)) → IsItem d words i →
+    IsReplayRest d words fuel l → Behind i d words fuel l
 behind_only i d words fuel l g h = elim (first_of h) [
   | inl w ↦ absurd (some_words i g w.whole)
   | inr w ↦ subst (λ x. Behind x d words fuel l) (item_same d words w.item i w.is g) w.behind
@@ -200,24 +225,47 @@ joins_all : {X : Type 0} (o : Option X) → Joins o None o
 joins_all None = refl
 joins_all (Some x) = (refl, refl)
 
-pub collects_all : (words rest : List (List ℕ)) (s : State) → length rest ≡ 0 → Collects words rest s → IsReplayRest false words s.fuel s.list
-collects_all words [] s e c = c.sound s.fuel s.list (record { fuel_left = None; list_left = None; is = end; fuel_joined = joins_all s.fuel; list_joined = joins_all s.list })
+pub collects_all : (words rest : List (List ℕ)) (s : State) → length rest ≡ 0 → Collects words rest s → IsReplayRest false words s.fuel
+    s.list
+collects_all words [] s e c = c.sound s.fuel s.list (record {
+  fuel_left = None;
+  list_left = None;
+  is = end;
+  fuel_joined = joins_all s.fuel;
+  list_joined = joins_all s.list;
+})
 collects_all words (w ∷ ws) s e c = absurd (omega arith)
 
 module _ (words rest : List (List ℕ)) where
-  after_dashes : (d : Bool) (f : Option ℕ) (l : Option (List ℤ)) → IsItem d rest view.dashes → Collects words rest (state d f l) → Collects words (drop 1 rest) (state true f l)
+  after_dashes : (d : Bool) (f : Option ℕ) (l : Option (List ℤ)) → IsItem d rest view.dashes → Collects words rest (state d f l) →
+      Collects words (drop 1 rest) (state true f l)
   after_dashes d f l g c = record {
     sound = λ fuel o h.
-        c.sound fuel o (record { fuel_left = h.fuel_left; list_left = h.list_left; is = replay_of view.dashes d rest h.fuel_left h.list_left g h.is; fuel_joined = h.fuel_joined; list_joined = h.list_joined });
+        c.sound fuel o (record {
+          fuel_left = h.fuel_left;
+          list_left = h.list_left;
+          is = replay_of view.dashes d rest h.fuel_left h.list_left
+              g h.is;
+          fuel_joined = h.fuel_joined;
+          list_joined = h.list_joined;
+        });
     complete = λ fuel o h.
         let k = c.complete fuel o h in
-        record { fuel_left = k.fuel_left; list_left = k.list_left; is = behind_only view.dashes d rest k.fuel_left k.list_left g k.is; fuel_joined = k.fuel_joined; list_joined = k.list_joined };
+        record {
+          fuel_left = k.fuel_left;
+          list_left = k.list_left;
+          is = behind_only view.dashes d rest k.fuel_left k.list_left g k.is;
+          fuel_joined = k.fuel_joined;
+          list_joined = k.list_joined;
+        };
   }
 
-  after_fuel : (n used : ℕ) (d : Bool) (l : Option (List ℤ)) → IsItem d rest (view.fuel n used) → Collects words rest (state d None l) → Collects words (drop used rest) (state d (Some n) l)
+  after_fuel : (n used : ℕ) (d : Bool) (l : Option (List ℤ)) → IsItem d rest (view.fuel n used) → Collects words rest (state d None l) →
+      Collects words (drop used rest) (state d (Some n) l)
   after_fuel n used d l g c = record {
     sound = λ fuel o h.
-        let a : IsReplayRest false (drop used rest) None h.list_left = subst (λ x. IsReplayRest x (drop used rest) None h.list_left) g.0 (subst (λ f. IsReplayRest d (drop used rest) f h.list_left) h.fuel_joined.0 h.is) in
+        let a : IsReplayRest false (drop used rest) None h.list_left = subst (λ x. IsReplayRest x (drop used rest) None h.list_left) g.0
+        (subst (λ f. IsReplayRest d (drop used rest) f h.list_left) h.fuel_joined.0 h.is) in
         c.sound fuel o
         (record {
           fuel_left = Some n;
@@ -238,10 +286,12 @@ module _ (words rest : List (List ℕ)) where
         };
   }
 
-  after_list : (zs : List ℤ) (d : Bool) (f : Option ℕ) → IsItem d rest (view.list zs) → Collects words rest (state d f None) → Collects words (drop 1 rest) (state d f (Some zs))
+  after_list : (zs : List ℤ) (d : Bool) (f : Option ℕ) → IsItem d rest (view.list zs) → Collects words rest (state d f None) →
+      Collects words (drop 1 rest) (state d f (Some zs))
   after_list zs d f g c = record {
     sound = λ fuel o h.
-        let a : IsReplayRest d (drop 1 rest) h.fuel_left None = subst (λ x. IsReplayRest d (drop 1 rest) h.fuel_left x) h.list_joined.0 h.is in
+        let a : IsReplayRest d (drop 1 rest) h.fuel_left None = subst (λ x. IsReplayRest d (drop 1 rest) h.fuel_left x) h.list_joined.0 h.is
+        in
         c.sound fuel o
         (record {
           fuel_left = h.fuel_left;
@@ -253,26 +303,35 @@ module _ (words rest : List (List ℕ)) where
     complete = λ fuel o h.
         let k = c.complete fuel o h in
         let b = behind_only (view.list zs) d rest k.fuel_left k.list_left g k.is in
-        record { fuel_left = k.fuel_left; list_left = None; is = b.rest; fuel_joined = k.fuel_joined; list_joined = (refl, sym k.list_joined ∙ b.given) };
+        record {
+          fuel_left = k.fuel_left;
+          list_left = None;
+          is = b.rest;
+          fuel_joined = k.fuel_joined;
+          list_joined = (refl, sym k.list_joined ∙ b.given);
+        };
   }
 
   after_state : (n : ℕ) (s t : State) → s ≡ t → Collects words (drop n rest) s → Collects words (drop n rest) t
   after_state n s t e c = subst (Collects words (drop n rest)) e c
 
-  taken : (i : Gives) (d : Bool) (f : Option ℕ) (l : Option (List ℤ)) (t : State) → Some t ≡ with_item i (state d f l) → IsItem d rest i → Collects words rest (state d f l) → Collects words (drop (used_of i) rest) t
+  taken : (i : Gives) (d : Bool) (f : Option ℕ) (l : Option (List ℤ)) (t : State) → Some t ≡ with_item i (state d f l) → IsItem d rest i →
+      Collects words rest (state d f l) → Collects words (drop (used_of i) rest) t
   taken view.dashes d f l t e g c = after_state 1 (state true f l) t (cc) (after_dashes d f l g c)
   taken (view.fuel n used) d None l t e g c = after_state used (state d (Some n) l) t (cc) (after_fuel n used d l g c)
   taken (view.fuel n used) d (Some m) l t e g c = cc
   taken (view.list zs) d f None t e g c = after_state 1 (state d f (Some zs)) t (cc) (after_list zs d f g c)
   taken (view.list zs) d f (Some ys) t e g c = cc
 
-  pub collects_more : (i : Gives) (s t : State) → Some t ≡ with_item i s → IsItem s.dashed rest i → Collects words rest s → Collects words (drop (used_of i) rest) t
+  pub collects_more : (i : Gives) (s t : State) → Some t ≡ with_item i s → IsItem s.dashed rest i → Collects words rest s →
+      Collects words (drop (used_of i) rest) t
   collects_more i s t e g c = taken i s.dashed s.fuel s.list t e g c
 
   none_some : {X : Type 0} (o : Option X) (x : X) → o ≡ None → o ≡ Some x → ⊥
   none_some o x e f = let g : None ≡ Some x = sym e ∙ f in cc
 
-  refused : (i : Gives) (d : Bool) (f : Option ℕ) (l : Option (List ℤ)) → None ≡ with_item i (state d f l) → IsItem d rest i → Collects words rest (state d f l) → (fuel : Option ℕ) (o : Option (List ℤ)) → IsReplayRest false words fuel o → ⊥
+  refused : (i : Gives) (d : Bool) (f : Option ℕ) (l : Option (List ℤ)) → None ≡ with_item i (state d f l) → IsItem d rest i →
+      Collects words rest (state d f l) → (fuel : Option ℕ) (o : Option (List ℤ)) → IsReplayRest false words fuel o → ⊥
   refused view.dashes d f l e g c fuel o h = cc
   refused (view.fuel n used) d None l e g c fuel o h = cc
   refused (view.fuel n used) d (Some m) l e g c fuel o h =
@@ -285,10 +344,12 @@ module _ (words rest : List (List ℕ)) where
       let b = behind_only (view.list zs) d rest k.fuel_left k.list_left g k.is in
       none_some k.list_left zs k.list_joined.0 b.given
 
-  pub given_twice : (i : Gives) (s : State) → None ≡ with_item i s → IsItem s.dashed rest i → Collects words rest s → (fuel : Option ℕ) (o : Option (List ℤ)) → IsReplayRest false words fuel o → ⊥
+  pub given_twice : (i : Gives) (s : State) → None ≡ with_item i s → IsItem s.dashed rest i → Collects words rest s →
+      (fuel : Option ℕ) (o : Option (List ℤ)) → IsReplayRest false words fuel o → ⊥
   given_twice i s e g c = refused i s.dashed s.fuel s.list e g c
 
-  pub no_item : (s : State) → 1 ≤ length rest → ((i : Gives) → IsItem s.dashed rest i → ⊥) → Collects words rest s → (fuel : Option ℕ) (o : Option (List ℤ)) → IsReplayRest false words fuel o → ⊥
+  pub no_item : (s : State) → 1 ≤ length rest → ((i : Gives) → IsItem s.dashed rest i → ⊥) → Collects words rest s →
+      (fuel : Option ℕ) (o : Option (List ℤ)) → IsReplayRest false words fuel o → ⊥
   no_item s some n c fuel o h =
       let k = c.complete fuel o h in
       elim (first_of k.is) [
@@ -302,7 +363,9 @@ pub record Same (fuel : Option ℕ) (l : Option (List ℤ)) (other_fuel : Option
   pub fuels : fuel ≡ other_fuel
   pub lists : l ≡ other
 
-pub replay_same : {d : Bool} {words : List (List ℕ)} {fuel : Option ℕ} {l : Option (List ℤ)} (other_fuel : Option ℕ) (other : Option (List ℤ)) → IsReplayRest d words fuel l → IsReplayRest d words other_fuel other → Same fuel l other_fuel other
+pub replay_same : {d : Bool} {words : List (List ℕ)} {fuel : Option ℕ} {l : Option (List ℤ)} (other_fuel : Option ℕ)
+    (other : Option (List ℤ)) →
+    IsReplayRest d words fuel l → IsReplayRest d words other_fuel other → Same fuel l other_fuel other
 replay_same f o end h = elim (first_of h) [
   | inl w ↦ record { fuels = sym w.fuel_none; lists = sym w.list_none }
   | inr w ↦ let u = used-le _ [] w.item w.is in absurd (omega (arith, u.0, u.1))
@@ -312,11 +375,13 @@ replay_same f o (list {d} {word} {words} {fuel} {zs} i g) h =
     let s = replay_same f None g b.rest in
     record { fuels = s.fuels; lists = sym b.given }
 replay_same f o (fuel_word {word} {words} {n} {l} i g) h =
-    let b = behind_only (view.fuel n 2) false (codes "--fuel" ∷ word ∷ words) f o (refl, inl (record { word = word; rest = words; whole = refl; read = i }, refl)) h in
+    let b = behind_only (view.fuel n 2) false (codes "--fuel" ∷ word ∷ words) f o
+    (refl, inl (record { word = word; rest = words; whole = refl; read = i }, refl)) h in
     let s = replay_same None o g b.rest in
     record { fuels = sym b.given; lists = s.lists }
 replay_same f o (fuel_equals {words} {n} {l} text i g) h =
-    let b = behind_only (view.fuel n 1) false ((codes "--fuel=" ++ text) ∷ words) f o (refl, inr (record { text = text; rest = words; whole = refl; read = i }, refl)) h in
+    let b = behind_only (view.fuel n 1) false ((codes "--fuel=" ++ text) ∷ words) f o
+    (refl, inr (record { text = text; rest = words; whole = refl; read = i }, refl)) h in
     let s = replay_same None o g b.rest in
     record { fuels = sym b.given; lists = s.lists }
 replay_same f o (dashes {words} {l} g) h =
@@ -325,22 +390,26 @@ replay_same f o (dashes {words} {l} g) h =
 
 -- what the code reads of the first words
 
-pub option_none : (text : List ℕ) (others : List (List ℕ)) → (text ≡ codes "--" → ⊥) → ((n : ℕ) → IsFuelWord (text ∷ others) n → ⊥) → ((n : ℕ) → IsFuelEquals (text ∷ others) n → ⊥) → (i : Gives) → IsOption (text ∷ others) i → ⊥
+pub option_none : (text : List ℕ) (others : List (List ℕ)) → (text ≡ codes "--" → ⊥) → ((n : ℕ) → IsFuelWord (text ∷ others) n → ⊥) →
+    ((n : ℕ) → IsFuelEquals (text ∷ others) n → ⊥) → (i : Gives) → IsOption (text ∷ others) i → ⊥
 option_none text others a b c view.dashes (rest, is) = a (ap first_word is)
 option_none text others a b c (view.fuel n used) (inl (w, u)) = b n w
 option_none text others a b c (view.fuel n used) (inr (w, u)) = c n w
 option_none text others a b c (view.list zs) h = h
 
 not_equals : (others : List (List ℕ)) (n : ℕ) → IsFuelEquals (codes "--fuel" ∷ others) n → ⊥
-not_equals others n w = let a : 6 ≡ length (codes "--fuel=" ++ w.text) = ap (λ x. length (first_word x)) w.whole in omega (arith, a, length-append (codes "--fuel=") w.text)
+not_equals others n w = let a : 6 ≡ length (codes "--fuel=" ++ w.text) = ap (λ x. length (first_word x)) w.whole in
+    omega (arith, a, length-append (codes "--fuel=") w.text)
 
 not_dashes : codes "--fuel" ≡ codes "--" → ⊥
 not_dashes e = let a : 6 ≡ 2 = ap length e in omega (arith, a)
 
-pub fuel_word_none : (others : List (List ℕ)) → ((n : ℕ) → IsFuelWord (codes "--fuel" ∷ others) n → ⊥) → (i : Gives) → IsOption (codes "--fuel" ∷ others) i → ⊥
+pub fuel_word_none : (others : List (List ℕ)) → ((n : ℕ) → IsFuelWord (codes "--fuel" ∷ others) n → ⊥) → (i : Gives) →
+    IsOption (codes "--fuel" ∷ others) i → ⊥
 fuel_word_none others none = option_none (codes "--fuel") others not_dashes none (not_equals others)
 
-pub item_none : (words : List (List ℕ)) → ((i : Gives) → IsOption words i → ⊥) → ((i : Gives) → IsItem true words i → ⊥) → (i : Gives) → IsItem false words i → ⊥
+pub item_none : (words : List (List ℕ)) → ((i : Gives) → IsOption words i → ⊥) → ((i : Gives) → IsItem true words i → ⊥) → (i : Gives) →
+    IsItem false words i → ⊥
 item_none words a b view.dashes h = a view.dashes h.1
 item_none words a b (view.fuel n used) h = a (view.fuel n used) h.1
 item_none words a b (view.list zs) h = b (view.list zs) h

@@ -51,7 +51,8 @@ used_text used = codes ", inputs used " ++ (decimal used ++ 10 ∷ [])
 -- the place of the assertion that failed
 abbrev pub failed_text : Option AssertPlace → ℕ → List ℕ
 failed_text None used = []
-failed_text (Some a) used = codes "failed " ++ (decimal a.at.line ++ (codes ":" ++ (decimal a.at.column ++ used_text used)))
+failed_text (Some a) used = codes "failed "
+    ++ (decimal a.at.line ++ (codes ":" ++ (decimal a.at.column ++ used_text used)))
 
 -- an assertion that failed has a place
 abbrev pub HasPlace : ℕ → ReplayOutcome → Type 0
@@ -62,7 +63,8 @@ HasPlace n Starved = Unit {0}
 HasPlace n Fuel = Unit {0}
 
 abbrev pub replay_text : PureProgram → ℕ → ReplayOutcome → ℕ → List ℕ
-replay_text P fuel (Comes (Returned v)) used = codes "returned " ++ (signed_decimal v ++ used_text used)
+replay_text P fuel (Comes (Returned v)) used = codes "returned "
+    ++ (signed_decimal v ++ used_text used)
 replay_text P fuel (Comes (Failed id)) used = failed_text (slice_get P.asserts id) used
 replay_text P fuel (Comes Stopped) used = codes "stopped" ++ used_text used
 replay_text P fuel Starved used = codes "starved" ++ used_text used
@@ -76,7 +78,8 @@ replay_status Starved = 2
 replay_status Fuel = 2
 
 -- the one outcome of the program on the list
-pub record IsReplayed (program : PureProgram) (fuel : ℕ) (list : List ℤ) (status : ℕ) (text : List ℕ) : Type 0 where
+pub record IsReplayed (program : PureProgram) (fuel : ℕ) (list : List ℤ) (status : ℕ)
+    (text : List ℕ) : Type 0 where
   pub outcome : ReplayOutcome
   pub used : ℕ
   pub replayed : Replays program list fuel outcome used

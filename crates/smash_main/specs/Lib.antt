@@ -1,10 +1,8 @@
-pub mod Accepting
 pub mod Asked
-pub mod Judging
 pub mod Plain
 pub mod Report
 pub mod Run
 pub mod Source
 pub mod Verdicts
 pub mod Words
-pub mod WordsView
+pub mod steps

@@ -27,7 +27,8 @@ abbrev mutual
   is_plain_statement (ignore e) = has_no_input e
   is_plain_statement (assume e) = has_no_input e
   is_plain_statement (assert id e) = has_no_input e
-  is_plain_statement (if_else e a b) = has_no_input e && is_plain_statement a && is_plain_statement b
+  is_plain_statement (if_else e a b) = has_no_input e && is_plain_statement a && is_plain_statement
+      b
   is_plain_statement (loop e s b) = false
   is_plain_statement (do_while s e) = false
   is_plain_statement break = true

@@ -12,7 +12,8 @@ verdict_text Found = codes "found []"
 
 -- the line of an assertion: the place of its name, and its verdict
 abbrev pub line_of : AssertPlace → Verdict → List ℕ
-line_of a v = decimal a.at.line ++ (codes ":" ++ (decimal a.at.column ++ (codes ": " ++ (verdict_text v ++ 10 ∷ []))))
+line_of a v = decimal a.at.line
+    ++ (codes ":" ++ (decimal a.at.column ++ (codes ": " ++ (verdict_text v ++ 10 ∷ []))))
 
 -- the lines of the assertions, in source order
 abbrev pub lines_of : List AssertPlace → List Verdict → List ℕ
@@ -30,7 +31,10 @@ is_found Found = true
 
 abbrev pub summary_of : List Verdict → List ℕ
 summary_of vs =
-    codes "summary: " ++ (decimal (count_by is_proved vs) ++ (codes " proved, " ++ (decimal (count_by is_found vs) ++ (codes " found, 0 unknown" ++ 10 ∷ []))))
+    codes "summary: "
+    ++ (decimal (count_by is_proved vs)
+    ++ (codes " proved, "
+    ++ (decimal (count_by is_found vs) ++ (codes " found, 0 unknown" ++ 10 ∷ []))))
 
 abbrev pub report_of : List AssertPlace → List Verdict → List ℕ
 report_of places vs = lines_of places vs ++ summary_of vs

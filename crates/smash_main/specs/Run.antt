@@ -1,17 +1,19 @@
 -- What the program owes to its words, its source and its sink.
-use Rattle.std.specs.Prelude.{◌≡◌, ℕ, ◌≤◌, List, [], ◌∷◌, ◌++◌, length, codes, ◌⊎◌, Some, true}
+use Rattle.std.specs.Prelude.{◌≡◌, ℕ, ◌+◌, ◌≤◌, List, [], ◌∷◌, ◌++◌, length, codes, ◌⊎◌, Some, true}
 use Rattle.std.specs.declared.option.Option.{Option}
 use Rattle.std.specs.Io.KnownBytes.{Consumes, Appends, IsAtEnd, Keeps}
-use Rattle.outer_io.specs.Causes.{Rose, Took, WritesFront}
+use Rattle.outer_io.specs.Causes.{Rose, Took, TookAtMost, WritesFront}
 use Rattle.c_tree.specs.Syntax.{PureProgram}
 use Rattle.smash_main.specs.Words.{Command, check, replay}
-use Rattle.smash_main.specs.Source.{IsAccepted}
+use Rattle.smash_main.specs.Source.{IsAccepted, source_limit}
 use Rattle.smash_main.specs.Plain.{is_plain}
 use Rattle.smash_main.specs.Asked.{AsksFor, Answers}
 
 abbrev pub usage_text : List ℕ
 usage_text =
-    codes "usage: smash check [--budget n] [--workers n]" ++ (10 ∷ codes "       smash replay [--fuel n] list" ++ (10 ∷ codes "       smash workload n [--budget n] [--workers n]" ++ 10 ∷ []))
+    codes "usage: smash check [--budget n] [--workers n]" ++
+    (10 ∷ codes "       smash replay [--fuel n] list" ++
+    (10 ∷ codes "       smash workload n [--budget n] [--workers n]" ++ 10 ∷ []))
 
 abbrev pub too_long_text : List ℕ
 too_long_text = codes "refused: source longer than 65536 bytes" ++ 10 ∷ []
@@ -32,17 +34,25 @@ HasFault c = Rose c.faults_before c.faults_after
 abbrev pub StaysAsItWas : Change → Type 0
 StaysAsItWas c = Keeps c.before c.after
 
--- The status is this one, and the sink took this whole text. Or a write failed, the status is 6, and the sink took a front of the text.
-abbrev pub Ends : ℕ → Change → ℕ → List ℕ → Type 0
-Ends status sink due text = ((status ≡ due) × Appends sink.before sink.after text) ⊎ ((status ≡ 6) × HasFault sink × WritesFront sink.before sink.after text)
+-- at most so many bytes of the source were taken
+abbrev pub TakesAtMost : Change → ℕ → Type 0
+TakesAtMost c most = TookAtMost c.before c.after most
 
--- all the bytes of the source, at most 65,536, were read
+-- The status is this one, and the sink took this whole text. Or a write failed, the status is 6,
+-- and the sink took a front of the text.
+abbrev pub EndsWith : ℕ → Change → ℕ → List ℕ → Type 0
+EndsWith status sink due text =
+    ((status ≡ due) × Appends sink.before sink.after text) ⊎
+    ((status ≡ 6) × HasFault sink × WritesFront sink.before sink.after text)
+
+-- all the bytes of the source, as many as it may have at most, were read
 pub record IsWhole (source : Change) (bytes : List ℕ) : Type 0 where
   pub consumed : Consumes source.before source.after bytes
   pub at_end : IsAtEnd source.after
-  pub fits : length bytes ≤ 65536
+  pub fits : length bytes ≤ source_limit
 
--- The source was read whole, and the end is what its bytes ask for. An accepted source is never refused.
+-- The source was read whole, and the end is what its bytes ask for. An accepted source is never
+-- refused.
 pub record EndsWhole (c : Command) (status : ℕ) (source sink : Change) : Type 0 where
   pub bytes : List ℕ
   pub read : IsWhole source bytes
@@ -50,38 +60,45 @@ pub record EndsWhole (c : Command) (status : ℕ) (source sink : Change) : Type 
   pub text : List ℕ
   pub asked : AsksFor c bytes due text
   pub settled : (P : PureProgram) → IsAccepted bytes P → Answers c P due text
-  pub ends : Ends status sink due text
+  pub ends : EndsWith status sink due text
 
--- more than 65,536 bytes were taken from the source, and it is refused
+-- one byte more than a source may have was taken, and it is refused
 pub record EndsTooLong (status : ℕ) (source sink : Change) : Type 0 where
-  pub taken : Took source.before source.after 65537
-  pub ends : Ends status sink 3 too_long_text
+  pub taken : Took source.before source.after (source_limit + 1)
+  pub ends : EndsWith status sink 3 too_long_text
 
 -- a read failed, and nothing was written
 pub record EndsFaulty (status : ℕ) (source sink : Change) : Type 0 where
   pub failed : HasFault source
+  pub taken : TakesAtMost source source_limit
   pub is_five : status ≡ 5
   pub silent : StaysAsItWas sink
 
 -- memory ran out, and nothing was written
-pub record EndsEmpty (status : ℕ) (sink : Change) : Type 0 where
+pub record EndsEmpty (status : ℕ) (source sink : Change) : Type 0 where
+  pub taken : TakesAtMost source (source_limit + 1)
   pub is_seven : status ≡ 7
   pub silent : StaysAsItWas sink
 
 -- words that are no command: the usage text, or memory runs out
 abbrev pub EndsUsage : ℕ → Change → Type 0
-EndsUsage status sink = Ends status sink 4 usage_text ⊎ EndsEmpty status sink
+EndsUsage status sink = EndsWith status sink 4 usage_text ⊎ ((status ≡ 7) × StaysAsItWas sink)
 
 -- how a command ends
 abbrev pub Obeys : Command → ℕ → Change → Change → Type 0
-Obeys c status source sink = EndsWhole c status source sink ⊎ (EndsTooLong status source sink ⊎ (EndsFaulty status source sink ⊎ EndsEmpty status sink))
+Obeys c status source sink =
+    EndsWhole c status source sink ⊎ (EndsTooLong status source sink ⊎
+    (EndsFaulty status source sink ⊎ EndsEmpty status source sink))
 
 -- `check` on a program that it evaluates: 0 or 1. A replay: 0, 1 or 2.
 abbrev pub IsVerdictStatus : Command → PureProgram → ℕ → Type 0
 IsVerdictStatus check P status = is_plain P ≡ true → (status ≡ 0) ⊎ ((status ≡ 1) ⊎ (status ≡ 7))
-IsVerdictStatus (replay fuel list) P status = (status ≡ 0) ⊎ ((status ≡ 1) ⊎ ((status ≡ 2) ⊎ (status ≡ 7)))
+IsVerdictStatus (replay fuel list) P status =
+    (status ≡ 0) ⊎ ((status ≡ 1) ⊎ ((status ≡ 2) ⊎ (status ≡ 7)))
 
--- where an accepted source is told and no count of faults rises, the command ends with a verdict, or memory runs out
+-- where an accepted source is told and no count of faults rises, the command ends with a verdict,
+-- or memory runs out
 abbrev pub Completes : Command → ℕ → Change → Change → Type 0
 Completes c status source sink =
-    (bytes : List ℕ) (P : PureProgram) → source.before ≡ Some bytes → length bytes ≤ 65536 → IsAccepted bytes P → (HasFault source → ⊥) → (HasFault sink → ⊥) → IsVerdictStatus c P status
+    (bytes : List ℕ) (P : PureProgram) → source.before ≡ Some bytes → length bytes ≤ source_limit →
+    IsAccepted bytes P → (HasFault source → ⊥) → (HasFault sink → ⊥) → IsVerdictStatus c P status

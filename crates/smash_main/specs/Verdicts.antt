@@ -5,7 +5,8 @@ use Rattle.c_tree.specs.Meaning.{Reaches}
 use Rattle.smash_main.specs.declared.report.Verdict.{Verdict}
 use Rattle.smash_main.specs.declared.report.Verdict.TheVariants.{Proved, Found}
 
--- An assertion is found exactly where the run without inputs fails at it, and proved exactly where no run on any inputs does.
+-- An assertion is found exactly where the run without inputs fails at it, and proved exactly where
+-- no run on any inputs does.
 pub record HasVerdict (P : PureProgram) (id : ℕ) (v : Verdict) : Type 0 where
   pub found : (v ≡ Found) ↔ Reaches P id []
   pub proved : (v ≡ Proved) ↔ ((ins : List ℤ) → Reaches P id ins → ⊥)

@@ -23,10 +23,13 @@ is_numeral [] = false
 is_numeral (b ∷ []) = is_digit b
 is_numeral (b ∷ c ∷ bs) = nat_le 49 b && nat_le b 57 && list_all is_digit (c ∷ bs)
 
--- a number of at most ten digits from `low` to `high`
+abbrev pub max_digits : ℕ
+max_digits = 10
+
+-- a number of so many digits at most, from `low` to `high`
 pub record IsNumber (low high : ℕ) (text : List ℕ) (n : ℕ) : Type 0 where
   pub numeral : is_numeral text ≡ true
-  pub short : length text ≤ 10
+  pub short : length text ≤ max_digits
   pub value : n ≡ value_from 0 text
   pub low_enough : low ≤ n
   pub high_enough : n ≤ high
@@ -38,8 +41,10 @@ abbrev pub IsValue : List ℕ → ℤ → Type 0
 IsValue [] z = ⊥
 IsValue (b ∷ bs) z =
     MatchBool (b == 45)
-    ((is_numeral bs ≡ true) × ((bs ≡ 48 ∷ []) → ⊥) × (z ≡ neg_ℤ (pos (value_from 0 bs))) × (value_from 0 bs ≤ 9223372036854775808))
-    ((is_numeral (b ∷ bs) ≡ true) × (z ≡ pos (value_from 0 (b ∷ bs))) × (value_from 0 (b ∷ bs) ≤ 9223372036854775807))
+    ((is_numeral bs ≡ true) × ((bs ≡ 48 ∷ []) → ⊥) × (z ≡ neg_ℤ (pos (value_from 0 bs)))
+    × (value_from 0 bs ≤ 9223372036854775808))
+    ((is_numeral (b ∷ bs) ≡ true) × (z ≡ pos (value_from 0 (b ∷ bs)))
+    × (value_from 0 (b ∷ bs) ≤ 9223372036854775807))
 
 -- spaces, a value, spaces
 pub record IsPiece (text : List ℕ) (z : ℤ) : Type 0 where
@@ -52,15 +57,18 @@ pub record IsPiece (text : List ℕ) (z : ℤ) : Type 0 where
 -- pieces parted by commas
 pub data ArePieces : List ℕ → List ℤ → Type 0 where
   one : {text : List ℕ} {z : ℤ} → IsPiece text z → ArePieces text (z ∷ [])
-  more : {text rest : List ℕ} {z : ℤ} {zs : List ℤ} → IsPiece text z → ArePieces rest zs → ArePieces (text ++ 44 ∷ rest) (z ∷ zs)
+  more : {text rest : List ℕ} {z : ℤ} {zs : List ℤ} → IsPiece text z → ArePieces rest zs →
+      ArePieces (text ++ 44 ∷ rest) (z ∷ zs)
 
 abbrev pub max_inputs : ℕ
 max_inputs = 10000
 
--- `[`, no value or at most 10,000 values parted by commas, and `]`, with any spaces between these parts
+-- `[`, no value or at most 10,000 values parted by commas, and `]`, with any spaces between these
+-- parts
 pub data IsList : List ℕ → List ℤ → Type 0 where
   none : (n : ℕ) → IsList (91 ∷ (replicate n 32 ++ 93 ∷ [])) []
-  some : {text : List ℕ} {zs : List ℤ} → ArePieces text zs → length zs ≤ max_inputs → IsList (91 ∷ (text ++ 93 ∷ [])) zs
+  some : {text : List ℕ} {zs : List ℤ} → ArePieces text zs → length zs ≤ max_inputs →
+      IsList (91 ∷ (text ++ 93 ∷ [])) zs
 
 -- Commands
 
@@ -70,13 +78,22 @@ max_fuel = 1000000000
 abbrev pub IsFuel : List ℕ → ℕ → Type 0
 IsFuel text n = IsNumber 1 max_fuel text n
 
--- The words behind `replay`: options, one list, and one `--` behind which no word is an option, in any order.
-pub data IsReplayRest : (dashed : Bool) → List (List ℕ) → (fuel : Option ℕ) → (list : Option (List ℤ)) → Type 0 where
+-- The words behind `replay`: options, one list, and one `--` behind which no word is an option, in
+-- any order.
+pub data IsReplayRest : (dashed : Bool) → List (List ℕ) → (fuel : Option ℕ) →
+    (list : Option (List ℤ)) → Type 0 where
   end : {d : Bool} → IsReplayRest d [] None None
-  list : {d : Bool} {word : List ℕ} {words : List (List ℕ)} {fuel : Option ℕ} {zs : List ℤ} → IsList word zs → IsReplayRest d words fuel None → IsReplayRest d (word ∷ words) fuel (Some zs)
-  fuel_word : {word : List ℕ} {words : List (List ℕ)} {n : ℕ} {l : Option (List ℤ)} → IsFuel word n → IsReplayRest false words None l → IsReplayRest false (codes "--fuel" ∷ word ∷ words) (Some n) l
-  fuel_equals : {words : List (List ℕ)} {n : ℕ} {l : Option (List ℤ)} → (text : List ℕ) → IsFuel text n → IsReplayRest false words None l → IsReplayRest false ((codes "--fuel=" ++ text) ∷ words) (Some n) l
-  dashes : {words : List (List ℕ)} {l : Option (List ℤ)} → IsReplayRest true words None l → IsReplayRest false (codes "--" ∷ words) None l
+  list : {d : Bool} {word : List ℕ} {words : List (List ℕ)} {fuel : Option ℕ} {zs : List ℤ} →
+      IsList word zs → IsReplayRest d words fuel None → IsReplayRest d (word ∷ words) fuel (Some zs)
+  fuel_word : {word : List ℕ} {words : List (List ℕ)} {n : ℕ} {l : Option (List ℤ)} →
+      IsFuel word n →
+      IsReplayRest false words None l → IsReplayRest false (codes "--fuel" ∷ word ∷ words) (Some n)
+      l
+  fuel_equals : {words : List (List ℕ)} {n : ℕ} {l : Option (List ℤ)} → (text : List ℕ) →
+      IsFuel text n → IsReplayRest false words None l →
+      IsReplayRest false ((codes "--fuel=" ++ text) ∷ words) (Some n) l
+  dashes : {words : List (List ℕ)} {l : Option (List ℤ)} → IsReplayRest true words None l →
+      IsReplayRest false (codes "--" ∷ words) None l
 
 abbrev pub default_fuel : ℕ
 default_fuel = 1000000
@@ -84,8 +101,10 @@ default_fuel = 1000000
 pub data AreWords : List (List ℕ) → Command → Type 0 where
   check_bare : AreWords (codes "check" ∷ []) check
   check_dashes : AreWords (codes "check" ∷ codes "--" ∷ []) check
-  replay_fuel : {words : List (List ℕ)} {n : ℕ} {zs : List ℤ} → IsReplayRest false words (Some n) (Some zs) → AreWords (codes "replay" ∷ words) (replay n zs)
-  replay_default : {words : List (List ℕ)} {zs : List ℤ} → IsReplayRest false words None (Some zs) → AreWords (codes "replay" ∷ words) (replay default_fuel zs)
+  replay_fuel : {words : List (List ℕ)} {n : ℕ} {zs : List ℤ} → IsReplayRest false words (Some n)
+      (Some zs) → AreWords (codes "replay" ∷ words) (replay n zs)
+  replay_default : {words : List (List ℕ)} {zs : List ℤ} → IsReplayRest false words None (Some zs) →
+      AreWords (codes "replay" ∷ words) (replay default_fuel zs)
 
 -- the words are this command
 abbrev pub IsCommand : List (String Global) → Command → Type 0
@@ -94,3 +113,7 @@ IsCommand words c = AreWords (map string_bytes words) c
 -- the words are no command
 abbrev pub IsNoCommand : List (String Global) → Type 0
 IsNoCommand words = (c : Command) → IsCommand words c → ⊥
+
+-- words are one command at most
+abbrev pub HasOneCommand : Type 0
+HasOneCommand = (ws : List (List ℕ)) (c d : Command) → AreWords ws c → AreWords ws d → c ≡ d

@@ -12,14 +12,15 @@ mod words;
 
 use crate::run::run;
 use outer_io::{FromReader, ToWriter};
-use std::alloc::{AllocError, Global};
+use std::alloc::AllocError;
 use std::io;
 use std::process::ExitCode;
 
 /// Status 7: want of memory.
 const NO_MEMORY: u8 = 7;
 
-/// The words after the program's name. Words that can't be read, as those that aren't UTF-8, are no command, and so
+/// The words after the program's name. Words that can't be read, as those that aren't UTF-8, are no
+/// command, and so
 /// are no words.
 fn words_of(rt: &HostRuntime) -> Result<Vec<String>, AllocError> {
     let mut words = Vec::new(rt.alloc());

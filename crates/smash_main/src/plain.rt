@@ -1,6 +1,6 @@
 //! Programs that `check` evaluates.
 
-ghost use Rattle.std.specs.Prelude.{◌≡◌, Bool};
+ghost use Rattle.std.specs.Prelude.{◌≡◌};
 ghost use Rattle.c_tree.specs.View.{expression_of, expressions_of, optional_expression, statement_of, statements_of};
 ghost use Rattle.c_tree.specs.Whole.{program_of};
 ghost use Rattle.smash_main.specs.Plain.{has_no_input, have_no_input, returns_no_input, is_plain_statement, are_plain, is_plain};

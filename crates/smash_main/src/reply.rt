@@ -4,11 +4,11 @@ ghost use Rattle.std.specs.Prelude.{◌≡◌, ◌≤◌, length, IfOk, IsTrue, 
 ghost use Rattle.c_tree.specs.Syntax.{PureProgram};
 ghost use Rattle.c_tree.specs.Whole.{program_of};
 ghost use Rattle.smash_main.specs.Plain.{is_plain};
-ghost use Rattle.smash_main.specs.Source.{IsAccepted, refusal_line};
-ghost use Rattle.smash_main.specs.Accepting.{reason_text};
+ghost use Rattle.smash_main.specs.Source.{IsAccepted, refusal_line, source_limit};
+ghost use Rattle.smash_main.specs.steps.Accepting.{reason_text};
 ghost use Rattle.smash_main.specs.Asked.{AsksFor, Answers, IsReported, IsReplayed, HasPlace, failed_text, replay_status, replay_text};
 ghost use Rattle.smash_main.specs.Words.{Command as PureCommand};
-ghost use Rattle.smash_main.specs.WordsView.{command_of};
+ghost use Rattle.smash_main.specs.steps.WordsView.{command_of};
 ghost use Rattle.run_replay.specs.Outcome.{replay_outcome};
 
 use crate::accept::{Reason, Rejection, accept};
@@ -19,7 +19,8 @@ use c_tree::tree::{AssertPlace, Pos, Program};
 use run_replay::{Outcome, Replayed, replay};
 use std::alloc::{AllocError, Global};
 
-/// Steps that suffice for every program that has one procedure and no loop: it has at most as many nodes.
+/// Steps that suffice for every program that has one procedure and no loop: it has at most as many
+/// nodes.
 const CHECK_FUEL: u64 = 8000;
 
 const UNBUILT: &str = "refused: not built yet\n";
@@ -43,7 +44,8 @@ fn refusal(alloc: Global, why: Reason, at: Pos) -> Result<Reply, AllocError>
 /// The report of a program that has one procedure, no input and no loop.
 fn checked(alloc: Global, program: &Program) -> Result<Reply, AllocError>
     requires { IsTrue (is_plain (program_of program.now)) }
-    ensures { IfOk result (λ a. IsReported (program_of program.now) a.status (string_bytes a.text)) }
+    ensures { IfOk result (λ a. IsReported (program_of program.now) a.status
+        (string_bytes a.text)) }
 {
     let replayed = replay(alloc, program, &[], CHECK_FUEL)?;
     let found = verdicts(alloc, replayed.outcome, program.asserts.len())?;
@@ -56,7 +58,8 @@ fn checked(alloc: Global, program: &Program) -> Result<Reply, AllocError>
 
 /// The answer of `check` to a program.
 fn check_program(alloc: Global, program: &Program) -> Result<Reply, AllocError>
-    ensures { IfOk result (λ a. Answers PureCommand.check (program_of program.now) a.status (string_bytes a.text)) }
+    ensures { IfOk result (λ a. Answers PureCommand.check (program_of program.now) a.status
+        (string_bytes a.text)) }
 {
     if is_plain(program) {
         return checked(alloc, program);
@@ -96,7 +99,8 @@ fn replay_text(
     replayed: Replayed,
 ) -> Result<String, AllocError>
     requires { HasPlace (length program.now.asserts.items) (replay_outcome replayed.outcome) }
-    ensures { IfOk result (λ text. string_bytes text ≡ replay_text (program_of program.now) fuel (replay_outcome replayed.outcome) replayed.used) }
+    ensures { IfOk result (λ text. string_bytes text ≡ replay_text (program_of program.now) fuel
+        (replay_outcome replayed.outcome) replayed.used) }
 {
     let used = replayed.used;
     match replayed.outcome {
@@ -115,7 +119,8 @@ fn replay_program(
     fuel: u64,
     list: &[i64],
 ) -> Result<Reply, AllocError>
-    ensures { IfOk result (λ a. IsReplayed (program_of program.now) fuel list.now a.status (string_bytes a.text)) }
+    ensures { IfOk result (λ a. IsReplayed (program_of program.now) fuel list.now a.status
+        (string_bytes a.text)) }
 {
     let replayed = replay(alloc, program, list, fuel)?;
     let text = replay_text(alloc, program, fuel, replayed)?;
@@ -127,7 +132,8 @@ fn replay_program(
 
 /// The answer to a program.
 fn answer(alloc: Global, command: &Command, program: &Program) -> Result<Reply, AllocError>
-    ensures { IfOk result (λ a. Answers (command_of command.now) (program_of program.now) a.status (string_bytes a.text)) }
+    ensures { IfOk result (λ a. Answers (command_of command.now) (program_of program.now) a.status
+        (string_bytes a.text)) }
 {
     match command {
         Command::Check => check_program(alloc, program),
@@ -137,9 +143,11 @@ fn answer(alloc: Global, command: &Command, program: &Program) -> Result<Reply, 
 
 /// The reply to a source, by its bytes.
 pub fn reply_to(alloc: Global, command: &Command, bytes: &[u8]) -> Result<Reply, AllocError>
-    requires { length bytes.now ≤ 65536 }
-    ensures asked { IfOk result (λ a. AsksFor (command_of command.now) bytes.now a.status (string_bytes a.text)) }
-    ensures settled { IfOk result (λ a. (P : PureProgram) → IsAccepted bytes.now P → Answers (command_of command.now) P a.status (string_bytes a.text)) }
+    requires { length bytes.now ≤ source_limit }
+    ensures asked { IfOk result (λ a. AsksFor (command_of command.now) bytes.now a.status
+        (string_bytes a.text)) }
+    ensures settled { IfOk result (λ a. (P : PureProgram) → IsAccepted bytes.now P →
+        Answers (command_of command.now) P a.status (string_bytes a.text)) }
 {
     match accept(alloc, bytes) {
         Ok(program) => answer(alloc, command, &program),

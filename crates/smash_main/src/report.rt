@@ -1,9 +1,9 @@
 //! Verdicts and the text of a report.
 
-ghost use Rattle.std.specs.Prelude.{◌≡◌, ℕ, ◌++◌, ◌+◌, ◌≤◌, ◌<◌, length, IfOk, OnOk, string_bytes, count_by};
+ghost use Rattle.std.specs.Prelude.{◌≡◌, ◌++◌, length, IfOk, OnOk, string_bytes, count_by};
 ghost use Rattle.std.specs.List.{list_any};
 ghost use Rattle.smash_main.specs.Report.{is_proved, is_found, lines_of, report_of, status_of};
-ghost use Rattle.smash_main.specs.Judging.{verdict_at, verdicts_of};
+ghost use Rattle.smash_main.specs.steps.Judging.{verdict_at, verdicts_of};
 
 use c_tree::tree::AssertPlace;
 use run_replay::Outcome;
@@ -69,7 +69,8 @@ fn push_lines(
     verdicts: &[Verdict],
 ) -> Result<(), AllocError>
     requires { length places.now ≡ length verdicts.now }
-    ensures { OnOk result (string_bytes text.new ≡ string_bytes text.old ++ lines_of places.now verdicts.now) }
+    ensures { OnOk result (string_bytes text.new ≡ string_bytes text.old ++ lines_of places.now
+        verdicts.now) }
 {
     for (place, verdict) in places.iter().zip(verdicts) {
         writeln!(text, "{}:{}: {}", place.at.line, place.at.column, verdict)?;

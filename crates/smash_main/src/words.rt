@@ -4,12 +4,15 @@ ghost use Rattle.std.specs.Prelude.{◌≡◌, ℕ, ◌+◌, ◌-◌, ◌*◌, �
 ghost use Rattle.std.specs.List.{list_all};
 ghost use Rattle.std.specs.Bool.{OnTrue, OnFalse};
 ghost use Rattle.smash_main.specs.Words as spec;
-ghost use Rattle.smash_main.specs.Words.{IsCommand, Command as PureCommand, IsNumber, IsValue, IsPiece, ArePieces, IsList, IsFuel, IsReplayRest, AreWords, value_from, max_inputs};
-ghost use Rattle.smash_main.specs.WordsView.{command_of, test_of, IsRun, IsNegative, Encloses, Gives, gives_of, used_of, IsOption, IsFuelWord, IsItem, State, state_of, with_item, IsBare, HasOneCommand};
+ghost use Rattle.smash_main.specs.Words.{IsCommand, Command as PureCommand, IsNumber, IsValue, IsPiece, ArePieces, IsList, IsReplayRest, AreWords, HasOneCommand, value_from, max_inputs};
+ghost use Rattle.smash_main.specs.steps.WordsView.{command_of, test_of, IsRun, IsNegative, Encloses, Gives, gives_of, used_of, IsOption, IsFuelWord, IsItem, state_of, with_item, IsBare};
 
 use std::alloc::{AllocError, Global};
 
+// The limits of `specs/Words`, which the clauses cite.
 const MAX_INPUTS: usize = 10_000;
+
+const MAX_DIGITS: usize = 10;
 
 const MAX_FUEL: u64 = 1_000_000_000;
 
@@ -106,7 +109,9 @@ fn with_digit(high: u64, value: u64, digit: u8) -> Option<u64>
 
 /// The value of a numeral, or none where it is too high.
 fn numeral(text: &[u8], high: u64) -> Option<u64>
-    ensures some { IfSome result (λ n. (spec.is_numeral text.now ≡ true) × (n ≡ value_from 0 text.now) × (n ≤ high)) }
+    ensures some { IfSome result (λ n. (spec.is_numeral text.now ≡ true)
+        × (n ≡ value_from 0 text.now)
+        × (n ≤ high)) }
     ensures none { IfNone result (spec.is_numeral text.now ≡ true → high < value_from 0 text.now) }
 {
     if !is_numeral(text) {
@@ -119,12 +124,12 @@ fn numeral(text: &[u8], high: u64) -> Option<u64>
     Some(value)
 }
 
-/// A number of at most ten digits.
+/// A number of at most `MAX_DIGITS` digits.
 fn number(text: &[u8], low: u64, high: u64) -> Option<u64>
     ensures some { IfSome result (λ n. IsNumber low high text.now n) }
     ensures none { IfNone result ((n : ℕ) → IsNumber low high text.now n → ⊥) }
 {
-    if text.len() > 10 {
+    if text.len() > MAX_DIGITS {
         return None;
     }
     let value = numeral(text, high)?;
@@ -182,10 +187,13 @@ fn piece(text: &[u8]) -> Option<i64>
     }
 }
 
-/// The values of pieces that are parted by commas, or none where one is no value or there are too many.
+/// The values of pieces that are parted by commas, or none where one is no value or there are too
+/// many.
 fn pieces(alloc: Global, text: &[u8]) -> Result<Option<Vec<i64>>, AllocError>
-    ensures some { IfOk result (λ o. IfSome o (λ v. ArePieces text.now v.items × (length v.items ≤ max_inputs))) }
-    ensures none { IfOk result (λ o. IfNone o ((zs : List ℤ) → ArePieces text.now zs → length zs ≤ max_inputs → ⊥)) }
+    ensures some { IfOk result
+        (λ o. IfSome o (λ v. ArePieces text.now v.items × (length v.items ≤ max_inputs))) }
+    ensures none { IfOk result
+        (λ o. IfNone o ((zs : List ℤ) → ArePieces text.now zs → length zs ≤ max_inputs → ⊥)) }
 {
     let mut values = Vec::new(alloc);
     let mut rest = text;
@@ -228,8 +236,10 @@ fn list(alloc: Global, text: &[u8]) -> Result<Option<Vec<i64>>, AllocError>
 
 /// The fuel in the word behind `--fuel`.
 fn fuel_word(words: &[String]) -> Option<Item>
-    ensures some { IfSome result (λ i. IsOption (codes "--fuel" ∷ map string_bytes words.now) (gives_of i)) }
-    ensures none { IfNone result ((n : ℕ) → IsFuelWord (codes "--fuel" ∷ map string_bytes words.now) n → ⊥) }
+    ensures some { IfSome result (λ i. IsOption (codes "--fuel" ∷ map string_bytes words.now)
+        (gives_of i)) }
+    ensures none { IfNone result ((n : ℕ) → IsFuelWord (codes "--fuel" ∷ map string_bytes words.now)
+        n → ⊥) }
 {
     let [word, ..] = words else { return None };
     let fuel = number(word.as_bytes(), 1, MAX_FUEL)?;
@@ -257,8 +267,10 @@ fn option(words: &[String]) -> Option<Item>
 /// The list that words begin with.
 fn list_item(alloc: Global, words: &[String]) -> Result<Option<Item>, AllocError>
     requires { 1 ≤ length words.now }
-    ensures some { IfOk result (λ o. IfSome o (λ i. IsItem true (map string_bytes words.now) (gives_of i))) }
-    ensures none { IfOk result (λ o. IfNone o ((i : Gives) → IsItem true (map string_bytes words.now) i → ⊥)) }
+    ensures some { IfOk result
+        (λ o. IfSome o (λ i. IsItem true (map string_bytes words.now) (gives_of i))) }
+    ensures none { IfOk result
+        (λ o. IfNone o ((i : Gives) → IsItem true (map string_bytes words.now) i → ⊥)) }
 {
     let Some(values) = list(alloc, words[0].as_bytes())? else {
         return Ok(None)
@@ -269,8 +281,10 @@ fn list_item(alloc: Global, words: &[String]) -> Result<Option<Item>, AllocError
 /// What words begin with.
 fn read_item(alloc: Global, dashed: bool, words: &[String]) -> Result<Option<Item>, AllocError>
     requires { 1 ≤ length words.now }
-    ensures some { IfOk result (λ o. IfSome o (λ i. IsItem dashed (map string_bytes words.now) (gives_of i))) }
-    ensures none { IfOk result (λ o. IfNone o ((i : Gives) → IsItem dashed (map string_bytes words.now) i → ⊥)) }
+    ensures some { IfOk result
+        (λ o. IfSome o (λ i. IsItem dashed (map string_bytes words.now) (gives_of i))) }
+    ensures none { IfOk result
+        (λ o. IfNone o ((i : Gives) → IsItem dashed (map string_bytes words.now) i → ⊥)) }
 {
     if dashed {
         return list_item(alloc, words);
@@ -322,8 +336,12 @@ impl Given {
 
 /// What the words behind `replay` give.
 fn read_given(alloc: Global, words: &[String]) -> Result<Option<Given>, AllocError>
-    ensures some { IfOk result (λ o. IfSome o (λ g. IsReplayRest false (map string_bytes words.now) g.fuel (option_map (λ v. v.items) g.list))) }
-    ensures none { IfOk result (λ o. IfNone o ((fuel : Option ℕ) (list : Option (List ℤ)) → IsReplayRest false (map string_bytes words.now) fuel list → ⊥)) }
+    ensures some { IfOk result
+        (λ o. IfSome o (λ g. IsReplayRest false (map string_bytes words.now) g.fuel
+        (option_map (λ v. v.items) g.list))) }
+    ensures none { IfOk result
+        (λ o. IfNone o ((fuel : Option ℕ) (list : Option (List ℤ)) →
+        IsReplayRest false (map string_bytes words.now) fuel list → ⊥)) }
 {
     let mut given = Given {
         dashed: false,
@@ -346,8 +364,13 @@ fn read_given(alloc: Global, words: &[String]) -> Result<Option<Given>, AllocErr
 
 /// The replay that the words behind `replay` ask for.
 fn replay(alloc: Global, words: &[String]) -> Result<Option<Command>, AllocError>
-    ensures some { IfOk result (λ o. IfSome o (λ c. AreWords (codes "replay" ∷ map string_bytes words.now) (command_of c))) }
-    ensures none { IfOk result (λ o. IfNone o ((c : PureCommand) → AreWords (codes "replay" ∷ map string_bytes words.now) c → ⊥)) }
+    ensures some { IfOk result
+        (λ o. IfSome o (λ c. AreWords (codes "replay" ∷ map string_bytes words.now)
+        (command_of c))) }
+    ensures none { IfOk result
+        (λ o. IfNone o ((c : PureCommand) → AreWords (codes "replay" ∷ map string_bytes words.now)
+        c →
+        ⊥)) }
 {
     let Some(given) = read_given(alloc, words)? else {
         return Ok(None)
@@ -377,7 +400,8 @@ fn is_bare(words: &[String]) -> bool
 /// The command that words are, if they are one.
 pub fn command_from(alloc: Global, words: &[String]) -> Result<Option<Command>, AllocError>
     ensures some { IfOk result (λ c. IfSome c (λ given. IsCommand words.now (command_of given))) }
-    ensures none { IfOk result (λ c. IfNone c ((given : PureCommand) → IsCommand words.now given → ⊥)) }
+    ensures none { IfOk result (λ c. IfNone c ((given : PureCommand) → IsCommand words.now given →
+        ⊥)) }
 {
     let [word, rest @ ..] = words else {
         return Ok(None)
@@ -399,102 +423,3 @@ pub fn command_from(alloc: Global, words: &[String]) -> Result<Option<Command>, 
 pub fn one_command()
     ensures { HasOneCommand }
 {}
-
-#[cfg(test)]
-mod tests {
-    use super::*;
-    use std::fmt::Write;
-    use std::test::Fail;
-
-    /// What a line of words asks for, where blanks do not part the words, and `|` does.
-    fn told(alloc: Global, line: &str) -> Result<String, Fail> {
-        let mut words = Vec::new(alloc);
-        for word in line.split('|') {
-            words.push(String::from_str(alloc, word)?)?;
-        }
-        let mut out = String::new(alloc);
-        match command_from(alloc, words.as_slice())? {
-            None => write!(out, "none")?,
-            Some(Command::Check) => write!(out, "check")?,
-            Some(Command::Replay { fuel, list }) => write!(out, "{fuel} {list:?}")?,
-        }
-        Ok(out)
-    }
-
-    #[test]
-    fn commands_of_words(rt: HostRuntime) -> Result<(), Fail> {
-        one_command();
-        let table: [(&str, &str); 44] = [
-            ("", "none"),
-            ("check", "check"),
-            ("check|--", "check"),
-            ("check|--|--", "none"),
-            ("check|[1]", "none"),
-            ("Check", "none"),
-            ("replay", "none"),
-            ("replay|[]", "1000000 []"),
-            ("replay|[ ]", "1000000 []"),
-            ("replay|[1,-2, 3 ]", "1000000 [1, -2, 3]"),
-            (
-                "replay|[-9223372036854775808]",
-                "1000000 [-9223372036854775808]",
-            ),
-            (
-                "replay|[9223372036854775807]",
-                "1000000 [9223372036854775807]",
-            ),
-            ("replay|[-9223372036854775809]", "none"),
-            ("replay|[9223372036854775808]", "none"),
-            ("replay|[-0]", "none"),
-            ("replay|[0]", "1000000 [0]"),
-            ("replay|[01]", "none"),
-            ("replay|[-01]", "none"),
-            ("replay|[1,]", "none"),
-            ("replay|[,]", "none"),
-            ("replay| [1]", "none"),
-            ("replay|[1] ", "none"),
-            ("replay|[1 2]", "none"),
-            ("replay|[- 1]", "none"),
-            ("replay|[\t1]", "none"),
-            ("replay|[+1]", "none"),
-            ("replay|[", "none"),
-            ("replay|--|[1]", "1000000 [1]"),
-            ("replay|[1]|--", "1000000 [1]"),
-            ("replay|--fuel=7|[ ]", "7 []"),
-            ("replay|[1]|--fuel|7", "7 [1]"),
-            ("replay|--fuel|1000000000|--|[1]", "1000000000 [1]"),
-            ("replay|--|--fuel|5|[1]", "none"),
-            ("replay|--|--|[1]", "none"),
-            ("replay|[1]|[1]", "none"),
-            ("replay|[1]|--fuel", "none"),
-            ("replay|--fuel|[1]", "none"),
-            ("replay|--fuel=|[1]", "none"),
-            ("replay|--fuel|5|--fuel=6|[1]", "none"),
-            ("replay|--fuel|01|[1]", "none"),
-            ("replay|--fuel|0|[1]", "none"),
-            ("replay|--fuel|1000000001|[1]", "none"),
-            ("replay|--fuel=+5|[1]", "none"),
-            ("replay|--fuel=00000000005|[1]", "none"),
-        ];
-        for (line, wanted) in table {
-            let got = told(rt.alloc(), line)?;
-            assert_eq!(rt; got.as_str(), wanted, "{line}");
-        }
-        Ok(())
-    }
-
-    #[test]
-    fn lists_of_many_values(rt: HostRuntime) -> Result<(), Fail> {
-        for (count, wanted) in [(10_000, true), (10_001, false)] {
-            let mut text = String::from_str(rt.alloc(), "[1")?;
-            for _ in 1..count {
-                text.push_str(",1")?;
-            }
-            text.push_str("]")?;
-            let words = [String::from_str(rt.alloc(), "replay")?, text];
-            let got = command_from(rt.alloc(), &words)?;
-            assert_eq!(rt; got.is_some(), wanted);
-        }
-        Ok(())
-    }
-}

@@ -15,11 +15,13 @@ have_no_input-loop-e-init t c = refl
 
 pub have_no_input-returns-then-not-has_no_input : goal.have_no_input-returns-then-not-has_no_input
 have_no_input-returns-then-not-has_no_input t c =
-    argument_found c.args.arguments.now c.loop-e.e-index c.e-item.result c.loop-e.invariant c.loop-e-test.true c.e-item.is (sym c.has_no_input.ensures ∙ c.if-not-has_no_input.true)
+    argument_found c.args.arguments.now c.loop-e.e-index c.e-item.result c.loop-e.invariant c.loop-e-test.true c.e-item.is
+    (sym c.has_no_input.ensures ∙ c.if-not-has_no_input.true)
 
 pub have_no_input-loop-e-preserved : goal.have_no_input-loop-e-preserved
 have_no_input-loop-e-preserved t c =
-    argument_passed c.args.arguments.now c.loop-e.e-index c.e-item.result c.loop-e.invariant c.loop-e-test.true c.e-item.is (sym c.has_no_input.ensures ∙ c.if-not-has_no_input.false)
+    argument_passed c.args.arguments.now c.loop-e.e-index c.e-item.result c.loop-e.invariant c.loop-e-test.true c.e-item.is
+    (sym c.has_no_input.ensures ∙ c.if-not-has_no_input.false)
 
 pub have_no_input-returns : goal.have_no_input-returns
 have_no_input-returns t c = arguments_seen c.args.arguments.now c.loop-e.e-index c.loop-e.invariant c.loop-e-test.false

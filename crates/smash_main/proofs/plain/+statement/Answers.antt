@@ -15,11 +15,13 @@ are_plain-loop-s-init t c = refl
 
 pub are_plain-returns-then-not-is_plain_statement : goal.are_plain-returns-then-not-is_plain_statement
 are_plain-returns-then-not-is_plain_statement t c =
-    statement_found c.args.body.now c.loop-s.s-index c.s-item.result c.loop-s.invariant c.loop-s-test.true c.s-item.is (sym c.is_plain_statement.ensures ∙ c.if-not-is_plain_statement.true)
+    statement_found c.args.body.now c.loop-s.s-index c.s-item.result c.loop-s.invariant c.loop-s-test.true c.s-item.is
+    (sym c.is_plain_statement.ensures ∙ c.if-not-is_plain_statement.true)
 
 pub are_plain-loop-s-preserved : goal.are_plain-loop-s-preserved
 are_plain-loop-s-preserved t c =
-    statement_passed c.args.body.now c.loop-s.s-index c.s-item.result c.loop-s.invariant c.loop-s-test.true c.s-item.is (sym c.is_plain_statement.ensures ∙ c.if-not-is_plain_statement.false)
+    statement_passed c.args.body.now c.loop-s.s-index c.s-item.result c.loop-s.invariant c.loop-s-test.true c.s-item.is
+    (sym c.is_plain_statement.ensures ∙ c.if-not-is_plain_statement.false)
 
 pub are_plain-returns : goal.are_plain-returns
 are_plain-returns t c = statements_seen c.args.body.now c.loop-s.s-index c.loop-s.invariant c.loop-s-test.false

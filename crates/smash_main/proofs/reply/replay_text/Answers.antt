@@ -14,5 +14,6 @@ returns-in-Failed c =
     let below = subst (λ o. HasPlace (length asserts) (replay_outcome o)) c.in-Failed.is c.requires in
     let there = slice_get_read asserts (length asserts) c.in-Failed.id c.index.result.now refl below c.index.ensures in
     IfOk-weaker c.failed_text.result _ _
-    (λ text h. h ∙ sym (ap (λ a. failed_text a used) there) ∙ sym (ap (λ o. replay_text P c.args.fuel (replay_outcome o) used) c.in-Failed.is))
+    (λ text h. h ∙ sym (ap (λ a. failed_text a used) there) ∙ sym (ap (λ o. replay_text P c.args.fuel (replay_outcome o) used)
+    c.in-Failed.is))
     c.failed_text.ensures

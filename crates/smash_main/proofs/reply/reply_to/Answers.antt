@@ -1,13 +1,15 @@
 use Rattle.std.proofs.Common.{subst, string_bytes}
 use Rattle.std.proofs.lemmas.Result.{IfOk-weaker}
 use Rattle.smash_main.specs.Asked.{Answers}
-use Rattle.smash_main.specs.WordsView.{command_of}
+use Rattle.smash_main.specs.steps.WordsView.{command_of}
 use Rattle.smash_main.proofs.reply.reply_to.Goals as goal
 
 pub returns-in-Ok-clause-settled : goal.returns-in-Ok-clause-settled
 returns-in-Ok-clause-settled c =
     IfOk-weaker c.answer.result _ _
-    (λ a h P accepted. subst (λ z. Answers (command_of c.args.command.now) z a.status (string_bytes a.text)) (c.in-Ok.ensures.only P accepted) h)
+    (λ a h P accepted. subst (λ z. Answers (command_of c.args.command.now) z a.status (string_bytes a.text))
+    (c.in-Ok.ensures.only P accepted)
+    h)
     c.answer.ensures
 
 pub returns-in-Err-Refused-clause-settled : goal.returns-in-Err-Refused-clause-settled

@@ -5,4 +5,5 @@ use Rattle.smash_main.proofs.report.push_lines.Given as goal
 
 abbrev pub invariant-loop-place : goal.invariant-loop-place
 invariant-loop-place l =
-    string_bytes l.text ++ lines_of (drop (length l.yielded) l.places) (drop (length l.yielded) l.verdicts) ≡ string_bytes l.initial.text ++ lines_of l.places l.verdicts
+    string_bytes l.text ++ lines_of (drop (length l.yielded) l.places) (drop (length l.yielded) l.verdicts) ≡ string_bytes l.initial.text
+    ++ lines_of l.places l.verdicts

@@ -1,5 +1,5 @@
 use Rattle.std.proofs.Common.{length, map, string_bytes}
-use Rattle.smash_main.specs.WordsView.{state_of}
+use Rattle.smash_main.specs.steps.WordsView.{state_of}
 use Rattle.smash_main.proofs.WordsReplay.{Collects}
 use Rattle.smash_main.proofs.words.read_given.Given as goal
 

@@ -1,6 +1,6 @@
 use Rattle.std.proofs.Common.{arith, sym, ◌∙◌}
-use Rattle.smash_main.specs.WordsView.{test_of}
-use Rattle.smash_main.proofs.WordsRuns.{reached_none, reached_more}
+use Rattle.c_lexer.proofs.Lists.{reached_none, reached_more}
+use Rattle.smash_main.specs.steps.WordsView.{test_of}
 use Rattle.smash_main.proofs.words.run_len.Goals as goal
 
 pub loop-len-init : goal.loop-len-init
@@ -10,5 +10,7 @@ pub loop-len-preserved : goal.loop-len-preserved
 loop-len-preserved c =
     record {
       within = omega arith;
-      reached = reached_more (test_of c.args.class) c.args.text.now c.loop-len.len c.loop-len-test.true (sym c.is_in.ensures ∙ c.if-is_in.true) c.loop-len.invariant.reached;
+      reached = reached_more (test_of c.args.class) c.args.text.now c.loop-len.len c.loop-len-test.true
+          (sym c.is_in.ensures ∙ c.if-is_in.true)
+          c.loop-len.invariant.reached;
     }

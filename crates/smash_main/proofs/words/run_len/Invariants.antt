@@ -1,6 +1,6 @@
 use Rattle.std.proofs.Common.{length, ◌-◌, ◌≤◌}
-use Rattle.smash_main.specs.WordsView.{test_of}
-use Rattle.smash_main.proofs.WordsRuns.{Reaches}
+use Rattle.c_lexer.proofs.Lists.{Reaches}
+use Rattle.smash_main.specs.steps.WordsView.{test_of}
 use Rattle.smash_main.proofs.words.run_len.Given as goal
 
 abbrev pub invariant-loop-len : goal.invariant-loop-len

@@ -1,5 +1,6 @@
 -- What contracts see of the words of the command line.
 use Rattle.std.specs.Prelude.{◌≡◌, ℕ, ◌≤◌, ◌==◌, Bool, true, false, not, List, [], ◌∷◌, ◌++◌, length, drop, option_map, Option, Some, None, ℤ, pos, neg_ℤ, codes, ◌⊎◌}
+use Rattle.c_lexer.specs.Lexing.{Each, RunEnds}
 use Rattle.smash_main.specs.declared.words.Command.{Command}
 use Rattle.smash_main.specs.declared.words.Command.TheVariants as declared
 use Rattle.smash_main.specs.declared.words.Class.{Class}
@@ -8,7 +9,7 @@ use Rattle.smash_main.specs.declared.words.Item.{Item}
 use Rattle.smash_main.specs.declared.words.Item.TheVariants as item
 use Rattle.smash_main.specs.declared.words.Given.{Given}
 use Rattle.smash_main.specs.Words as words
-use Rattle.smash_main.specs.Words.{is_numeral, value_from, IsValue, IsPiece, IsFuel, IsList, IsReplayRest, max_inputs}
+use Rattle.smash_main.specs.Words.{is_numeral, value_from, IsFuel, IsList}
 
 abbrev pub command_of : Command → words.Command
 command_of declared.Check = words.check
@@ -21,16 +22,6 @@ test_of class.Space b = b == 32
 test_of class.OfWord b = not (b == 32)
 test_of class.OfPiece b = not (b == 44)
 
--- each byte passes the test
-abbrev pub Each : (ℕ → Bool) → List ℕ → Type 0
-Each test [] = Unit {0}
-Each test (b ∷ bs) = (test b ≡ true) × Each test bs
-
--- the first byte, if there is one, doesn't pass the test
-abbrev pub Ends : (ℕ → Bool) → List ℕ → Type 0
-Ends test [] = Unit {0}
-Ends test (b ∷ bs) = test b ≡ false
-
 -- the first `len` bytes are all those at the beginning that pass the test
 pub record IsRun (test : ℕ → Bool) (bytes : List ℕ) (len : ℕ) : Type 0 where
   pub within : len ≤ length bytes
@@ -38,13 +29,14 @@ pub record IsRun (test : ℕ → Bool) (bytes : List ℕ) (len : ℕ) : Type 0 w
   pub size : length text ≡ len
   pub whole : bytes ≡ text ++ drop len bytes
   pub each : Each test text
-  pub ends : Ends test (drop len bytes)
+  pub ends : RunEnds test (drop len bytes)
 
 -- Values
 
 -- a `-` stands before these digits of the value
 abbrev pub IsNegative : List ℕ → ℤ → Type 0
-IsNegative digits z = (is_numeral digits ≡ true) × ((digits ≡ 48 ∷ []) → ⊥) × (z ≡ neg_ℤ (pos (value_from 0 digits))) × (value_from 0 digits ≤ 9223372036854775808)
+IsNegative digits z = (is_numeral digits ≡ true) × ((digits ≡ 48 ∷ []) → ⊥)
+    × (z ≡ neg_ℤ (pos (value_from 0 digits))) × (value_from 0 digits ≤ 9223372036854775808)
 
 -- `[`, the inner text, and `]`
 abbrev pub Encloses : List ℕ → List ℕ → Type 0
@@ -82,7 +74,8 @@ pub record IsFuelEquals (words : List (List ℕ)) (n : ℕ) : Type 0 where
 -- the words begin with this option
 abbrev pub IsOption : List (List ℕ) → Gives → Type 0
 IsOption words dashes = (rest : List (List ℕ)) × (words ≡ codes "--" ∷ rest)
-IsOption words (fuel n used) = (IsFuelWord words n × (used ≡ 2)) ⊎ (IsFuelEquals words n × (used ≡ 1))
+IsOption words (fuel n used) = (IsFuelWord words n × (used ≡ 2))
+    ⊎ (IsFuelEquals words n × (used ≡ 1))
 IsOption words (list zs) = ⊥
 
 pub record IsListWord (words : List (List ℕ)) (zs : List ℤ) : Type 0 where
@@ -124,7 +117,3 @@ with_item (list zs) s = with_list zs s s.list
 -- no option or `--` alone
 abbrev pub IsBare : List (List ℕ) → Type 0
 IsBare words = (words ≡ []) ⊎ (words ≡ codes "--" ∷ [])
-
--- words are one command
-abbrev pub HasOneCommand : Type 0
-HasOneCommand = (ws : List (List ℕ)) (c d : words.Command) → words.AreWords ws c → words.AreWords ws d → c ≡ d
