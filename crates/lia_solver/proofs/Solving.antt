@@ -11,7 +11,9 @@ use Rattle.infeasible_cert.specs.Right.{rows_of, columns_of, base_rows, IsRight}
 use Rattle.shadow_elim.specs.declared.limit.Limit.TheVariants.{Columns}
 use Rattle.shadow_elim.specs.Plan.{search, solution, limit_met}
 use Rattle.shadow_elim.proofs.PlanValues.{solution_64}
-use Rattle.lia_solver.specs.Answers.{IsAnswer, IfPoint}
+use Rattle.shadow_elim.proofs.SplitLimit.{limit_splits}
+use Rattle.shadow_elim.specs.SplitCubes.{AreAllSplit, IfBranches}
+use Rattle.lia_solver.specs.Answers.{IsAnswer, IfPoint, IfLimited}
 use Rattle.lia_solver.specs.declared.solved.Solved.{Solved}
 use Rattle.lia_solver.specs.declared.solved.Solved.TheVariants.{Point, Never, Limit}
 use Rattle.lia_solver.specs.declared.search.Searched.{Searched}
@@ -57,3 +59,9 @@ pub point-64 : (atoms : List Atom) (s : Solved) → IsAnswer (solution atoms) s 
 point-64 atoms (Point at) h = solution_64 atoms at h
 point-64 atoms (Never certificate) h = tt
 point-64 atoms (Limit limit) h = tt
+
+-- the cubes of a limit of splits
+pub limit-branches : (atoms : List Atom) (s : Solved) → IsAnswer (solution atoms) s → IfLimited s (λ limit. IfBranches limit AreAllSplit)
+limit-branches atoms (Point at) h = tt
+limit-branches atoms (Never certificate) h = tt
+limit-branches atoms (Limit limit) h = limit_splits atoms limit h

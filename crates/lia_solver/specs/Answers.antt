@@ -3,6 +3,7 @@ use Rattle.std.specs.Prelude.{◌≡◌, ℕ, ℤ, List}
 use Rattle.infeasible_cert.specs.declared.certificate.Certificate.{Certificate}
 use Rattle.shadow_elim.specs.Plan.{Search, found, limit_met}
 use Rattle.shadow_elim.specs.Questions.{IsNothing}
+use Rattle.shadow_elim.specs.declared.limit.Limit.{Limit as Limits}
 use Rattle.lia_solver.specs.declared.solved.Solved.{Solved}
 use Rattle.lia_solver.specs.declared.solved.Solved.TheVariants.{Point, Never, Limit}
 
@@ -21,3 +22,8 @@ abbrev pub IfNever : Solved → (Certificate → Type 0) → Type 0
 IfNever (Point at) P = Unit {0}
 IfNever (Never certificate) P = P certificate
 IfNever (Limit limit) P = Unit {0}
+
+abbrev pub IfLimited : Solved → (Limits → Type 0) → Type 0
+IfLimited (Point at) P = Unit {0}
+IfLimited (Never certificate) P = Unit {0}
+IfLimited (Limit limit) P = P limit

@@ -7,7 +7,8 @@ ghost use Rattle.infeasible_cert.specs.Refutation.{refutation_of};
 ghost use Rattle.infeasible_cert.specs.Right.{Refutes};
 ghost use Rattle.infeasible_cert.specs.Terms.{HasTerms};
 ghost use Rattle.shadow_elim.specs.Plan.{solution};
-ghost use Rattle.lia_solver.specs.Answers.{IsAnswer, IfPoint, IfNever};
+ghost use Rattle.shadow_elim.specs.SplitCubes.{AreAllSplit, IfBranches};
+ghost use Rattle.lia_solver.specs.Answers.{IsAnswer, IfPoint, IfNever, IfLimited};
 
 use crate::columns::columns_of;
 use crate::search::{Search, Searched};
@@ -20,6 +21,7 @@ use std::alloc::Global;
 /// A point of the cube, a certificate that it has none, or the limit that was met.
 pub fn solve(alloc: Global, cube: &Cube) -> Result<Solved, OutOfMemory>
     ensures plan { IfOk result (λ s. IsAnswer (solution cube.now.atoms) s) }
+    ensures branches { IfOk result (λ s. IfLimited s (λ limit. IfBranches limit AreAllSplit)) }
     ensures point { IfOk result (λ s. IfPoint s (λ at. HoldsAll (valuation at) cube.now.atoms)) }
     ensures never { IfOk result (λ s. IfNever s (λ c. Refutes cube.now.atoms (refutation_of c))) }
     ensures values { IfOk result (λ s. IfPoint s (λ at. Is64 (valuation at))) }

@@ -1,3 +1,4 @@
+pub mod Tests
 pub mod Tightening
 pub mod PairSums
 pub mod MadeRight
@@ -25,3 +26,4 @@ pub mod Bests
 pub mod PlanValues
 pub mod Summing
 pub mod Projecting
+pub mod SplitLimit

@@ -10,6 +10,7 @@ pub mod RightLimit
 pub mod LimitKinds
 pub mod Questions
 pub mod Entailment
+pub mod SplitCubes
 pub mod Sums
 pub mod Projection
 pub mod ProjectionLaws

@@ -7,7 +7,7 @@ use Rattle.shadow_elim.specs.Plan.{search}
 use Rattle.lia_solver.specs.declared.search.Searched.{Searched}
 use Rattle.lia_solver.specs.steps.Branches.{IsSearched}
 use Rattle.lia_solver.specs.steps.Further.{AreSearchedTerms}
-use Rattle.lia_solver.proofs.Solving.{too-many-columns, few-columns, searched-whole, refutes-whole, point-64}
+use Rattle.lia_solver.proofs.Solving.{too-many-columns, few-columns, searched-whole, refutes-whole, point-64, limit-branches}
 use Rattle.lia_solver.proofs.solve.solve.Goals as goal
 
 pub returns-then-len-gt-MAX_COLUMNS-clause-plan : goal.returns-then-len-gt-MAX_COLUMNS-clause-plan
@@ -73,3 +73,6 @@ returns-in-Answer-clause-values c =
 
 pub returns-clause-terms : goal.returns-clause-terms
 returns-clause-terms c = subst AreSearchedTerms c.in-Nothing.is c.in_ok-solved.ensures.terms
+
+pub returns-in-Answer-clause-branches : goal.returns-in-Answer-clause-branches
+returns-in-Answer-clause-branches c = limit-branches c.args.cube.now.atoms c.in-Answer.solved (returns-in-Answer-clause-plan c)
