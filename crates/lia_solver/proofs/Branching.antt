@@ -8,6 +8,8 @@ use Rattle.shadow_elim.specs.declared.row.Row.{Row}
 use Rattle.shadow_elim.specs.Stages.{terms_of, AreNumbered}
 use Rattle.lia_solver.specs.steps.Branches.{branch_rows}
 use Rattle.lia_solver.specs.steps.Numbers.{numbered_from}
+use Rattle.shadow_elim.proofs.InPlace.{row-behind}
+use Rattle.infeasible_cert.proofs.Ranges.{length-ranges}
 
 -- Terms
 
@@ -26,10 +28,6 @@ pub rows-append : (as_ bs : List Atom) → rows_of (as_ ++ bs) ≡ rows_of as_ +
 rows-append as_ bs = map-append (λ (a : Atom). a.term) as_ bs
 
 -- Numbers
-
-row-behind : (before : List LinearSum) (t : LinearSum) (ts : List LinearSum) → row_at (before ++ t ∷ ts) (length before) ≡ t
-row-behind [] t ts = refl
-row-behind (b ∷ bs) t ts = row-behind bs t ts
 
 numbered-at : (before ts after : List LinearSum) (n : ℕ) → n ≡ length before → AreNumbered (before ++ (ts ++ after)) (numbered_from n ts)
 numbered-at before [] after n e = tt
@@ -73,10 +71,6 @@ pushed-terms question splits columns rows h =
     ap terms_of h.rows_are ∙ apart ∙ ap (λ (ts : List LinearSum). ts ++ (terms_of ns ++ terms_of nr)) (terms-numbered 0 q)
     ∙ ap (λ (ts : List LinearSum). q ++ (ts ++ terms_of nr)) (terms-numbered _ s) ∙ ap (λ (ts : List LinearSum). q ++ (s ++ ts))
     (terms-numbered _ r) ∙ sym (append_assoc q s r) ∙ ap (λ (ts : List LinearSum). ts ++ r) (sym (rows-append question splits))
-
-length-ranges : (xs : List ℕ) → length (range_rows xs) ≡ 2 * length xs
-length-ranges [] = refl
-length-ranges (x ∷ xs) = omega (arith, length-ranges xs)
 
 -- the ranges come before the splits there
 pub pushed-numbers : (question splits : List Atom) (columns : List ℕ) (rows : List Row) → ArePushed question splits columns rows →

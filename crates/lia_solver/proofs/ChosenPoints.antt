@@ -1,5 +1,5 @@
 -- Where values are chosen for all columns, all rows hold.
-use Rattle.std.proofs.Common.{◌≡◌, ◌⊎◌, inl, inr, ℕ, suc, zero, ◌<◌, ◌≤◌, ◌+◌, ◌==◌, nat_le, Bool, true, false, ◌&&◌, ◌||◌, List, [], ◌∷◌, map, ℤ, pos, negsuc, ◌+ℤ◌, ◌-ℤ◌, ◌*ℤ◌, neg_ℤ, arith, refl, sym, ap, subst, ◌∙◌}
+use Rattle.std.proofs.Common.{◌≡◌, ◌⊎◌, inl, inr, ℕ, ◌<◌, ◌≤◌, ◌+◌, ◌==◌, nat_le, Bool, true, false, ◌&&◌, ◌||◌, List, [], ◌∷◌, map, ℤ, pos, ◌+ℤ◌, ◌-ℤ◌, ◌*ℤ◌, neg_ℤ, arith, refl, sym, ap, subst, ◌∙◌}
 use Rattle.std.specs.Prelude.{IsTrue, ◌≤ℤ◌, int_le, int_lt, filter, if◌then◌else◌}
 use Rattle.std.specs.List.{list_any}
 use Rattle.std.proofs.lemmas.Int.{ints}
@@ -7,7 +7,7 @@ use borrow.Author.Tests.{eqb-true, ne_eqb, eq-eqb}
 use Rattle.linear_formula.specs.LinearSum.{LinearSum, Valuation, value_of, value_of_parts, valuation, listed_at, coefficient, is_zero, is_ascending_from}
 use Rattle.linear_formula.specs.steps.Order.{InOrder}
 use Rattle.linear_formula.specs.Results.{valuation_with}
-use Rattle.linear_formula.proofs.Ring.{mul-add, mul-comm, mul-zero, zero-mul}
+use Rattle.linear_formula.proofs.Ring.{mul-add, mul-zero, zero-mul}
 use Rattle.linear_formula.proofs.Limits.{both, both_in, le_so, so_le}
 use Rattle.infeasible_cert.proofs.Ascending.{Ascends}
 use Rattle.infeasible_cert.proofs.Meeting.{AllMet}
@@ -17,13 +17,17 @@ use Rattle.shadow_elim.specs.Elimination.{is_upper, is_lower, size_of, Remainder
 use Rattle.shadow_elim.specs.Points.{Outcome, chosen, refuted, split, too_wide, too_many_rows, least_value, greatest_value, rest_of, upper_bound, lower_bound, lower_floor, nearest, with_value, outcome_after, outcome}
 use Rattle.shadow_elim.specs.Reduction.{is_contradiction, has_no_parts}
 use Rattle.lia_solver.specs.steps.Choices.{columns_of_values}
-use Rattle.shadow_elim.proofs.Tightening.{mul-neg, floor-bounds, ceiling-bounds}
+use Rattle.shadow_elim.proofs.Tightening.{floor-bounds, ceiling-bounds}
 use Rattle.shadow_elim.proofs.PairSums.{upper-is, lower-is, free-is, rest_at, value-with_column, value-split}
 use Rattle.shadow_elim.proofs.Members.{Among, among-filter, among-map}
 use Rattle.shadow_elim.proofs.Staying.{same_parts-decides, met-from, covered-met}
 use Rattle.shadow_elim.proofs.Keeping.{IsAfter, after-is}
 use Rattle.shadow_elim.proofs.Naming.{AllTerms, term-order, after-terms, IsAbsent, after-absent, after-eliminated}
 use Rattle.shadow_elim.proofs.Bests.{greatest-above, least-below, nearest-within}
+use Rattle.shadow_elim.proofs.Tests.{le_from}
+use Rattle.shadow_elim.proofs.PlanValues.{chosen_same}
+use Rattle.shadow_elim.proofs.Exact.{neg-mul}
+use Rattle.shadow_elim.proofs.Exact.{sign-cases}
 
 -- Ascending columns
 
@@ -122,10 +126,7 @@ possible-met v rows h n c = met-from v rows (λ t k. holds t (nameless 0 t.parts
 
 -- One column
 
-neg-mul : (a b : ℤ) → neg_ℤ a *ℤ b ≡ neg_ℤ (a *ℤ b)
-neg-mul a b = mul-comm (neg_ℤ a) b ∙ mul-neg b a ∙ ap neg_ℤ (mul-comm b a)
-
-apart-back : (a b : ℤ) → (a -ℤ b) +ℤ b ≡ a
+pub apart-back : (a b : ℤ) → (a -ℤ b) +ℤ b ≡ a
 apart-back a b = omega (arith, ints)
 
 pub mul-grows : (d : ℕ) (a b : ℤ) → a ≤ℤ b → (pos d *ℤ a) ≤ℤ (pos d *ℤ b)
@@ -137,11 +138,6 @@ mul-grows d a b h =
       mul-add (pos d) (a -ℤ b) b,
       ap (λ z. pos d *ℤ z) (apart-back a b),
     )
-
-sign-cases : (c : ℤ) → (int_lt (pos 0) c ≡ true) ⊎ ((int_lt c (pos 0) ≡ true) ⊎ (is_zero c ≡ true))
-sign-cases (pos zero) = inr (inr refl)
-sign-cases (pos (suc n)) = inl (grind (arith, ints))
-sign-cases (negsuc n) = inr (inl refl)
 
 upper-holds : (a : ℕ) (c z r f : ℤ) → c ≡ pos a → (pos a *ℤ f) ≤ℤ neg_ℤ r → z ≤ℤ f → ((c *ℤ z) +ℤ r) ≤ℤ pos 0
 upper-holds a c z r f e h k = omega (arith, ints, ap (λ y. y *ℤ z) e, h, mul-grows a z f k)
@@ -220,19 +216,13 @@ pub record IsChosen (xs : List ℕ) (rows : List LinearSum) (values : List (ℕ 
   pub columns : columns_of_values values ≡ xs
   pub met : AllMet (valuation values) rows
 
-chosen-same : (values others : List (ℕ × ℤ)) → chosen values ≡ chosen others → values ≡ others
-chosen-same values others h = cc
-
-le-from : (a b : ℤ) → int_le a b ≡ true → a ≤ℤ b
-le-from a b h = grind (arith, ints)
-
 pub outcome-chosen : (columns : List ℕ) (rows : List LinearSum) (values : List (ℕ × ℤ)) → Ascends 0 columns → AllTerms rows →
     NamesOnly columns rows → outcome columns rows ≡ chosen values → IsChosen columns rows values
 outcome-chosen [] rows values s k n h = by_test (list_any is_contradiction rows) refl h where
   by_test : (b : Bool) → list_any is_contradiction rows ≡ b → (if b then refuted else chosen []) ≡ chosen values → IsChosen [] rows values
   by_test true e d = absurd (cc)
   by_test false e d =
-      subst (IsChosen [] rows) (chosen-same [] values d) (record {
+      subst (IsChosen [] rows) (chosen_same [] values d) (record {
         columns = refl;
         met = possible-met (valuation []) rows k n e;
       })
@@ -254,9 +244,9 @@ outcome-chosen (x ∷ xs) rows values s k n h =
                 ≡ chosen values → IsChosen (x ∷ xs) rows values
             by_order true f d =
                 let z = nearest (lower_bound x old rows) (upper_bound x old rows) in
-                let w = nearest-within (lower_bound x old rows) (upper_bound x old rows) (le-from _ _ f) in
+                let w = nearest-within (lower_bound x old rows) (upper_bound x old rows) (le_from _ _ f) in
                 let none = listed-below x (x + 1) old (omega arith) (subst (Ascends (x + 1)) (sym rest.columns) s.1) in
-                subst (IsChosen (x ∷ xs) rows) (chosen-same ((x, z) ∷ old) values d) (record {
+                subst (IsChosen (x ∷ xs) rows) (chosen_same ((x, z) ∷ old) values d) (record {
                   columns = ap (λ ys. x ∷ ys) rest.columns;
                   met = with-value_met x rows next old z a k none rest.met w.0 w.1;
                 })

@@ -12,6 +12,7 @@ use Rattle.infeasible_cert.specs.declared.certificate.Derived.{Derived}
 use Rattle.infeasible_cert.specs.Right.{row_at, rows_after, Is128, FitsAlong, IsRightStep, AreRightSteps, EndsInContradiction}
 use Rattle.shadow_elim.specs.Reduction.{has_no_parts, is_contradiction}
 use Rattle.shadow_elim.proofs.Staying.{same_parts-decides}
+use Rattle.shadow_elim.proofs.Tests.{both_true, lt_no, lt_yes}
 
 -- The search
 
@@ -43,23 +44,13 @@ no-parts : (ps : List (ℕ × ℤ)) → length ps ≡ 0 → ps ≡ []
 no-parts [] h = refl
 no-parts (p ∷ ps) h = absurd (omega (arith, h))
 
-lt_test : (a b : ℤ) → a <ℤ b → int_lt a b ≡ true
-lt_test a b h = grind (arith, ints)
-
-lt_fails : (a b : ℤ) → b ≤ℤ a → int_lt a b ≡ false
-lt_fails a b h = grind (arith, ints)
-
-both_true : (a b : Bool) → a ≡ true → b ≡ true → (a && b) ≡ true
-both_true true b h k = k
-both_true false b h k = h
-
 pub is-contradiction : (t : LinearSum) → length t.parts ≡ 0 → pos 0 <ℤ t.constant → is_contradiction t ≡ true
 is-contradiction t h k =
     both_true (has_no_parts t) (int_lt (pos 0) t.constant) ((same_parts-decides t.parts []).1 (no-parts t.parts h))
-    (lt_test (pos 0) t.constant k)
+    (lt_yes (pos 0) t.constant k)
 
 pub not-by_constant : (t : LinearSum) → t.constant ≤ℤ pos 0 → is_contradiction t ≡ false
-not-by_constant t h = fails (has_no_parts t) (int_lt (pos 0) t.constant) (lt_fails (pos 0) t.constant h) where
+not-by_constant t h = fails (has_no_parts t) (int_lt (pos 0) t.constant) (lt_no (pos 0) t.constant h) where
   fails : (a b : Bool) → b ≡ false → (a && b) ≡ false
   fails true b k = k
   fails false b k = refl

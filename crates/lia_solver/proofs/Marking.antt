@@ -55,7 +55,7 @@ needed-more first marks k p ds d now h e is f =
 
 -- What the walk has marked
 
-not-below : (n first : ℕ) → nat_lt n first ≡ false → first ≤ n
+pub not-below : (n first : ℕ) → nat_lt n first ≡ false → first ≤ n
 not-below n first h = grind (arith)
 
 same-or-other : (i n : ℕ) → (i ≡ n) ⊎ (i ≡ n → ⊥)

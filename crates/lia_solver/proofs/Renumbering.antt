@@ -14,6 +14,7 @@ use Rattle.shadow_elim.specs.Reduction.{is_contradiction}
 use Rattle.shadow_elim.proofs.MadeRight.{step-grows, rows_after-append, length-rows_after}
 use Rattle.lia_solver.specs.steps.Pruned.{NameEarlier, new_number, renumbered_parts, renumbered, kept_step, IsMarked, AreClosed, IsLastMark, EndWith, IsStepAt, IsFoundAt, IsKept, ArePruned}
 use Rattle.lia_solver.proofs.Closing.{contradiction-is, right-more, ends-last}
+use Rattle.lia_solver.proofs.Marking.{not-below}
 
 -- a result's value has what two facts give together
 pub both-hold : {T E : Type 0} (r : Result T E) (P Q R : T → Type 0) → ((x : T) → P x → Q x → R x) → IfOk r P → IfOk r Q → IfOk r R
@@ -116,9 +117,6 @@ step-renumbered first numbers olds news d found s =
     (sym sums.1) (sum-of_step olds d s))
 
 -- The new numbers
-
-not-below : (n first : ℕ) → nat_lt n first ≡ false → first ≤ n
-not-below n first h = grind (arith)
 
 below : (n first : ℕ) → nat_lt n first ≡ true → n < first
 below n first h = grind (arith)

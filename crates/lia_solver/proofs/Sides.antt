@@ -1,6 +1,6 @@
 -- What a branch's outcome makes of its search.
-use Rattle.std.proofs.Common.{◌≡◌, ℕ, suc, zero, ◌<◌, ◌≤◌, ◌+◌, max, true, false, List, [], ◌∷◌, ◌++◌, length, take, drop, ℤ, pos, ◌+ℤ◌, ◌<ℤ◌, append_assoc, arith, refl, sym, ap, subst, ◌∙◌}
-use Rattle.std.specs.Prelude.{Contains, nat_le, if◌then◌else◌}
+use Rattle.std.proofs.Common.{◌≡◌, ℕ, suc, zero, ◌<◌, ◌≤◌, ◌+◌, max, List, [], ◌∷◌, ◌++◌, length, take, drop, ℤ, pos, ◌+ℤ◌, ◌<ℤ◌, append_assoc, arith, refl, sym, ap, subst, ◌∙◌}
+use Rattle.std.specs.Prelude.{Contains, if◌then◌else◌}
 use Rattle.std.proofs.lemmas.List.{map-append, take-append-le, drop-append-le, length-append}
 use Rattle.linear_formula.specs.LinearSum.{LinearSum, valuation, Valuation}
 use Rattle.linear_formula.specs.Formula.{HoldsAll}
@@ -23,6 +23,7 @@ use Rattle.lia_solver.specs.steps.Further.{IsAnswered}
 use Rattle.lia_solver.specs.steps.Searches.{IsSearchable}
 use Rattle.lia_solver.proofs.NamedColumns.{columns-kept}
 use Rattle.shadow_elim.proofs.Members.{Among, contains-among}
+use Rattle.shadow_elim.proofs.Tests.{at_most_no, at_most_yes}
 
 -- Without a split
 
@@ -58,24 +59,18 @@ pub search-too_deep : (splits : List Cube) (atoms : List Atom) (x : ℕ) (k : �
     ≡ limit_met (Branches splits)
 search-too_deep splits atoms x k e = ap (settled splits atoms _) e
 
-le_test : (a b : ℕ) → a ≤ b → nat_le a b ≡ true
-le_test a b h = grind arith
-
-le_fails : (a b : ℕ) → b < a → nat_le a b ≡ false
-le_fails a b h = grind arith
-
 pub search-too_many : (depth : ℕ) (splits : List Cube) (atoms : List Atom) (x : ℕ) (k : ℤ) → outcome_of atoms ≡ split x k →
     512 ≤ length splits → search depth splits atoms ≡ limit_met (Branches splits)
 search-too_many zero splits atoms x k e h = ap (settled splits atoms _) e
 search-too_many (suc depth) splits atoms x k e h =
     ap (settled splits atoms _) e ∙ ap (λ b. if b then limit_met (Branches splits) else on_sides depth splits atoms x k)
-    (le_test 512 (length splits) h)
+    (at_most_yes 512 (length splits) h)
 
 pub search-sides : (depth below : ℕ) (splits : List Cube) (atoms : List Atom) (x : ℕ) (k : ℤ) → depth ≡ suc below → outcome_of atoms
     ≡ split x k → length splits < 512 → search depth splits atoms ≡ on_sides below splits atoms x k
 search-sides depth below splits atoms x k d e h =
     ap (λ n. search n splits atoms) d ∙ ap (settled splits atoms _) e ∙ ap (λ b. if b then limit_met (Branches splits) else on_sides below
-    splits atoms x k) (le_fails 512 (length splits) h)
+    splits atoms x k) (at_most_no 512 (length splits) h)
 
 -- The points of a question
 

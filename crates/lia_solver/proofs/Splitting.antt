@@ -20,11 +20,9 @@ use Rattle.shadow_elim.proofs.Naming.{AllTerms, term-order}
 use Rattle.shadow_elim.proofs.Exact.{bounds-apart}
 use Rattle.shadow_elim.proofs.Bests.{greatest-limit, greatest-reached, least-limit}
 use Rattle.lia_solver.proofs.ChosenPoints.{mul-grows, rest-is}
+use Rattle.lia_solver.proofs.ChosenPoints.{apart-back}
 
 -- Numbers
-
-apart-back : (a b : ℤ) → (a -ℤ b) +ℤ b ≡ a
-apart-back a b = omega (arith, ints)
 
 -- a number of which a multiple is below that of the next one is at most the other
 below-next : (d : ℕ) (a b : ℤ) → 0 < d → (pos d *ℤ a) <ℤ ((pos d *ℤ b) +ℤ pos d) → a ≤ℤ b

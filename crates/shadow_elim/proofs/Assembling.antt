@@ -1,8 +1,7 @@
 -- What is left after a column, from what its pairs gave.
 use Rattle.std.proofs.Common.{◌≡◌, ℕ, ◌+◌, ◌≤◌, ◌<◌, Bool, true, false, ◌&&◌, List, [], ◌∷◌, ◌++◌, length, map, Result, Err, arith, refl, sym, ap, subst, ◌∙◌}
-use Rattle.std.specs.Prelude.{IsTrue, All, Contains, filter, flat_map, nat_le, if◌then◌else◌}
+use Rattle.std.specs.Prelude.{IsTrue, All, Contains, filter, flat_map, if◌then◌else◌}
 use Rattle.std.specs.List.{list_all}
-use Rattle.std.proofs.lemmas.Bool.Decides.{nat_tests}
 use Rattle.std.proofs.lemmas.List.{map-append}
 use Rattle.std.proofs.lemmas.List.Elements.{All-nil, All-cons, All-head, All-tail, All-weaker, All-contains, filter_passes}
 use Rattle.std.proofs.lemmas.List.Folds.{list_all-append}
@@ -23,6 +22,7 @@ use Rattle.shadow_elim.specs.steps.Making.{candidate_terms, uppers, lowers, free
 use Rattle.shadow_elim.specs.Stages.{terms_of, AreNumbered}
 use Rattle.shadow_elim.proofs.Reductions.{IsGathered, gathered-more, same-reduced}
 use Rattle.shadow_elim.proofs.MadeRight.{kept-right_after, rows_after-append, length-rows_after}
+use Rattle.shadow_elim.proofs.Tests.{at_most_no, at_most_yes, both_true, first_true, second_true}
 
 -- The terms of the rows and of the candidates
 
@@ -83,18 +83,6 @@ terms-numbered next (c ∷ cs) =
 
 abbrev pub AreWithin : ℕ → List Row → List Row → Type 0
 AreWithin x us ls = All (λ u. All (λ l. IsTrue (is_within (pair_sum x (u.term, l.term)))) ls) us
-
-both_true : (a b : Bool) → a ≡ true → b ≡ true → (a && b) ≡ true
-both_true true b h k = k
-both_true false b h k = h
-
-first_true : (a b : Bool) → (a && b) ≡ true → a ≡ true
-first_true true b h = refl
-first_true false b h = h
-
-second_true : (a b : Bool) → (a && b) ≡ true → b ≡ true
-second_true true b h = h
-second_true false b h = absurd (cc)
 
 within-with : (x : ℕ) (u : Row) (ls : List Row) → All (λ l. IsTrue (is_within (pair_sum x (u.term, l.term)))) ls →
     list_all is_within (map (pair_sum x) (map (λ l. (u.term, l)) (terms_of ls))) ≡ true
@@ -173,12 +161,6 @@ kept-is x rows us ls fs none first second kept hu hl hf hn g k e among = record 
 
 -- What the column leaves
 
-at_most : (n m : ℕ) → n ≤ m → nat_le n m ≡ true
-at_most n m h = grind (arith, nat_tests)
-
-above_most : (n m : ℕ) → m < n → nat_le n m ≡ false
-above_most n m h = grind (arith, nat_tests)
-
 after-counted : (x : ℕ) (rows us ls : List Row) (kept : List Candidate) → us ≡ uppers x rows → ls ≡ lowers x rows → AreWithin x us ls →
     IsKept x rows kept → after_column x (terms_of rows) ≡ counted (candidate_terms kept)
 after-counted x rows us ls kept hu hl w k =
@@ -194,13 +176,13 @@ pub after-remains : (x : ℕ) (rows us ls : List Row) (kept : List Candidate) �
     IsKept x rows kept → length kept ≤ 4096 → after_column x (terms_of rows) ≡ remains (candidate_terms kept)
 after-remains x rows us ls kept hu hl w k h =
     after-counted x rows us ls kept hu hl w k ∙ ap (λ (b : Bool). if b then remains (candidate_terms kept) else too_many)
-    (at_most (length (candidate_terms kept)) 4096 (omega (arith, length-terms kept)))
+    (at_most_yes (length (candidate_terms kept)) 4096 (omega (arith, length-terms kept)))
 
 pub after-too_many : (x : ℕ) (rows us ls : List Row) (kept : List Candidate) → us ≡ uppers x rows → ls ≡ lowers x rows → AreWithin x us ls →
     IsKept x rows kept → 4096 < length kept → after_column x (terms_of rows) ≡ too_many
 after-too_many x rows us ls kept hu hl w k h =
     after-counted x rows us ls kept hu hl w k ∙ ap (λ (b : Bool). if b then remains (candidate_terms kept) else too_many)
-    (above_most (length (candidate_terms kept)) 4096 (omega (arith, length-terms kept)))
+    (at_most_no (length (candidate_terms kept)) 4096 (omega (arith, length-terms kept)))
 
 pub after-wide : (x : ℕ) (rows us ls : List Row) → us ≡ uppers x rows → ls ≡ lowers x rows → (AreWithin x us ls → ⊥) →
     after_column x (terms_of rows) ≡ wide

@@ -83,7 +83,7 @@ AllWithin-divided : (d : ℕ) (ps : List (ℕ × ℤ)) → AllWithin ps → AllW
 AllWithin-divided d [] h = tt
 AllWithin-divided d (p ∷ ps) h = (omega (arith, h.0, floor-small p.1 d), AllWithin-divided d ps h.1)
 
-length-divided : (d : ℕ) (ps : List (ℕ × ℤ)) → length (divided_parts d ps) ≡ length ps
+pub length-divided : (d : ℕ) (ps : List (ℕ × ℤ)) → length (divided_parts d ps) ≡ length ps
 length-divided d [] = refl
 length-divided d (p ∷ ps) = ap suc (length-divided d ps)
 

@@ -139,10 +139,10 @@ range-listed y atoms columns h =
 
 -- One column
 
-neg-mul : (a b : ℤ) → neg_ℤ a *ℤ b ≡ neg_ℤ (a *ℤ b)
+pub neg-mul : (a b : ℤ) → neg_ℤ a *ℤ b ≡ neg_ℤ (a *ℤ b)
 neg-mul a b = mul-comm (neg_ℤ a) b ∙ mul-neg b a ∙ ap neg_ℤ (mul-comm b a)
 
-sign-cases : (c : ℤ) → (int_lt (pos 0) c ≡ true) ⊎ ((int_lt c (pos 0) ≡ true) ⊎ (is_zero c ≡ true))
+pub sign-cases : (c : ℤ) → (int_lt (pos 0) c ≡ true) ⊎ ((int_lt c (pos 0) ≡ true) ⊎ (is_zero c ≡ true))
 sign-cases (pos zero) = inr (inr refl)
 sign-cases (pos (suc n)) = inl (lt-ltb 0 (suc n) (omega arith))
 sign-cases (negsuc n) = inr (inl refl)

@@ -49,7 +49,7 @@ listed-pushed columns atoms listed r0 r1 r2 none same h k =
     k ∙ ap (λ (ts : List LinearSum). ts ++ range_rows columns) (h ∙ ap (λ (rs : List Row). terms_of rs ++ rows_of atoms) none
     ∙ ap rows_of same)
 
-row-behind : (before : List LinearSum) (t : LinearSum) (ts : List LinearSum) → row_at (before ++ t ∷ ts) (length before) ≡ t
+pub row-behind : (before : List LinearSum) (t : LinearSum) (ts : List LinearSum) → row_at (before ++ t ∷ ts) (length before) ≡ t
 row-behind [] t ts = refl
 row-behind (b ∷ bs) t ts = row-behind bs t ts
 

@@ -16,15 +16,13 @@ use Rattle.shadow_elim.specs.Points.{Outcome, chosen, refuted, split, too_wide, 
 use Rattle.shadow_elim.specs.Reduction.{is_contradiction}
 use Rattle.shadow_elim.proofs.Bests.{greatest-start, least-start, nearest-within}
 use Rattle.shadow_elim.proofs.Exact.{is64-from_bounds}
+use Rattle.shadow_elim.proofs.Tests.{le_from}
 
-chosen_same : (values others : List (ℕ × ℤ)) → chosen values ≡ chosen others → values ≡ others
+pub chosen_same : (values others : List (ℕ × ℤ)) → chosen values ≡ chosen others → values ≡ others
 chosen_same values others h = cc
 
 found_same : (values others : List (ℕ × ℤ)) → found values ≡ found others → values ≡ others
 found_same values others h = cc
-
-ordered : (a b : ℤ) → int_le a b ≡ true → a ≤ℤ b
-ordered a b h = grind (arith, ints)
 
 nearest_64 : (x : ℕ) (values : List (ℕ × ℤ)) (rows : List LinearSum) → int_le (lower_bound x values rows) (upper_bound x values rows)
     ≡ true →
@@ -32,7 +30,7 @@ nearest_64 : (x : ℕ) (values : List (ℕ × ℤ)) (rows : List LinearSum) → 
 nearest_64 x values rows h =
     let low = lower_bound x values rows in
     let high = upper_bound x values rows in
-    let within = nearest-within low high (ordered low high h) in
+    let within = nearest-within low high (le_from low high h) in
     let least : least_value ≤ℤ low = greatest-start least_value (map (λ t. ceiling_quotient (rest_of values t) (size_of x t))
     (filter (is_lower x) rows)) in
     let greatest : high ≤ℤ greatest_value = least-start greatest_value (map (λ t. floor_quotient (neg_ℤ (rest_of values t)) (size_of x t))

@@ -8,6 +8,7 @@ use Rattle.linear_formula.specs.LinearSum.{coefficient, is_zero, is_term}
 use Rattle.shadow_elim.specs.declared.row.Row.{Row}
 use Rattle.shadow_elim.specs.Elimination.{is_upper, is_lower, is_free}
 use Rattle.shadow_elim.specs.steps.Making.{uppers, lowers, frees, AreTerms}
+use Rattle.shadow_elim.proofs.Tests.{lt_from, lt_no, lt_yes}
 
 -- One more element
 
@@ -28,26 +29,17 @@ terms-push (q ∷ rows) r h k = (h.0, terms-push rows r h.1 k)
 
 -- Signs
 
-above : (y z : ℤ) → y <ℤ z → int_lt y z ≡ true
-above y z h = grind (arith, ints)
-
-not_above : (y z : ℤ) → z ≤ℤ y → int_lt y z ≡ false
-not_above y z h = grind (arith, ints)
-
 -- the tests of the code
-below_from : (y z : ℤ) → int_lt y z ≡ true → y <ℤ z
-below_from y z e = grind (arith, ints)
-
 not_below_from : (y z : ℤ) → int_lt y z ≡ false → z ≤ℤ y
 not_below_from y z e = grind (arith, ints)
 
 pub positive_from : (z : ℤ) → FitsSigned w128 z → int_lt (pos 0) (to_z w128 (of_z w128 z)) ≡ true → pos 0 <ℤ z
 positive_from z f e =
-    below_from (pos 0) z (ap (λ (y : ℤ). int_lt (pos 0) y) (sym (to_z-of_z f)) ∙ e)
+    lt_from (pos 0) z (ap (λ (y : ℤ). int_lt (pos 0) y) (sym (to_z-of_z f)) ∙ e)
 
 pub negative_from : (z : ℤ) → FitsSigned w128 z → int_lt (to_z w128 (of_z w128 z)) (pos 0) ≡ true → z <ℤ pos 0
 negative_from z f e =
-    below_from z (pos 0) (ap (λ (y : ℤ). int_lt y (pos 0)) (sym (to_z-of_z f)) ∙ e)
+    lt_from z (pos 0) (ap (λ (y : ℤ). int_lt y (pos 0)) (sym (to_z-of_z f)) ∙ e)
 
 pub not_positive_from : (z : ℤ) → FitsSigned w128 z → int_lt (pos 0) (to_z w128 (of_z w128 z)) ≡ false → z ≤ℤ pos 0
 not_positive_from z f e =
@@ -75,9 +67,9 @@ pub split-upper : (x : ℕ) (rows us ls fs : List Row) (r : Row) (z : ℤ) (next
     z ≡ coefficient x r.term → pos 0 <ℤ z → next ≡ us ++ r ∷ [] → IsSplit x (rows ++ r ∷ []) next ls fs
 split-upper x rows us ls fs r z next s t e h n = record {
   uppers = n ∙ (ap (λ (qs : List Row). qs ++ r ∷ []) s.uppers
-      ∙ sym (filter_in (λ (q : Row). is_upper x q.term) rows r (ap (λ (y : ℤ). int_lt (pos 0) y) (sym e) ∙ above (pos 0) z h)));
+      ∙ sym (filter_in (λ (q : Row). is_upper x q.term) rows r (ap (λ (y : ℤ). int_lt (pos 0) y) (sym e) ∙ lt_yes (pos 0) z h)));
   lowers = s.lowers ∙ sym (filter_out (λ (q : Row). is_lower x q.term) rows r (ap (λ (y : ℤ). int_lt y (pos 0)) (sym e)
-      ∙ not_above z (pos 0) (omega (arith, ints, h))));
+      ∙ lt_no z (pos 0) (omega (arith, ints, h))));
   free = s.free ∙ sym (filter_out (λ (q : Row). is_free x q.term) rows r
       (ap is_zero (sym e) ∙ not_zero z (λ k. omega (arith, ints, h, k))));
   terms = terms-push rows r s.terms t;
@@ -87,10 +79,10 @@ pub split-lower : (x : ℕ) (rows us ls fs : List Row) (r : Row) (z : ℤ) (next
     IsTrue (is_term r.term) →
     z ≡ coefficient x r.term → z <ℤ pos 0 → next ≡ ls ++ r ∷ [] → IsSplit x (rows ++ r ∷ []) us next fs
 split-lower x rows us ls fs r z next s t e h n = record {
-  uppers = s.uppers ∙ sym (filter_out (λ (q : Row). is_upper x q.term) rows r (ap (λ (y : ℤ). int_lt (pos 0) y) (sym e) ∙ not_above (pos 0)
+  uppers = s.uppers ∙ sym (filter_out (λ (q : Row). is_upper x q.term) rows r (ap (λ (y : ℤ). int_lt (pos 0) y) (sym e) ∙ lt_no (pos 0)
       z (omega (arith, ints, h))));
   lowers = n ∙ (ap (λ (qs : List Row). qs ++ r ∷ []) s.lowers
-      ∙ sym (filter_in (λ (q : Row). is_lower x q.term) rows r (ap (λ (y : ℤ). int_lt y (pos 0)) (sym e) ∙ above z (pos 0) h)));
+      ∙ sym (filter_in (λ (q : Row). is_lower x q.term) rows r (ap (λ (y : ℤ). int_lt y (pos 0)) (sym e) ∙ lt_yes z (pos 0) h)));
   free = s.free ∙ sym (filter_out (λ (q : Row). is_free x q.term) rows r
       (ap is_zero (sym e) ∙ not_zero z (λ k. omega (arith, ints, h, k))));
   terms = terms-push rows r s.terms t;
@@ -100,10 +92,10 @@ pub split-free : (x : ℕ) (rows us ls fs : List Row) (r : Row) (z : ℤ) (next 
     IsTrue (is_term r.term) →
     z ≡ coefficient x r.term → z ≤ℤ pos 0 → pos 0 ≤ℤ z → next ≡ fs ++ r ∷ [] → IsSplit x (rows ++ r ∷ []) us ls next
 split-free x rows us ls fs r z next s t e h k n = record {
-  uppers = s.uppers ∙ sym (filter_out (λ (q : Row). is_upper x q.term) rows r (ap (λ (y : ℤ). int_lt (pos 0) y) (sym e) ∙ not_above (pos 0)
+  uppers = s.uppers ∙ sym (filter_out (λ (q : Row). is_upper x q.term) rows r (ap (λ (y : ℤ). int_lt (pos 0) y) (sym e) ∙ lt_no (pos 0)
       z h));
   lowers = s.lowers ∙ sym (filter_out (λ (q : Row). is_lower x q.term) rows r (ap (λ (y : ℤ). int_lt y (pos 0)) (sym e)
-      ∙ not_above z (pos 0) k));
+      ∙ lt_no z (pos 0) k));
   free = n ∙ (ap (λ (qs : List Row). qs ++ r ∷ []) s.free
       ∙ sym (filter_in (λ (q : Row). is_free x q.term) rows r (ap is_zero (sym e ∙ zero_is))));
   terms = terms-push rows r s.terms t;

@@ -11,26 +11,15 @@ use Rattle.linear_formula.specs.LinearSum.{LinearSum, Valuation, value_of, value
 use Rattle.infeasible_cert.proofs.Meeting.{AllMet}
 use Rattle.shadow_elim.specs.Reduction.{is_same_part, same_parts, is_as_strong, is_stronger, has_no_parts, is_trivial, stays, reduced_after, reduced}
 use Rattle.shadow_elim.proofs.Members.{Among, among-append_cases, any-among}
+use Rattle.shadow_elim.proofs.Tests.{both_true, first_true, le_from, lt_from, second_true}
 
 -- Tests
 
-first : (s t : Bool) → (s && t) ≡ true → s ≡ true
-first true t h = refl
-first false t h = h
-
-second : (s t : Bool) → (s && t) ≡ true → t ≡ true
-second true t h = h
-second false t h = absurd (cc)
-
-and_both : (s t : Bool) → s ≡ true → t ≡ true → (s && t) ≡ true
-and_both true t h k = k
-and_both false t h k = h
-
 part_decides : (p q : ℕ × ℤ) → (is_same_part p q ≡ true → p ≡ q) × (p ≡ q → is_same_part p q ≡ true)
 part_decides p q = (
-  λ h. pair_same (eqb-true p.0 q.0 (first (p.0 == q.0) (int_eq p.1 q.1) h))
-      ((Decides-int_eq p.1 q.1).0 (second (p.0 == q.0) (int_eq p.1 q.1) h)),
-  λ e. and_both (p.0 == q.0) (int_eq p.1 q.1) (eq-eqb p.0 q.0 (ap (λ (r : ℕ × ℤ). r.0) e))
+  λ h. pair_same (eqb-true p.0 q.0 (first_true (p.0 == q.0) (int_eq p.1 q.1) h))
+      ((Decides-int_eq p.1 q.1).0 (second_true (p.0 == q.0) (int_eq p.1 q.1) h)),
+  λ e. both_true (p.0 == q.0) (int_eq p.1 q.1) (eq-eqb p.0 q.0 (ap (λ (r : ℕ × ℤ). r.0) e))
       ((Decides-int_eq p.1 q.1).1 (ap (λ (r : ℕ × ℤ). r.1) e)),
 ) where
   pair_same : p.0 ≡ q.0 → p.1 ≡ q.1 → p ≡ q
@@ -59,23 +48,17 @@ pub at-least-met : (v : Valuation) (s t : LinearSum) → IsAtLeast s t → value
 at-least-met v s t h k =
     omega (arith, ints, h.constant, k, ap (value_of_parts v) h.parts)
 
-le_from : (a b : ℤ) → int_le a b ≡ true → a ≤ℤ b
-le_from a b e = grind (arith, ints)
-
-lt_from : (a b : ℤ) → int_lt a b ≡ true → a <ℤ b
-lt_from a b e = grind (arith, ints)
-
 as-strong-is : (t s : LinearSum) → is_as_strong t s ≡ true → IsAtLeast s t
 as-strong-is t s h = record {
-  parts = (same_parts-decides s.parts t.parts).0 (first (same_parts s t) (int_le t.constant s.constant) h);
-  constant = le_from t.constant s.constant (second (same_parts s t) (int_le t.constant s.constant) h);
+  parts = (same_parts-decides s.parts t.parts).0 (first_true (same_parts s t) (int_le t.constant s.constant) h);
+  constant = le_from t.constant s.constant (second_true (same_parts s t) (int_le t.constant s.constant) h);
 }
 
 stronger-is : (t s : LinearSum) → is_stronger t s ≡ true → IsAtLeast s t × (t.constant <ℤ s.constant)
 stronger-is t s h =
-    let lt = lt_from t.constant s.constant (second (same_parts s t) (int_lt t.constant s.constant) h) in (
+    let lt = lt_from t.constant s.constant (second_true (same_parts s t) (int_lt t.constant s.constant) h) in (
       record {
-        parts = (same_parts-decides s.parts t.parts).0 (first (same_parts s t) (int_lt t.constant s.constant) h);
+        parts = (same_parts-decides s.parts t.parts).0 (first_true (same_parts s t) (int_lt t.constant s.constant) h);
         constant = omega (arith, ints, lt);
       },
       lt,
@@ -85,12 +68,12 @@ stronger-is t s h =
 
 pub trivial-met : (v : Valuation) (t : LinearSum) → IsTrue (is_trivial t) → value_of v t ≤ℤ pos 0
 trivial-met v t h =
-    let none = (same_parts-decides t.parts []).0 (first (has_no_parts t) (int_le t.constant (pos 0)) h) in
-    let low = le_from t.constant (pos 0) (second (has_no_parts t) (int_le t.constant (pos 0)) h) in
+    let none = (same_parts-decides t.parts []).0 (first_true (has_no_parts t) (int_le t.constant (pos 0)) h) in
+    let low = le_from t.constant (pos 0) (second_true (has_no_parts t) (int_le t.constant (pos 0)) h) in
     omega (arith, ints, low, ap (value_of_parts v) none)
 
 pub trivial-parts : (t : LinearSum) → IsTrue (is_trivial t) → t.parts ≡ []
-trivial-parts t h = (same_parts-decides t.parts []).0 (first (has_no_parts t) (int_le t.constant (pos 0)) h)
+trivial-parts t h = (same_parts-decides t.parts []).0 (first_true (has_no_parts t) (int_le t.constant (pos 0)) h)
 
 -- a row that is at least as strong as one that can fail can fail
 can-fail : (s t : LinearSum) → IsAtLeast s t → is_trivial t ≡ false → is_trivial s ≡ false
@@ -99,8 +82,8 @@ can-fail s t h n = by_value (is_trivial s) refl where
   by_value false e = refl
   by_value true e =
       let none : t.parts ≡ [] = sym h.parts ∙ trivial-parts s e in
-      let low = le_from s.constant (pos 0) (second (has_no_parts s) (int_le s.constant (pos 0)) e) in
-      let so : is_trivial t ≡ true = and_both (has_no_parts t) (int_le t.constant (pos 0)) ((same_parts-decides t.parts []).1 none)
+      let low = le_from s.constant (pos 0) (second_true (has_no_parts s) (int_le s.constant (pos 0)) e) in
+      let so : is_trivial t ≡ true = both_true (has_no_parts t) (int_le t.constant (pos 0)) ((same_parts-decides t.parts []).1 none)
       (to_le t.constant s.constant h.constant low) in
       sym so ∙ n
     where

@@ -11,6 +11,7 @@ use Rattle.std.proofs.lemmas.Int.{ints}
 use Rattle.std.proofs.lemmas.Slice.Eq.{slice_eq-Decides}
 use Rattle.linear_formula.specs.LinearSum.{LinearSum}
 use Rattle.shadow_elim.specs.Reduction.{is_same_part, same_parts, is_as_strong, is_stronger}
+use Rattle.shadow_elim.proofs.Tests.{lt_yes}
 
 pair_same : (a b : ℕ) (x y : ℤ) → a ≡ b → x ≡ y → ◌≡◌ {A = ℕ × ℤ} (a, x) (b, y)
 pair_same a b x y e f = cc
@@ -47,9 +48,6 @@ AsStrong-from_test t s h =
 int_le-from : (a b : ℤ) → a ≤ℤ b → int_le a b ≡ true
 int_le-from a b h = grind (arith, ints)
 
-int_lt-from : (a b : ℤ) → a <ℤ b → int_lt a b ≡ true
-int_lt-from a b h = grind (arith, ints)
-
 pub test-from_AsStrong : (t s : LinearSum) → AsStrong t s → is_as_strong t s ≡ true
 test-from_AsStrong t s h =
     and_from (same_parts s t) (int_le t.constant s.constant) ((Decides-same_list s.parts t.parts).1 h.parts)
@@ -71,7 +69,7 @@ Stronger-from_test t s h =
 pub test-from_Stronger : (t s : LinearSum) → Stronger t s → is_stronger t s ≡ true
 test-from_Stronger t s h =
     and_from (same_parts s t) (int_lt t.constant s.constant) ((Decides-same_list s.parts t.parts).1 h.parts)
-    (int_lt-from t.constant s.constant h.constant)
+    (lt_yes t.constant s.constant h.constant)
 
 -- what is as strong as one that is as strong or stronger
 pub as_strong-trans : (t s r : LinearSum) → is_as_strong t s ≡ true → is_as_strong s r ≡ true → is_as_strong t r ≡ true

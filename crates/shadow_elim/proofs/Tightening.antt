@@ -1,5 +1,5 @@
 -- Tightened rows: what divides them, and where they are met.
-use Rattle.std.proofs.Common.{◌≡◌, ℕ, suc, zero, ◌<◌, ◌≤◌, ◌+◌, ◌*◌, ◌/◌, ◌%◌, ◌==◌, ◌&&◌, Bool, true, false, List, [], ◌∷◌, length, ℤ, pos, negsuc, ◌+ℤ◌, ◌-ℤ◌, ◌*ℤ◌, neg_ℤ, ◌↔◌, nat_lt, arith, refl, sym, ap, ◌∙◌}
+use Rattle.std.proofs.Common.{◌≡◌, ℕ, suc, zero, ◌<◌, ◌≤◌, ◌+◌, ◌*◌, ◌/◌, ◌%◌, ◌==◌, ◌&&◌, Bool, true, false, List, [], ◌∷◌, ℤ, pos, negsuc, ◌+ℤ◌, ◌-ℤ◌, ◌*ℤ◌, neg_ℤ, ◌↔◌, nat_lt, arith, refl, sym, ap, ◌∙◌}
 use Rattle.std.specs.Prelude.{IsTrue, ◌≤ℤ◌, ◌<ℤ◌, unsigned_abs, if◌then◌else◌}
 use Rattle.std.proofs.lemmas.Int.{ints, unsigned_abs-mul}
 use Rattle.std.proofs.lemmas.Nat.Gcd.{dvd_refl, dvd-zero, dvd_trans, dvd_of_mod-eq-zero, mod-eq-zero_of_dvd}
@@ -16,14 +16,8 @@ use Rattle.linear_formula.proofs.Values.{chosen_of_two}
 use Rattle.infeasible_cert.specs.Right.{IsRoundedUp}
 use Rattle.infeasible_cert.proofs.Signs.{below_multiplier, rounded_nonpos, mul_nonpos}
 use Rattle.shadow_elim.specs.Division.{common_divisor_up_to, common_divisor, parts_divisor, floor_quotient, ceiling_quotient, divided_parts, divided, row_divisor, tightened}
-
-first : (s t : Bool) → (s && t) ≡ true → s ≡ true
-first true t h = refl
-first false t h = h
-
-second : (s t : Bool) → (s && t) ≡ true → t ≡ true
-second true t h = h
-second false t h = absurd (cc)
+use Rattle.shadow_elim.proofs.Tests.{first_true, second_true}
+use Rattle.shadow_elim.proofs.Dividing.{length-divided}
 
 -- Common divisors
 
@@ -47,8 +41,8 @@ divides-up_to (suc m) a b =
     chosen_of_two (λ r. (r ∣ a) × (r ∣ b)) ((a % suc (suc m) == 0) && (b % suc (suc m) == 0)) (suc (suc m))
     (common_divisor_up_to (suc m) a b)
     (λ e. (
-      dvd_of_mod-eq-zero (suc (suc m)) (eqb-true (a % suc (suc m)) 0 (first (a % suc (suc m) == 0) (b % suc (suc m) == 0) e)),
-      dvd_of_mod-eq-zero (suc (suc m)) (eqb-true (b % suc (suc m)) 0 (second (a % suc (suc m) == 0) (b % suc (suc m) == 0) e)),
+      dvd_of_mod-eq-zero (suc (suc m)) (eqb-true (a % suc (suc m)) 0 (first_true (a % suc (suc m) == 0) (b % suc (suc m) == 0) e)),
+      dvd_of_mod-eq-zero (suc (suc m)) (eqb-true (b % suc (suc m)) 0 (second_true (a % suc (suc m) == 0) (b % suc (suc m) == 0) e)),
     )) (λ _. divides-up_to m a b)
 
 pub divides-common : (a b : ℕ) → (common_divisor a b ∣ a) × (common_divisor a b ∣ b)
@@ -155,10 +149,6 @@ within-divided : (d : ℕ) (ps : List (ℕ × ℤ)) → 0 < d → DividesAll d p
 within-divided d [] h k w = tt
 within-divided d (p ∷ ps) h k w =
     (omega (arith, smaller d p.1 (floor_quotient p.1 d) h (floor-exact p.1 d h k.0), w.0), within-divided d ps h k.1 w.1)
-
-length-divided : (d : ℕ) (ps : List (ℕ × ℤ)) → length (divided_parts d ps) ≡ length ps
-length-divided d [] = refl
-length-divided d (p ∷ ps) = ap suc (length-divided d ps)
 
 quotient-small : (n d : ℕ) → 0 < d → n / d ≤ n
 quotient-small n d h =

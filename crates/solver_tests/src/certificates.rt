@@ -15,7 +15,8 @@ use std::test::Fail;
 type Step<'a> = (&'a [(u32, i64)], i64, i64, i64);
 
 fn term_of(alloc: Global, column: u32, coefficient: i128, constant: i128) -> Result<Term, LinError>
-    requires { IsTrue (is_term (record { parts = (column, coefficient) ∷ []; constant = constant })) }
+    requires { IsTrue
+        (is_term (record { parts = (column, coefficient) ∷ []; constant = constant })) }
 {
     let mut items = Vec::with_capacity(alloc, 1)?;
     items.push((column, coefficient))?;

@@ -164,7 +164,8 @@ fn splits_at_most_512_times(rt: HostRuntime) -> Result<(), Fail> {
     Ok(())
 }
 
-/// What `column 0 + left <= 0` says of `column 0 + right <= 0`: how many certificates, or the value of a point.
+/// What `column 0 + left <= 0` says of `column 0 + right <= 0`: how many certificates, or the value
+/// of a point.
 fn entailment(alloc: Global, left: i64, right: i64) -> Result<(usize, i64), LinError> {
     let less = cube_of(alloc, &[(&[(1, 0)], left)])?;
     let more = cube_of(alloc, &[(&[(1, 0)], right)])?;
@@ -197,7 +198,8 @@ fn has_point(alloc: Global, cube: &Cube) -> Result<bool, LinError> {
     Ok(false)
 }
 
-/// Whether the solver finds a point where there is one, and else a certificate that the checker takes.
+/// Whether the solver finds a point where there is one, and else a certificate that the checker
+/// takes.
 fn agrees(alloc: Global, seed: &mut u64) -> Result<bool, LinError> {
     let cube = small_cube(alloc, seed)?;
     let expected = has_point(alloc, &cube)?;
