@@ -1,5 +1,5 @@
 -- Where too many splits are needed, so many cubes were split.
-use Rattle.std.proofs.Common.{◌≡◌, ℕ, zero, suc, ◌+◌, ◌≤◌, Bool, true, false, List, [], ◌∷◌, ◌++◌, length, ℤ, pos, arith, refl, subst, ◌∙◌, sym, ap}
+use Rattle.std.proofs.Common.{◌≡◌, ℕ, zero, suc, ◌+◌, ◌≤◌, Bool, true, false, List, [], ◌∷◌, ◌++◌, length, ℤ, pos, arith, refl, subst}
 use Rattle.std.specs.Prelude.{◌+ℤ◌, All, nat_le, nat_lt, if◌then◌else◌}
 use Rattle.std.proofs.lemmas.List.{length_push}
 use Rattle.std.proofs.lemmas.List.Elements.{All-nil, All-push}
@@ -22,7 +22,8 @@ record AreSplit (cubes : List Cube) : Type 0 where
 abbrev Says : (least : ℕ) → Search → Type 0
 Says least (found values) = Unit {0}
 Says least (nothing more) = AreSplit more × (least ≤ length more)
-Says least (limit_met limit) = IfBranches limit (λ cubes. (512 ≤ length cubes) × AreSplit cubes × ((atoms : List Atom) × LacksInteger atoms))
+Says least (limit_met limit) = IfBranches limit (λ cubes. (512 ≤ length cubes) × AreSplit cubes
+    × ((atoms : List Atom) × LacksInteger atoms))
 
 says_weaker : (a b : ℕ) (s : Search) → b ≤ a → Says a s → Says b s
 says_weaker a b (found values) h w = tt
@@ -51,7 +52,8 @@ search_says : (depth : ℕ) (splits : List Cube) (atoms : List Atom) → 512 ≤
 search_says zero splits atoms h s =
     settled_says splits atoms (λ x k. limit_met (Branches splits)) s (λ x k e. (omega (arith, h), s, (atoms, (x, k, e))))
 search_says (suc depth) splits atoms h s =
-    settled_says splits atoms _ s (λ x k e. by_room (λ more side g t. search_says depth more side g t) x k e (nat_le 512 (length splits)) refl) where
+    settled_says splits atoms _ s (λ x k e. by_room (λ more side g t. search_says depth more side g t) x k e (nat_le 512 (length splits))
+    refl) where
       Rest : Type 0
       Rest = (more : List Cube) (side : List Atom) → 512 ≤ depth + length more → AreSplit more → Says (length more) (search depth more side)
 
@@ -71,7 +73,7 @@ search_says (suc depth) splits atoms h s =
       by_low rest x k (found values) w = tt
       by_low rest x k (nothing more) w =
           says_weaker (length more) (length splits) (high x k more) (omega (arith, w.1, count))
-            (rest more (with_row atoms (at_least x (k +ℤ pos 1))) (omega (arith, h, w.1, count)) w.0)
+          (rest more (with_row atoms (at_least x (k +ℤ pos 1))) (omega (arith, h, w.1, count)) w.0)
       by_low rest x k (limit_met limit) w = w
 
       by_room : Rest → (x : ℕ) (k : ℤ) → outcome_of atoms ≡ split x k → (b : Bool) → nat_le 512 (length splits) ≡ b →
@@ -99,4 +101,5 @@ branches_are (Inexact pair) w = tt
 -- the cubes that a limit of splits keeps
 pub limit_splits : (atoms : List Atom) (limit : Limit) → solution atoms ≡ limit_met limit → IfBranches limit AreAllSplit
 limit_splits atoms limit e =
-    branches_are limit (subst (Says 0) e (few_says MAX_SPLITS atoms (nat_lt MAX_COLUMNS (length (columns_of (rows_of atoms)))) (omega arith)))
+    branches_are limit (subst (Says 0) e (few_says MAX_SPLITS atoms (nat_lt MAX_COLUMNS (length (columns_of (rows_of atoms))))
+    (omega arith)))

@@ -8,14 +8,17 @@ use Rattle.shadow_elim.specs.declared.limit.Limit.TheVariants.{Columns, Wide, Ro
 use Rattle.shadow_elim.specs.Plan.{outcome_of}
 use Rattle.shadow_elim.specs.Points.{split}
 
--- the elimination of the atoms ends without a contradiction, and some column lacks an integer between its bounds
+-- the elimination of the atoms ends without a contradiction, and some column lacks an integer
+-- between its bounds
 abbrev pub LacksInteger : List Atom → Type 0
 LacksInteger atoms = (column : ℕ) × (at : ℤ) × (outcome_of atoms ≡ split column at)
 
--- as many cubes as may be split, none of which its own elimination refutes, and one more that would have to be split
+-- as many cubes as may be split, none of which its own elimination refutes, and one more that would
+-- have to be split
 abbrev pub AreAllSplit : List Cube → Type 0
 AreAllSplit cubes =
-    (length cubes ≡ MAX_SPLITS) × All (λ cube. LacksInteger cube.atoms) cubes × ((atoms : List Atom) × LacksInteger atoms)
+    (length cubes ≡ MAX_SPLITS) × All (λ cube. LacksInteger cube.atoms) cubes
+    × ((atoms : List Atom) × LacksInteger atoms)
 
 abbrev pub IfBranches : Limit → (List Cube → Type 0) → Type 0
 IfBranches Columns P = Unit {0}
