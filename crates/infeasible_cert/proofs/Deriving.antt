@@ -31,23 +31,33 @@ derived-order (d ∷ ds) h = ((IsTerm-from_test d.row.term h.0).order, derived-o
 pub known-order : (rows : List LinearSum) (ds : List Derived) → RowsInOrder rows → AreDerivedTerms ds → RowsInOrder (rows ++ terms_of ds)
 known-order rows ds o h = order-append rows (terms_of ds) o (derived-order ds h)
 
-one-more : (rows : List LinearSum) (ds : List Derived) (k : ℕ) (e : Derived) → k < length ds → rows ++ terms_of (take (k + 1) ds) ≡ rows ++ terms_of (take k ds) ++ (get_or ds k e).row.term ∷ []
+one-more : (rows : List LinearSum) (ds : List Derived) (k : ℕ) (e : Derived) → k < length ds → rows ++ terms_of (take (k + 1) ds) ≡ rows
+    ++ terms_of (take k ds) ++ (get_or ds k e).row.term ∷ []
 one-more rows ds k e h =
-    ap (λ es. rows ++ terms_of es) (take_more ds k e h) ∙ ap (λ ts. rows ++ ts) (map-append (λ d. d.row.term) (take k ds) (get_or ds k e ∷ [])) ∙ sym (append_assoc rows (terms_of (take k ds)) ((get_or ds k e).row.term ∷ []))
+    ap (λ es. rows ++ terms_of es) (take_more ds k e h) ∙ ap (λ ts. rows ++ ts)
+    (map-append (λ d. d.row.term) (take k ds) (get_or ds k e ∷ []))
+    ∙ sym (append_assoc rows (terms_of (take k ds)) ((get_or ds k e).row.term ∷ []))
 
-pub derived-steps : (rows : List LinearSum) (ds : List Derived) (k : ℕ) (e : Derived) → DerivedSoFar rows ds k → k < length ds → IsTrue (is_term (get_or ds k e).row.term) → IsRightStep (rows ++ terms_of (take k ds)) (get_or ds k e) → DerivedSoFar rows ds (k + 1)
+pub derived-steps : (rows : List LinearSum) (ds : List Derived) (k : ℕ) (e : Derived) → DerivedSoFar rows ds k → k < length ds →
+    IsTrue (is_term (get_or ds k e).row.term) → IsRightStep (rows ++ terms_of (take k ds)) (get_or ds k e) → DerivedSoFar rows ds (k + 1)
 derived-steps rows ds k e s h t r =
     let known = rows ++ terms_of (take k ds) in
-    let split = subst (λ (es : List Derived). AreRightSteps (rows ++ terms_of (take k ds)) es ↔ AreRightSteps rows ds) (drop_more ds k e h) s.rest in
+    let split = subst (λ (es : List Derived). AreRightSteps (rows ++ terms_of (take k ds)) es ↔ AreRightSteps rows ds) (drop_more ds k e h)
+    s.rest in
     let more = one-more rows ds k e h in
     record {
-      rest = (λ w. split.0 (r, subst (λ (ts : List LinearSum). AreRightSteps ts (drop (k + 1) ds)) more w), λ w. subst (λ (ts : List LinearSum). AreRightSteps ts (drop (k + 1) ds)) (sym more) (split.1 w).1);
+      rest = (
+        λ w. split.0 (r, subst (λ (ts : List LinearSum). AreRightSteps ts (drop (k + 1) ds)) more w),
+        λ w. subst (λ (ts : List LinearSum). AreRightSteps ts (drop (k + 1) ds)) (sym more) (split.1 w).1,
+      );
       terms = subst AreDerivedTerms (sym (take_more ds k e h)) (terms-append (take k ds) (get_or ds k e ∷ []) s.terms (t, tt));
     }
 
-pub derived-stops : (rows : List LinearSum) (ds : List Derived) (k : ℕ) (e : Derived) → DerivedSoFar rows ds k → k < length ds → (¬ IsRightStep (rows ++ terms_of (take k ds)) (get_or ds k e)) → ¬ AreRightSteps rows ds
+pub derived-stops : (rows : List LinearSum) (ds : List Derived) (k : ℕ) (e : Derived) → DerivedSoFar rows ds k → k < length ds →
+    (¬ IsRightStep (rows ++ terms_of (take k ds)) (get_or ds k e)) → ¬ AreRightSteps rows ds
 derived-stops rows ds k e s h n w =
-    let split = subst (λ (es : List Derived). AreRightSteps (rows ++ terms_of (take k ds)) es ↔ AreRightSteps rows ds) (drop_more ds k e h) s.rest in
+    let split = subst (λ (es : List Derived). AreRightSteps (rows ++ terms_of (take k ds)) es ↔ AreRightSteps rows ds) (drop_more ds k e h)
+    s.rest in
     n (split.1 w).0
 
 drop_all : (ds : List Derived) (k : ℕ) → length ds ≤ k → drop k ds ≡ []
@@ -62,12 +72,17 @@ take_all [] (suc k) h = refl
 take_all (d ∷ ds) zero h = absurd (omega (arith, h))
 take_all (d ∷ ds) (suc k) h = ap (λ es. d ∷ es) (take_all ds k (omega (arith, h)))
 
-pub derived-ends : (rows : List LinearSum) (ds : List Derived) (k : ℕ) → DerivedSoFar rows ds k → length ds ≤ k → AreRightSteps rows ds × AreDerivedTerms ds
-derived-ends rows ds k s h =
-    (s.rest.0 (subst (AreRightSteps (rows ++ terms_of (take k ds))) (sym (drop_all ds k h)) tt), subst AreDerivedTerms (take_all ds k h) s.terms)
+pub derived-ends : (rows : List LinearSum) (ds : List Derived) (k : ℕ) → DerivedSoFar rows ds k → length ds ≤ k → AreRightSteps rows ds
+    × AreDerivedTerms ds
+derived-ends rows ds k s h = (
+  s.rest.0 (subst (AreRightSteps (rows ++ terms_of (take k ds))) (sym (drop_all ds k h)) tt),
+  subst AreDerivedTerms (take_all ds k h)
+      s.terms,
+)
 
 -- the last row decides
-pub ends-at : (ds : List Derived) (k : ℕ) (e : Derived) → length ds ≡ suc k → EndsInContradiction ds ↔ (((get_or ds k e).row.term.parts ≡ []) × (pos 1 ≤ℤ (get_or ds k e).row.term.constant))
+pub ends-at : (ds : List Derived) (k : ℕ) (e : Derived) → length ds ≡ suc k → EndsInContradiction ds ↔
+    (((get_or ds k e).row.term.parts ≡ []) × (pos 1 ≤ℤ (get_or ds k e).row.term.constant))
 ends-at [] k e h = absurd (omega (arith, h))
 ends-at (d ∷ []) zero e h = (λ w. w, λ w. w)
 ends-at (d ∷ []) (suc k) e h = absurd (omega (arith, h))

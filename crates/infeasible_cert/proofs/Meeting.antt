@@ -2,13 +2,13 @@
 use Rattle.std.proofs.Common.{ℕ, suc, zero, ◌<◌, ◌+◌, ◌^◌, List, [], ◌∷◌, ◌++◌, ℤ, pos, ◌==◌, nat_lt, arith}
 use Rattle.std.specs.Prelude.{IsTrue, ◌≤ℤ◌}
 use Rattle.std.proofs.lemmas.Int.{ints}
-use Rattle.linear_formula.specs.LinearSum.{LinearSum, Valuation, Is64, value_of, is_term, is_ascending}
+use Rattle.linear_formula.specs.LinearSum.{LinearSum, Valuation, Is64, value_of, is_term}
 use Rattle.linear_formula.specs.steps.Order.{InOrder}
 use Rattle.linear_formula.specs.Results.{combination_value}
 use Rattle.linear_formula.specs.Formula.{HoldsAll, are_terms}
 use Rattle.linear_formula.specs.declared.formula.Atom.{Atom}
 use Rattle.linear_formula.proofs.Ring.{one-mul}
-use Rattle.linear_formula.proofs.Limits.{both, tests-from_InOrder, IsTerm-from_test}
+use Rattle.linear_formula.proofs.Limits.{both, IsTerm-from_test}
 use Rattle.linear_formula.proofs.Values.{chosen}
 use Rattle.linear_formula.proofs.Combinations.{AllInOrder}
 use Rattle.infeasible_cert.specs.Right.{range_rows, with_column, with_columns, columns_of, rows_of, base_rows, row_at, summands, AreMultiples}
@@ -44,7 +44,8 @@ order-at [] (suc n) h = tt
 order-at (t ∷ ts) zero h = h.0
 order-at (t ∷ ts) (suc n) h = order-at ts n h.1
 
-pub summands-met : (v : ℕ → ℤ) (ts : List LinearSum) (ps : List (ℕ × ℤ)) → AreMultiples ts ps → AllMet v ts → combination_value v (summands ts ps) (pos 0) ≤ℤ pos 0
+pub summands-met : (v : ℕ → ℤ) (ts : List LinearSum) (ps : List (ℕ × ℤ)) → AreMultiples ts ps → AllMet v ts →
+    combination_value v (summands ts ps) (pos 0) ≤ℤ pos 0
 summands-met v ts [] m h = omega (arith, ints)
 summands-met v ts (p ∷ ps) m h =
     omega (arith, ints, mul_nonpos p.1 (value_of v (row_at ts p.0)) m.1 (met-at v ts p.0 h), summands-met v ts ps m.2 h)
@@ -73,7 +74,8 @@ ranges-order (x ∷ xs) h =
 columns-with : (x : ℕ) (xs : List ℕ) → x < 2 ^ 32 → AreColumns xs → AreColumns (with_column x xs)
 columns-with x [] k h = (k, tt)
 columns-with x (y ∷ ys) k h =
-    chosen AreColumns (nat_lt x y) (x == y) (x ∷ y ∷ ys) (y ∷ ys) (y ∷ with_column x ys) (λ _. (k, h)) (λ _ _. h) (λ _ _. (h.0, columns-with x ys k h.1))
+    chosen AreColumns (nat_lt x y) (x == y) (x ∷ y ∷ ys) (y ∷ ys) (y ∷ with_column x ys) (λ _. (k, h)) (λ _ _. h)
+    (λ _ _. (h.0, columns-with x ys k h.1))
 
 columns-with_all : (low : ℕ) (ps : List (ℕ × ℤ)) (xs : List ℕ) → InOrder low ps → AreColumns xs → AreColumns (with_columns ps xs)
 columns-with_all low [] xs o h = h
@@ -97,8 +99,10 @@ atoms-met v (a ∷ atoms) h = (h.0, atoms-met v atoms h.1)
 pub base-order : (atoms : List Atom) → IsTrue (are_terms atoms) → RowsInOrder (base_rows atoms)
 base-order atoms h =
     let o = atoms-order atoms h in
-    order-append (rows_of atoms) (range_rows (columns_of (rows_of atoms))) o (ranges-order (columns_of (rows_of atoms)) (columns-of (rows_of atoms) o))
+    order-append (rows_of atoms) (range_rows (columns_of (rows_of atoms))) o
+    (ranges-order (columns_of (rows_of atoms)) (columns-of (rows_of atoms) o))
 
 pub base-met : (v : ℕ → ℤ) (atoms : List Atom) → Is64 v → HoldsAll v atoms → AllMet v (base_rows atoms)
 base-met v atoms w h =
-    met-append v (rows_of atoms) (range_rows (columns_of (rows_of atoms))) (atoms-met v atoms h) (ranges-met v (columns_of (rows_of atoms)) w)
+    met-append v (rows_of atoms) (range_rows (columns_of (rows_of atoms))) (atoms-met v atoms h)
+    (ranges-met v (columns_of (rows_of atoms)) w)

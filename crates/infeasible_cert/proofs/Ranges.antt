@@ -38,7 +38,12 @@ length-rows (a ∷ atoms) = omega (arith, length-rows atoms)
 
 pub length-base : (atoms : List Atom) → length (base_rows atoms) ≡ length atoms + 2 * length (columns_of (rows_of atoms))
 length-base atoms =
-    omega (arith, length-append (rows_of atoms) (range_rows (columns_of (rows_of atoms))), length-rows atoms, length-ranges (columns_of (rows_of atoms)))
+    omega (
+      arith,
+      length-append (rows_of atoms) (range_rows (columns_of (rows_of atoms))),
+      length-rows atoms,
+      length-ranges (columns_of (rows_of atoms)),
+    )
 
 -- the row of an atom
 pub base-atom : (atoms : List Atom) (n : ℕ) (e : Atom) → n < length atoms → (get_or atoms n e).term ≡ row_at (base_rows atoms) n
@@ -57,19 +62,25 @@ behind-atoms (a ∷ as_) k more =
       one : (m n : ℕ) → suc m + n ≡ suc (m + n)
       one m n = omega arith
 
-pub base-range : (atoms : List Atom) (n : ℕ) (x : ℕ) (b : Bool) → length atoms ≤ n → let cols = columns_of (rows_of atoms) in let i = (n - length atoms) / 2 in b ≡ ((n - length atoms) % 2 == 0) → i < length cols → x ≡ get_or cols i 0 → (if b then upper_range x else lower_range x) ≡ row_at (base_rows atoms) n
+pub base-range : (atoms : List Atom) (n : ℕ) (x : ℕ) (b : Bool) → length atoms ≤ n → let cols = columns_of (rows_of atoms) in
+    let i = (n - length atoms) / 2 in b ≡ ((n - length atoms) % 2 == 0) → i < length cols → x ≡ get_or cols i 0 →
+    (if b then upper_range x else lower_range x) ≡ row_at (base_rows atoms) n
 base-range atoms n x b le eb lt ex =
-    by_side b eb ∙ sym (behind-atoms atoms (n - length atoms) (range_rows (columns_of (rows_of atoms)))) ∙ ap (row_at (base_rows atoms)) back where
+    by_side b eb ∙ sym (behind-atoms atoms (n - length atoms) (range_rows (columns_of (rows_of atoms)))) ∙ ap (row_at (base_rows atoms))
+    back where
       back : length atoms + (n - length atoms) ≡ n
       back = omega (arith, le)
 
-      by_side : (c : Bool) → c ≡ ((n - length atoms) % 2 == 0) → (if c then upper_range x else lower_range x) ≡ row_at (range_rows (columns_of (rows_of atoms))) (n - length atoms)
+      by_side : (c : Bool) → c ≡ ((n - length atoms) % 2 == 0) → (if c then upper_range x else lower_range x)
+          ≡ row_at (range_rows (columns_of (rows_of atoms))) (n - length atoms)
       by_side true e =
           let even : 2 * ((n - length atoms) / 2) ≡ n - length atoms = omega (arith, eqb-true ((n - length atoms) % 2) 0 (sym e)) in
-          ap upper_range ex ∙ sym (range-upper (columns_of (rows_of atoms)) ((n - length atoms) / 2) lt) ∙ ap (row_at (range_rows (columns_of (rows_of atoms)))) even
+          ap upper_range ex ∙ sym (range-upper (columns_of (rows_of atoms)) ((n - length atoms) / 2) lt)
+          ∙ ap (row_at (range_rows (columns_of (rows_of atoms)))) even
       by_side false e =
           let odd : 2 * ((n - length atoms) / 2) + 1 ≡ n - length atoms = omega (arith, eqb_apart ((n - length atoms) % 2) 0 (sym e)) in
-          ap lower_range ex ∙ sym (range-lower (columns_of (rows_of atoms)) ((n - length atoms) / 2) lt) ∙ ap (row_at (range_rows (columns_of (rows_of atoms)))) odd
+          ap lower_range ex ∙ sym (range-lower (columns_of (rows_of atoms)) ((n - length atoms) / 2) lt)
+          ∙ ap (row_at (range_rows (columns_of (rows_of atoms)))) odd
 
 -- the rows of nodes are behind the others
 pub below-apart : (rows : List LinearSum) (nodes : Nodes) → rows_below rows nodes ≡ rows ++ rows_below [] nodes
@@ -84,16 +95,24 @@ abbrev pub IsFound : List LinearSum → ℕ → Result Row ℕ → Type 0
 IsFound rows n r =
     MatchResult r (λ row. (n < length rows) × (sum_of row ≡ row_at rows n)) (λ behind. n ≡ length rows + behind)
 
-pub found-before : (rows : List LinearSum) (nodes : Nodes) (n : ℕ) (t : LinearSum) → (n < length rows) × (t ≡ row_at rows n) → (n < length (rows_below rows nodes)) × (t ≡ row_at (rows_below rows nodes) n)
+pub found-before : (rows : List LinearSum) (nodes : Nodes) (n : ℕ) (t : LinearSum) → (n < length rows) × (t ≡ row_at rows n) →
+    (n < length (rows_below rows nodes)) × (t ≡ row_at (rows_below rows nodes) n)
 found-before rows nodes n t h =
-    let e = below-apart rows nodes in
-    (omega (arith, h.0, ap length e, length-append rows (rows_below [] nodes)), h.1 ∙ sym (get_or_append_left rows (rows_below [] nodes) (constant_sum (pos 0)) n h.0) ∙ ap (λ ts. row_at ts n) (sym e))
+    let e = below-apart rows nodes in (
+      omega (arith, h.0, ap length e, length-append rows (rows_below [] nodes)),
+      h.1 ∙ sym (get_or_append_left rows (rows_below [] nodes) (constant_sum (pos 0)) n h.0) ∙ ap (λ ts. row_at ts n) (sym e),
+    )
 
-pub found-below : (rows : List LinearSum) (nodes : Nodes) (n k : ℕ) (r : Result Row ℕ) → n ≡ length rows + k → IsFound (rows_below [] nodes) k r → IsFound (rows_below rows nodes) n r
+pub found-below : (rows : List LinearSum) (nodes : Nodes) (n k : ℕ) (r : Result Row ℕ) → n ≡ length rows + k → IsFound (rows_below [] nodes)
+    k r → IsFound (rows_below rows nodes) n r
 found-below rows nodes n k (Ok row) en h =
     let e = below-apart rows nodes in
-    let back : n - length rows ≡ k = omega (arith, en) in
-    (omega (arith, en, h.0, ap length e, length-append rows (rows_below [] nodes)), h.1 ∙ ap (row_at (rows_below [] nodes)) (sym back) ∙ sym (get_or-append_right rows (rows_below [] nodes) (length rows) n (constant_sum (pos 0)) refl (omega (arith, en))) ∙ ap (λ ts. row_at ts n) (sym e))
+    let back : n - length rows ≡ k = omega (arith, en) in (
+      omega (arith, en, h.0, ap length e, length-append rows (rows_below [] nodes)),
+      h.1 ∙ ap (row_at (rows_below [] nodes)) (sym back)
+          ∙ sym (get_or-append_right rows (rows_below [] nodes) (length rows) n (constant_sum (pos 0)) refl (omega (arith, en)))
+          ∙ ap (λ ts. row_at ts n) (sym e),
+    )
 found-below rows nodes n k (Err behind) en h =
     let e = below-apart rows nodes in
     omega (arith, en, h, ap length e, length-append rows (rows_below [] nodes))

@@ -10,4 +10,6 @@ pub data Refutation : Type 0 where
 
 abbrev pub refutation_of : Certificate → Refutation
 refutation_of (Close rows) = close rows.items
-refutation_of (Branch' rows column at p low q high) = branch rows.items column at (refutation_of low) (refutation_of high)
+refutation_of (Branch' rows column at p low q high) = branch rows.items column at
+    (refutation_of low)
+    (refutation_of high)

@@ -20,7 +20,8 @@ range_rows (x ∷ xs) = upper_range x ∷ lower_range x ∷ range_rows xs
 -- a column put into ascending columns, once
 abbrev pub with_column : ℕ → List ℕ → List ℕ
 with_column x [] = x ∷ []
-with_column x (y ∷ ys) = if nat_lt x y then (x ∷ y ∷ ys) else (if x == y then (y ∷ ys) else (y ∷ with_column x ys))
+with_column x (y ∷ ys) = if nat_lt x y then (x ∷ y ∷ ys) else
+    (if x == y then (y ∷ ys) else (y ∷ with_column x ys))
 
 abbrev pub with_columns : List (ℕ × ℤ) → List ℕ → List ℕ
 with_columns [] xs = xs
@@ -79,14 +80,17 @@ constant_products = map (λ s. s.0 *ℤ s.1.constant)
 abbrev pub IsRoundedUp : (c d k : ℤ) → Type 0
 IsRoundedUp c d k = (c ≤ℤ (d *ℤ k)) × ((d *ℤ k) <ℤ (c +ℤ d))
 
--- The row is the sum of the multiples, divided: `divide` divides each coefficient, and the constant is rounded up.
+-- The row is the sum of the multiples, divided: `divide` divides each coefficient, and the constant
+-- is rounded up.
 pub record IsRightStep (rows : List LinearSum) (d : Derived) : Type 0 where
   pub named : AreMultiples rows d.parts
   pub columns_fit : (x : ℕ) → FitsAlong (pos 0) (column_products x (summands rows d.parts))
   pub constant_fits : FitsAlong (pos 0) (constant_products (summands rows d.parts))
   pub divisor : pos 1 ≤ℤ d.divide
-  pub divided : (x : ℕ) → coefficient x (combination (summands rows d.parts) (pos 0)) ≡ d.divide *ℤ coefficient x d.row.term
-  pub rounded : IsRoundedUp (combination (summands rows d.parts) (pos 0)).constant d.divide d.row.term.constant
+  pub divided : (x : ℕ) → coefficient x (combination (summands rows d.parts) (pos 0))
+      ≡ d.divide *ℤ coefficient x d.row.term
+  pub rounded : IsRoundedUp (combination (summands rows d.parts) (pos 0)).constant d.divide
+      d.row.term.constant
 
 -- the rows after derived rows
 abbrev pub rows_after : List LinearSum → List Derived → List LinearSum
@@ -108,7 +112,9 @@ EndsInContradiction (d ∷ e ∷ ds) = EndsInContradiction (e ∷ ds)
 abbrev pub IsRight : List LinearSum → Refutation → Type 0
 IsRight rows (close ds) = AreRightSteps rows ds × EndsInContradiction ds
 IsRight rows (branch ds x at low high) =
-    AreRightSteps rows ds × (at <ℤ pos 9223372036854775807) × IsRight (rows_after rows ds ++ at_most x at ∷ []) low × IsRight (rows_after rows ds ++ at_least x (at +ℤ pos 1) ∷ []) high
+    AreRightSteps rows ds × (at <ℤ pos 9223372036854775807)
+    × IsRight (rows_after rows ds ++ at_most x at ∷ []) low
+    × IsRight (rows_after rows ds ++ at_least x (at +ℤ pos 1) ∷ []) high
 
 -- how deep branches nest
 abbrev pub nesting : Refutation → ℕ

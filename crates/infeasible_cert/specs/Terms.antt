@@ -11,4 +11,5 @@ AreDerivedTerms (d ∷ ds) = IsTrue (is_term d.row.term) × AreDerivedTerms ds
 -- each derived row is a term, and each column has 32 bits
 abbrev pub HasTerms : Refutation → Type 0
 HasTerms (close ds) = AreDerivedTerms ds
-HasTerms (branch ds x at low high) = AreDerivedTerms ds × (x < 2 ^ 32) × HasTerms low × HasTerms high
+HasTerms (branch ds x at low high) = AreDerivedTerms ds × (x < 2 ^ 32) × HasTerms low
+    × HasTerms high

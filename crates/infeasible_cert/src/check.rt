@@ -14,9 +14,11 @@ use crate::rows::{Nodes, Rows};
 use crate::walk::is_right;
 use linear_formula::formula::Cube;
 
-/// The law that no assignment of 64-bit values meets a cube that has a right certificate. It computes nothing.
+/// The law that no assignment of 64-bit values meets a cube that has a right certificate. It
+/// computes nothing.
 pub fn right_is_sound()
-    ensures { (atoms : List Atom) (c : Refutation) (v : Valuation) → IsTrue (are_terms atoms) → HasTerms c → Refutes atoms c →
+    ensures { (atoms : List Atom) (c : Refutation) (v : Valuation) → IsTrue (are_terms atoms) →
+        HasTerms c → Refutes atoms c →
         Is64 v → HoldsAll v atoms → ⊥ }
 {}
 
@@ -26,7 +28,8 @@ const MAX_NESTING: u32 = 512;
 /// How many columns of a cube are listed; those behind them are looked up in the cube.
 const LISTED_COLUMNS: usize = 1024;
 
-/// Whether the certificate is right for the cube. Then no assignment of 64-bit values meets the cube. It takes no memory.
+/// Whether the certificate is right for the cube. Then no assignment of 64-bit values meets the
+/// cube. It takes no memory.
 pub fn refutes(cube: &Cube, certificate: &Certificate) -> bool
     ensures right { IsTrue result ↔ Refutes cube.now.atoms (refutation_of certificate.now) }
     ensures sound { IsTrue result → (v : Valuation) → Is64 v → HoldsAll v cube.now.atoms → ⊥ }

@@ -92,7 +92,8 @@ fn range_row<'a>(column: u32, is_upper: bool) -> Row<'a>
 /// A row of a cube or of a range, or how far the number is behind the last one.
 fn find_base<'a>(columns: &'a Columns<'a>, number: u64) -> Result<Row<'a>, u64>
     ensures { MatchResult result
-        (λ row. (number < length (base_rows columns.now.atoms.now)) × (sum_of row ≡ row_at (base_rows columns.now.atoms.now) number))
+        (λ row. (number < length (base_rows columns.now.atoms.now))
+        × (sum_of row ≡ row_at (base_rows columns.now.atoms.now) number))
         (λ behind. number ≡ length (base_rows columns.now.atoms.now) + behind) }
 {
     let atoms = columns.atoms;
@@ -109,7 +110,8 @@ fn find_base<'a>(columns: &'a Columns<'a>, number: u64) -> Result<Row<'a>, u64>
 
 /// The row of a number among those of nodes, or how far the number is behind the last one.
 fn find_below<'a>(nodes: &Nodes<'a>, number: u64) -> Result<Row<'a>, u64>
-    ensures { MatchResult result (λ row. (number < length (rows_below [] nodes.now)) × (sum_of row ≡ row_at (rows_below [] nodes.now) number))
+    ensures { MatchResult result (λ row. (number < length (rows_below [] nodes.now))
+        × (sum_of row ≡ row_at (rows_below [] nodes.now) number))
         (λ behind. number ≡ length (rows_below [] nodes.now) + behind) }
 {
     match nodes {
@@ -144,7 +146,8 @@ fn find_below<'a>(nodes: &Nodes<'a>, number: u64) -> Result<Row<'a>, u64>
 
 /// The row of a number, or how far the number is behind the last one.
 pub fn find<'a>(rows: &Rows<'a>, number: u64) -> Result<Row<'a>, u64>
-    ensures { MatchResult result (λ row. (number < length (rows_in rows.now)) × (sum_of row ≡ row_at (rows_in rows.now) number))
+    ensures { MatchResult result (λ row. (number < length (rows_in rows.now))
+        × (sum_of row ≡ row_at (rows_in rows.now) number))
         (λ behind. number ≡ length (rows_in rows.now) + behind) }
 {
     match find_base(rows.columns, number) {

@@ -1,6 +1,6 @@
 //! The check of certificates, node by node.
 
-ghost use Rattle.std.specs.Prelude.{◌≡◌, ◌<◌, ◌≤◌, ◌↔◌, [], pos, ◌≤ℤ◌, IsTrue};
+ghost use Rattle.std.specs.Prelude.{◌≡◌, ◌≤◌, ◌↔◌, [], pos, ◌≤ℤ◌, IsTrue};
 ghost use Rattle.infeasible_cert.specs.Refutation.{refutation_of};
 ghost use Rattle.infeasible_cert.specs.Right.{AreRightSteps, EndsInContradiction, IsRight, nesting};
 ghost use Rattle.infeasible_cert.specs.Terms.{AreDerivedTerms, HasTerms};
@@ -50,16 +50,20 @@ fn ends_in_contradiction(derived: &[Derived]) -> bool
 
 fn is_closed<'x>(rows: &'x Rows<'x>, derived: &'x [Derived]) -> bool
     requires { RowsInOrder (rows_in rows.now) }
-    ensures right { IsTrue result ↔ (AreRightSteps (rows_in rows.now) derived.now × EndsInContradiction derived.now) }
+    ensures right { IsTrue result ↔
+        (AreRightSteps (rows_in rows.now) derived.now × EndsInContradiction derived.now) }
     ensures terms { IsTrue result → AreDerivedTerms derived.now }
 {
     derives(rows, derived) && ends_in_contradiction(derived)
 }
 
-/// Whether the certificate is right from these rows on, and its branches nest no deeper than `depth`.
+/// Whether the certificate is right from these rows on, and its branches nest no deeper than
+/// `depth`.
 pub fn is_right<'x>(certificate: &'x Certificate, rows: &'x Rows<'x>, depth: u32) -> bool
     requires { RowsInOrder (rows_in rows.now) }
-    ensures right { IsTrue result ↔ ((nesting (refutation_of certificate.now) ≤ depth) × IsRight (rows_in rows.now) (refutation_of certificate.now)) }
+    ensures right { IsTrue result ↔
+        ((nesting (refutation_of certificate.now) ≤ depth) × IsRight (rows_in rows.now)
+        (refutation_of certificate.now)) }
     ensures terms { IsTrue result → HasTerms (refutation_of certificate.now) }
 {
     match certificate {

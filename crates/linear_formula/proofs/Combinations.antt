@@ -23,20 +23,27 @@ InOrder-combination [] c o = tt
 InOrder-combination (s ∷ ss) c o =
     InOrder-plus_parts 0 s.0 s.1.parts (combination ss c).parts o.0 (InOrder-combination ss c o.1)
 
-pub coefficient-plus_multiple : (x : ℕ) (m : ℤ) (t u : LinearSum) → InOrder 0 t.parts → InOrder 0 u.parts → coefficient x (plus_multiple m t u) ≡ (m *ℤ coefficient x t) +ℤ coefficient x u
+pub coefficient-plus_multiple : (x : ℕ) (m : ℤ) (t u : LinearSum) → InOrder 0 t.parts → InOrder 0 u.parts →
+    coefficient x (plus_multiple m t u) ≡ (m *ℤ coefficient x t) +ℤ coefficient x u
 coefficient-plus_multiple x m t u o r = listed-plus_parts x 0 0 m t.parts u.parts o r
 
-pub coefficient-combination : (x : ℕ) (ss : List (ℤ × LinearSum)) (c : ℤ) → AllInOrder ss → coefficient x (combination ss c) ≡ combined_coefficient x ss
+pub coefficient-combination : (x : ℕ) (ss : List (ℤ × LinearSum)) (c : ℤ) → AllInOrder ss → coefficient x (combination ss c)
+    ≡ combined_coefficient x ss
 coefficient-combination x [] c o = refl
 coefficient-combination x (s ∷ ss) c o =
-    coefficient-plus_multiple x s.0 s.1 (combination ss c) o.0 (InOrder-combination ss c o.1) ∙ ap (λ z. (s.0 *ℤ coefficient x s.1) +ℤ z) (coefficient-combination x ss c o.1)
+    coefficient-plus_multiple x s.0 s.1 (combination ss c) o.0 (InOrder-combination ss c o.1) ∙ ap (λ z. (s.0 *ℤ coefficient x s.1) +ℤ z)
+    (coefficient-combination x ss c o.1)
 
 -- the order of two summands does not matter
-pub combination-swapped : (m n : ℤ) (t u : LinearSum) (c : ℤ) → InOrder 0 t.parts → InOrder 0 u.parts → combination ((m, t) ∷ (n, u) ∷ []) c ≡ combination ((n, u) ∷ (m, t) ∷ []) c
+pub combination-swapped : (m n : ℤ) (t u : LinearSum) (c : ℤ) → InOrder 0 t.parts → InOrder 0 u.parts → combination ((m, t) ∷ (n, u) ∷ []) c
+    ≡ combination ((n, u) ∷ (m, t) ∷ []) c
 combination-swapped m n t u c o r =
     let one = (m, t) ∷ (n, u) ∷ [] in
     let other = (n, u) ∷ (m, t) ∷ [] in
-    sum_same (combination one c).parts (combination other c).parts (combination one c).constant (combination other c).constant (same_parts 0 0 (combination one c).parts (combination other c).parts (InOrder-combination one c (o, (r, tt))) (InOrder-combination other c (r, (o, tt))) (λ x. coefficient-combination x one c (o, (r, tt)) ∙ swapped (m *ℤ coefficient x t) (n *ℤ coefficient x u) ∙ back x)) (omega (arith, ints)) where
+    sum_same (combination one c).parts (combination other c).parts (combination one c).constant (combination other c).constant
+    (same_parts 0 0 (combination one c).parts (combination other c).parts (InOrder-combination one c (o, (r, tt)))
+    (InOrder-combination other c (r, (o, tt))) (λ x. coefficient-combination x one c (o, (r, tt)) ∙ swapped (m *ℤ coefficient x t)
+    (n *ℤ coefficient x u) ∙ back x)) (omega (arith, ints)) where
       swapped : (a b : ℤ) → a +ℤ (b +ℤ pos 0) ≡ b +ℤ (a +ℤ pos 0)
       swapped a b = omega (arith, ints)
 

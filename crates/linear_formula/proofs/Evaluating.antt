@@ -44,23 +44,29 @@ pub record Step (v : ℕ → ℤ) (c : ℤ) (ps : List (ℕ × ℤ)) (sum a n : 
   pub fits : FitsSigned w128 (sum +ℤ to_z w128 (of_z w128 (term_of a n)))
   pub next : Evaluated v c ps (to_z w128 (of_z w128 (sum +ℤ to_z w128 (of_z w128 (term_of a n))))) (k + 1)
 
-pub evaluated-steps : (v : ℕ → ℤ) (c : ℤ) (ps : List (ℕ × ℤ)) (sum n b : ℤ) (k : ℕ) → Evaluated v c ps sum k → k < length ps → length ps ≤ 1024 → AllWithin ps → FitsSigned w64 b → n ≡ b → b ≡ v (at ps k).0 → Step v c ps sum (at ps k).1 n k
+pub evaluated-steps : (v : ℕ → ℤ) (c : ℤ) (ps : List (ℕ × ℤ)) (sum n b : ℤ) (k : ℕ) → Evaluated v c ps sum k → k < length ps →
+    length ps ≤ 1024 → AllWithin ps → FitsSigned w64 b → n ≡ b → b ≡ v (at ps k).0 → Step v c ps sum (at ps k).1 n k
 evaluated-steps v c ps sum n b k s h count w f e d =
     let a = (at ps k).1 in
     let la : unsigned_abs a ≤ 2 ^ 40 = AllWithin-at ps k h w in
     let lp = product_small a b la f in
     let ls : unsigned_abs sum ≤ 2 ^ 114 = omega (arith, s.limit, h, count) in
-    let t : to_z w128 (of_z w128 (term_of a n)) ≡ a *ℤ b = ap (λ z. to_z w128 (of_z w128 z)) (term_is a n b la f e) ∙ cast_wide (a *ℤ b) (omega (arith, lp)) in
+    let t : to_z w128 (of_z w128 (term_of a n)) ≡ a *ℤ b = ap (λ z. to_z w128 (of_z w128 z)) (term_is a n b la f e) ∙ cast_wide (a *ℤ b)
+    (omega (arith, lp)) in
     let u : sum +ℤ to_z w128 (of_z w128 (term_of a n)) ≡ sum +ℤ (a *ℤ b) = ap (λ z. sum +ℤ z) t in
     let small : unsigned_abs (sum +ℤ (a *ℤ b)) ≤ 2 ^ 126 = omega (arith, sum_limit sum (a *ℤ b), ls, lp) in
-    let whole : to_z w128 (of_z w128 (sum +ℤ to_z w128 (of_z w128 (term_of a n)))) ≡ sum +ℤ (a *ℤ b) = ap (λ z. to_z w128 (of_z w128 z)) u ∙ cast_wide (sum +ℤ (a *ℤ b)) small in
-    let turn : value_of_parts v (drop k ps) ≡ (a *ℤ b) +ℤ value_of_parts v (drop (k + 1) ps) = ap (value_of_parts v) (drop_at ps k h) ∙ ap (λ z. (a *ℤ z) +ℤ value_of_parts v (drop (k + 1) ps)) (sym d) in
+    let whole : to_z w128 (of_z w128 (sum +ℤ to_z w128 (of_z w128 (term_of a n)))) ≡ sum +ℤ (a *ℤ b) = ap (λ z. to_z w128 (of_z w128 z)) u
+    ∙ cast_wide (sum +ℤ (a *ℤ b)) small in
+    let turn : value_of_parts v (drop k ps) ≡ (a *ℤ b) +ℤ value_of_parts v (drop (k + 1) ps) = ap (value_of_parts v) (drop_at ps k h)
+    ∙ ap (λ z. (a *ℤ z) +ℤ value_of_parts v (drop (k + 1) ps)) (sym d) in
     record {
       fits = subst (λ z. FitsSigned w128 z) (sym u) (fits_wide (sum +ℤ (a *ℤ b)) small);
-      next = subst (λ z. Evaluated v c ps z (k + 1)) (sym whole) (record { value = omega (arith, ints, s.value, turn); limit = omega (arith, sum_limit sum (a *ℤ b), s.limit, lp) });
+      next = subst (λ z. Evaluated v c ps z (k + 1)) (sym whole)
+          (record { value = omega (arith, ints, s.value, turn); limit = omega (arith, sum_limit sum (a *ℤ b), s.limit, lp) });
     }
 
-pub evaluated-ends : (v : ℕ → ℤ) (c : ℤ) (ps : List (ℕ × ℤ)) (sum : ℤ) (k : ℕ) → Evaluated v c ps sum k → length ps ≤ k → sum ≡ value_of_parts v ps +ℤ c
+pub evaluated-ends : (v : ℕ → ℤ) (c : ℤ) (ps : List (ℕ × ℤ)) (sum : ℤ) (k : ℕ) → Evaluated v c ps sum k → length ps ≤ k →
+    sum ≡ value_of_parts v ps +ℤ c
 evaluated-ends v c ps sum k s h =
     let none : value_of_parts v (drop k ps) ≡ pos 0 = ap (value_of_parts v) (drop_all k ps h) in
     omega (arith, ints, s.value, none)

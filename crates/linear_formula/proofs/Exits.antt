@@ -5,7 +5,8 @@ use Rattle.linear_formula.specs.declared.error.LinError.{LinError}
 use Rattle.linear_formula.specs.declared.error.LinError.TheVariants.{Wide, Memory}
 
 -- it is `Wide` only where the call's was
-pub was_wide : {X Y : Type 0} (r : Result X LinError) (s : Result Y LinError) (e d : LinError) → r ≡ Err e → s ≡ Err d → d ≡ e → s ≡ Err Wide → r ≡ Err Wide
+pub was_wide : {X Y : Type 0} (r : Result X LinError) (s : Result Y LinError) (e d : LinError) → r ≡ Err e → s ≡ Err d → d ≡ e →
+    s ≡ Err Wide → r ≡ Err Wide
 was_wide r s e d p q i w = cc
 
 -- it is not `Wide` where memory ran out

@@ -47,16 +47,21 @@ scaled_cast m a h k =
 abbrev pub both_constants : ℤ → ℤ → ℤ → ℤ → ℤ
 both_constants m a n b = to_z w128 (of_z w128 (scaled_constant m a)) +ℤ to_z w128 (of_z w128 (scaled_constant n b))
 
-both_is : (m a n b : ℤ) → unsigned_abs m ≤ 2 ^ 40 → unsigned_abs a ≤ 2 ^ 84 → unsigned_abs n ≤ 2 ^ 40 → unsigned_abs b ≤ 2 ^ 84 → both_constants m a n b ≡ (m *ℤ a) +ℤ (n *ℤ b)
+both_is : (m a n b : ℤ) → unsigned_abs m ≤ 2 ^ 40 → unsigned_abs a ≤ 2 ^ 84 → unsigned_abs n ≤ 2 ^ 40 → unsigned_abs b ≤ 2 ^ 84 →
+    both_constants m a n b ≡ (m *ℤ a) +ℤ (n *ℤ b)
 both_is m a n b hm ha hn hb = rw (scaled_cast m a hm ha, scaled_cast n b hn hb) refl
 
-pub fits_both_constants : (m a n b : ℤ) → unsigned_abs m ≤ 2 ^ 40 → unsigned_abs a ≤ 2 ^ 84 → unsigned_abs n ≤ 2 ^ 40 → unsigned_abs b ≤ 2 ^ 84 → FitsSigned w128 (both_constants m a n b)
+pub fits_both_constants : (m a n b : ℤ) → unsigned_abs m ≤ 2 ^ 40 → unsigned_abs a ≤ 2 ^ 84 → unsigned_abs n ≤ 2 ^ 40 →
+    unsigned_abs b ≤ 2 ^ 84 → FitsSigned w128 (both_constants m a n b)
 fits_both_constants m a n b hm ha hn hb =
-    rw (both_is m a n b hm ha hn hb) (fits_wide ((m *ℤ a) +ℤ (n *ℤ b)) (sum_wide (m *ℤ a) (n *ℤ b) (product_wide m a hm ha) (product_wide n b hn hb)))
+    rw (both_is m a n b hm ha hn hb)
+    (fits_wide ((m *ℤ a) +ℤ (n *ℤ b)) (sum_wide (m *ℤ a) (n *ℤ b) (product_wide m a hm ha) (product_wide n b hn hb)))
 
-pub both_cast : (m a n b : ℤ) → unsigned_abs m ≤ 2 ^ 40 → unsigned_abs a ≤ 2 ^ 84 → unsigned_abs n ≤ 2 ^ 40 → unsigned_abs b ≤ 2 ^ 84 → to_z w128 (of_z w128 (both_constants m a n b)) ≡ (m *ℤ a) +ℤ (n *ℤ b)
+pub both_cast : (m a n b : ℤ) → unsigned_abs m ≤ 2 ^ 40 → unsigned_abs a ≤ 2 ^ 84 → unsigned_abs n ≤ 2 ^ 40 → unsigned_abs b ≤ 2 ^ 84 →
+    to_z w128 (of_z w128 (both_constants m a n b)) ≡ (m *ℤ a) +ℤ (n *ℤ b)
 both_cast m a n b hm ha hn hb =
-    rw (both_is m a n b hm ha hn hb) (cast_wide ((m *ℤ a) +ℤ (n *ℤ b)) (sum_wide (m *ℤ a) (n *ℤ b) (product_wide m a hm ha) (product_wide n b hn hb)))
+    rw (both_is m a n b hm ha hn hb)
+    (cast_wide ((m *ℤ a) +ℤ (n *ℤ b)) (sum_wide (m *ℤ a) (n *ℤ b) (product_wide m a hm ha) (product_wide n b hn hb)))
 
 pub both_parts_same : (m m' n n' : ℤ) (ps ps' qs : List (ℕ × ℤ)) → m' ≡ m → n' ≡ n → ps' ≡ ps → both_left m' ps' n' qs ≡ both_left m ps n qs
 both_parts_same m m' n n' ps ps' qs a b e = cc
@@ -68,30 +73,52 @@ pub one_less : (c : ℤ) → unsigned_abs c ≤ 2 ^ 84 → to_z w128 (of_z w128 
 one_less c h =
     rw (cast_wide c (omega (arith, h))) (cast_wide (pos 1 -ℤ c) (omega (arith, ints, h)))
 
-pub sum_same : (ps qs : List (ℕ × ℤ)) (c d : ℤ) → ps ≡ qs → c ≡ d → let s : LinearSum = record { parts = ps; constant = c } in let t : LinearSum = record { parts = qs; constant = d } in s ≡ t
+pub sum_same : (ps qs : List (ℕ × ℤ)) (c d : ℤ) → ps ≡ qs → c ≡ d → let s : LinearSum = record { parts = ps; constant = c } in
+    let t : LinearSum = record { parts = qs; constant = d } in s ≡ t
 sum_same ps qs c d e f = cc
 
--- ---- the results in other words
+-- The results in other words
+
 pub combination-both : (m : ℤ) (t : LinearSum) (n : ℤ) (u : LinearSum) → plus_both m t n u ≡ combination ((m, t) ∷ (n, u) ∷ []) (pos 0)
 combination-both m t n u =
-    sum_same (both_left m t.parts n u.parts) (both_left m t.parts n u.parts) ((m *ℤ t.constant) +ℤ (n *ℤ u.constant)) ((m *ℤ t.constant) +ℤ ((n *ℤ u.constant) +ℤ pos 0)) refl (omega (arith, ints))
+    sum_same (both_left m t.parts n u.parts) (both_left m t.parts n u.parts) ((m *ℤ t.constant) +ℤ (n *ℤ u.constant))
+    ((m *ℤ t.constant) +ℤ ((n *ℤ u.constant) +ℤ pos 0)) refl (omega (arith, ints))
 
-pub substituted-both : (x : ℕ) (by t : LinearSum) → IsTerm t → plus_both (coefficient x t) by (pos 1) (without_column x t) ≡ substituted x by t
+pub substituted-both : (x : ℕ) (by t : LinearSum) → IsTerm t → plus_both (coefficient x t) by (pos 1) (without_column x t) ≡ substituted x
+    by t
 substituted-both x by t k =
-    sum_same (both_left (coefficient x t) by.parts (pos 1) (without_part x t.parts)) (plus_parts (coefficient x t) by.parts (without_part x t.parts)) ((coefficient x t *ℤ by.constant) +ℤ (pos 1 *ℤ t.constant)) ((coefficient x t *ℤ by.constant) +ℤ t.constant) (ap (plus_parts (coefficient x t) by.parts) (plus_parts-once 0 (without_part x t.parts) (InOrder-without 0 x t.parts k.order))) (omega (arith, ints, one-mul t.constant))
+    sum_same (both_left (coefficient x t) by.parts (pos 1) (without_part x t.parts))
+    (plus_parts (coefficient x t) by.parts (without_part x t.parts)) ((coefficient x t *ℤ by.constant) +ℤ (pos 1 *ℤ t.constant))
+    ((coefficient x t *ℤ by.constant) +ℤ t.constant)
+    (ap (plus_parts (coefficient x t) by.parts) (plus_parts-once 0 (without_part x t.parts) (InOrder-without 0 x t.parts k.order)))
+    (omega (arith, ints, one-mul t.constant))
 
 pub substituted-absent : (x : ℕ) (by t : LinearSum) → IsTerm t → coefficient x t ≡ pos 0 → t ≡ substituted x by t
 substituted-absent x by t k e =
     let w : without_part x t.parts ≡ t.parts = without_part-absent 0 x t.parts k.order e in
-    let p : plus_parts (coefficient x t) by.parts (without_part x t.parts) ≡ t.parts = ap (λ z. plus_parts z by.parts (without_part x t.parts)) e ∙ plus_parts-zero 0 by.parts (without_part x t.parts) (InOrder-without 0 x t.parts k.order) ∙ w in
-    let q : t.constant ≡ (coefficient x t *ℤ by.constant) +ℤ t.constant = omega (arith, ints, ap (λ z. z *ℤ by.constant) e, zero-mul by.constant) in
-    sum_same t.parts (plus_parts (coefficient x t) by.parts (without_part x t.parts)) t.constant ((coefficient x t *ℤ by.constant) +ℤ t.constant) (sym p) q
+    let p : plus_parts (coefficient x t) by.parts (without_part x t.parts)
+    ≡ t.parts = ap (λ z. plus_parts z by.parts (without_part x t.parts))
+    e ∙ plus_parts-zero 0 by.parts (without_part x t.parts) (InOrder-without 0 x t.parts k.order) ∙ w in
+    let q : t.constant ≡ (coefficient x t *ℤ by.constant) +ℤ t.constant = omega (
+      arith,
+      ints,
+      ap (λ z. z *ℤ by.constant) e,
+      zero-mul by.constant,
+    )
+    in
+    sum_same t.parts (plus_parts (coefficient x t) by.parts (without_part x t.parts)) t.constant
+    ((coefficient x t *ℤ by.constant) +ℤ t.constant)
+    (sym p) q
 
-pub negated-is : (t : LinearSum) → IsTerm t → let s : LinearSum = record { parts = negated_parts t.parts; constant = pos 1 -ℤ t.constant } in s ≡ negated t
+pub negated-is : (t : LinearSum) → IsTerm t → let s : LinearSum = record { parts = negated_parts t.parts; constant = pos 1 -ℤ t.constant }
+    in
+    s ≡ negated t
 negated-is t k =
-    sum_same (negated_parts t.parts) (plus_parts (negsuc 0) t.parts []) (pos 1 -ℤ t.constant) ((negsuc 0 *ℤ t.constant) +ℤ pos 1) (sym (plus_parts-negated 0 t.parts k.order)) (omega (arith, ints))
+    sum_same (negated_parts t.parts) (plus_parts (negsuc 0) t.parts []) (pos 1 -ℤ t.constant) ((negsuc 0 *ℤ t.constant) +ℤ pos 1)
+    (sym (plus_parts-negated 0 t.parts k.order)) (omega (arith, ints))
 
-pub IsTerm-negated : (t : LinearSum) (c : ℤ) → IsTerm t → unsigned_abs c ≤ 2 ^ 84 → let s : LinearSum = record { parts = negated_parts t.parts; constant = c } in IsTerm s
+pub IsTerm-negated : (t : LinearSum) (c : ℤ) → IsTerm t → unsigned_abs c ≤ 2 ^ 84 →
+    let s : LinearSum = record { parts = negated_parts t.parts; constant = c } in IsTerm s
 IsTerm-negated t c k h = record {
   order = InOrder-negated 0 t.parts k.order;
   within = record {
@@ -101,7 +128,8 @@ IsTerm-negated t c k h = record {
   };
 }
 
--- ---- the signs, in place
+-- The signs, in place
+
 pub negated_parts-map : (ps : List (ℕ × ℤ)) → negated_parts ps ≡ map (λ p. (p.0, neg_ℤ p.1)) ps
 negated_parts-map [] = refl
 negated_parts-map (p ∷ ps) = ap (λ l. (p.0, neg_ℤ p.1) ∷ l) (negated_parts-map ps)
@@ -121,12 +149,15 @@ any_default [] k d e h = absurd (omega (arith, h))
 any_default (p ∷ ps) zero d e h = refl
 any_default (p ∷ ps) (suc k) d e h = any_default ps k d e (omega (arith, h))
 
-pub negate-step : (start now : List (ℕ × ℤ)) (k : ℕ) (a : ℤ) → k < length start → length now ≡ length start → now ≡ negated_parts (take k start) ++ drop k start → a ≡ neg_ℤ (at now k).1 → set now k ((at now k).0, a) ≡ negated_parts (take (k + 1) start) ++ drop (k + 1) start
+pub negate-step : (start now : List (ℕ × ℤ)) (k : ℕ) (a : ℤ) → k < length start → length now ≡ length start →
+    now ≡ negated_parts (take k start) ++ drop k start → a ≡ neg_ℤ (at now k).1 → set now k ((at now k).0, a) ≡ negated_parts
+    (take (k + 1) start) ++ drop (k + 1) start
 negate-step start now k a h l e n =
     let f : ℕ × ℤ → ℕ × ℤ = λ p. (p.0, neg_ℤ p.1) in
     let so_far : now ≡ map f (take k start) ++ drop k start = e ∙ ap (λ r. r ++ drop k start) (negated_parts-map (take k start)) in
     let there : at now k ≡ get_or now k (at now k) = any_default now k (0, pos 0) (at now k) (omega (arith, h, l)) in
-    ap (λ z. set now k ((at now k).0, z)) n ∙ map_over_more f start now k (at now k) h so_far there ∙ ap (λ r. r ++ drop (k + 1) start) (sym (negated_parts-map (take (k + 1) start)))
+    ap (λ z. set now k ((at now k).0, z)) n ∙ map_over_more f start now k (at now k) h so_far there ∙ ap (λ r. r ++ drop (k + 1) start)
+    (sym (negated_parts-map (take (k + 1) start)))
 
 -- a sign changed, in the code's words
 pub cast_sign : (a : ℤ) → unsigned_abs a ≤ 2 ^ 40 → to_z w128 (of_z w128 (pos 0 -ℤ to_z w128 (of_z w128 a))) ≡ neg_ℤ a
@@ -142,7 +173,8 @@ sign_small a h = rw (cast_sign a h) (omega (arith, ints, h))
 pub constant_limit : (t : LinearSum) (c : ℤ) → c ≡ t.constant → IsTrue (is_term t) → unsigned_abs c ≤ 2 ^ 84
 constant_limit t c e k = subst (λ z. unsigned_abs z ≤ 2 ^ 84) (sym e) (IsTerm-from_test t k).within.constant_limit
 
-pub both_same : (m m' : ℤ) (t : LinearSum) (n n' : ℤ) (u : LinearSum) (ps : List (ℕ × ℤ)) (c : ℤ) → m' ≡ m → n' ≡ n → ps ≡ u.parts → c ≡ u.constant → plus_both m' t n' (record { parts = ps; constant = c }) ≡ plus_both m t n u
+pub both_same : (m m' : ℤ) (t : LinearSum) (n n' : ℤ) (u : LinearSum) (ps : List (ℕ × ℤ)) (c : ℤ) → m' ≡ m → n' ≡ n → ps ≡ u.parts →
+    c ≡ u.constant → plus_both m' t n' (record { parts = ps; constant = c }) ≡ plus_both m t n u
 both_same m m' t n n' u ps c em en ep ec =
     let P : ℤ → ℤ → LinearSum → Type 0 = λ x y z. plus_both m' t n' (record { parts = ps; constant = c }) ≡ plus_both x t y z in
     subst (λ x. P x n u) em (subst (λ y. P m' y u) en (ap (plus_both m' t n') (sum_same ps u.parts c u.constant ep ec)))

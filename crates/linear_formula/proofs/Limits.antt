@@ -47,19 +47,30 @@ so_lt : (a b : ℕ) → a < b → IsTrue (nat_lt a b)
 so_lt a b h = so_is (nat_lt a b) (lt-ltb a b h)
 
 -- the tests say the order
-pub InOrder-from_tests : (low : ℕ) (ps : List (ℕ × ℤ)) → IsTrue (is_ascending_from low ps) → IsTrue (has_no_zero ps) → IsTrue (has_columns ps) → InOrder low ps
+pub InOrder-from_tests : (low : ℕ) (ps : List (ℕ × ℤ)) → IsTrue (is_ascending_from low ps) → IsTrue (has_no_zero ps) →
+    IsTrue (has_columns ps) → InOrder low ps
 InOrder-from_tests low [] a z c = tt
 InOrder-from_tests low (p ∷ ps) a z c =
     let as_ = both (nat_le low p.0) (is_ascending_from (p.0 + 1) ps) a in
     let zs = both (not (is_zero p.1)) (has_no_zero ps) z in
-    let cs = both (nat_lt p.0 (2 ^ 32)) (has_columns ps) c in
-    (le_so low p.0 as_.0, lt_so p.0 (2 ^ 32) cs.0, apart_from_zero p.1 (not_so (is_zero p.1) zs.0), InOrder-from_tests (p.0 + 1) ps as_.1 zs.1 cs.1)
+    let cs = both (nat_lt p.0 (2 ^ 32)) (has_columns ps) c in (
+      le_so low p.0 as_.0,
+      lt_so p.0 (2 ^ 32) cs.0,
+      apart_from_zero p.1 (not_so (is_zero p.1) zs.0),
+      InOrder-from_tests (p.0 + 1) ps as_.1
+          zs.1 cs.1,
+    )
 
-pub tests-from_InOrder : (low : ℕ) (ps : List (ℕ × ℤ)) → InOrder low ps → IsTrue (is_ascending_from low ps) × IsTrue (has_no_zero ps) × IsTrue (has_columns ps)
+pub tests-from_InOrder : (low : ℕ) (ps : List (ℕ × ℤ)) → InOrder low ps → IsTrue (is_ascending_from low ps) × IsTrue (has_no_zero ps)
+    × IsTrue (has_columns ps)
 tests-from_InOrder low [] o = (refl, refl, refl)
 tests-from_InOrder low (p ∷ ps) o =
-    let rest = tests-from_InOrder (p.0 + 1) ps o.3 in
-    (both_in (nat_le low p.0) (is_ascending_from (p.0 + 1) ps) (so_le low p.0 o.0) rest.0, both_in (not (is_zero p.1)) (has_no_zero ps) (so_not (is_zero p.1) (nonzero_test p.1 o.2)) rest.1, both_in (nat_lt p.0 (2 ^ 32)) (has_columns ps) (so_lt p.0 (2 ^ 32) o.1) rest.2)
+    let rest = tests-from_InOrder (p.0 + 1) ps o.3 in (
+      both_in (nat_le low p.0) (is_ascending_from (p.0 + 1) ps) (so_le low p.0 o.0) rest.0,
+      both_in (not (is_zero p.1)) (has_no_zero ps)
+          (so_not (is_zero p.1) (nonzero_test p.1 o.2)) rest.1,
+      both_in (nat_lt p.0 (2 ^ 32)) (has_columns ps) (so_lt p.0 (2 ^ 32) o.1) rest.2,
+    )
 
 pub AllWithin-from_test : (ps : List (ℕ × ℤ)) → IsTrue (are_coefficients_within ps) → AllWithin ps
 AllWithin-from_test [] h = tt
@@ -70,7 +81,8 @@ AllWithin-from_test (p ∷ ps) h =
 pub test-from_AllWithin : (ps : List (ℕ × ℤ)) → AllWithin ps → IsTrue (are_coefficients_within ps)
 test-from_AllWithin [] h = refl
 test-from_AllWithin (p ∷ ps) h =
-    both_in (nat_le (unsigned_abs p.1) (2 ^ 40)) (are_coefficients_within ps) (so_le (unsigned_abs p.1) (2 ^ 40) h.0) (test-from_AllWithin ps h.1)
+    both_in (nat_le (unsigned_abs p.1) (2 ^ 40)) (are_coefficients_within ps) (so_le (unsigned_abs p.1) (2 ^ 40) h.0)
+    (test-from_AllWithin ps h.1)
 
 -- the three limits
 pub record Within (t : LinearSum) : Type 0 where
@@ -90,7 +102,9 @@ Within-from_test t h =
 
 pub test-from_Within : (t : LinearSum) → Within t → IsTrue (is_within t)
 test-from_Within t w =
-    both_in (nat_le (length t.parts) 1024 && are_coefficients_within t.parts) (nat_le (unsigned_abs t.constant) (2 ^ 84)) (both_in (nat_le (length t.parts) 1024) (are_coefficients_within t.parts) (so_le (length t.parts) 1024 w.count) (test-from_AllWithin t.parts w.coefficients)) (so_le (unsigned_abs t.constant) (2 ^ 84) w.constant_limit)
+    both_in (nat_le (length t.parts) 1024 && are_coefficients_within t.parts) (nat_le (unsigned_abs t.constant) (2 ^ 84))
+    (both_in (nat_le (length t.parts) 1024) (are_coefficients_within t.parts) (so_le (length t.parts) 1024 w.count)
+    (test-from_AllWithin t.parts w.coefficients)) (so_le (unsigned_abs t.constant) (2 ^ 84) w.constant_limit)
 
 -- what a term is
 pub record IsTerm (t : LinearSum) : Type 0 where
@@ -110,12 +124,16 @@ IsTerm-from_test t h =
 -- the columns of a term ascend
 pub term-ascends : (t : LinearSum) → IsTrue (is_term t) → IsTrue (is_ascending t.parts)
 term-ascends t h =
-    (both (is_ascending t.parts) (has_no_zero t.parts) (both (is_ascending t.parts && has_no_zero t.parts) (has_columns t.parts) (both (is_ascending t.parts && has_no_zero t.parts && has_columns t.parts) (is_within t) h).0).0).0
+    (both (is_ascending t.parts) (has_no_zero t.parts) (both (is_ascending t.parts && has_no_zero t.parts) (has_columns t.parts)
+    (both (is_ascending t.parts && has_no_zero t.parts && has_columns t.parts) (is_within t) h).0).0).0
 
 pub test-from_IsTerm : (t : LinearSum) → IsTerm t → IsTrue (is_term t)
 test-from_IsTerm t k =
     let ts = tests-from_InOrder 0 t.parts k.order in
-    both_in (is_ascending t.parts && has_no_zero t.parts && has_columns t.parts) (is_within t) (both_in (is_ascending t.parts && has_no_zero t.parts) (has_columns t.parts) (both_in (is_ascending t.parts) (has_no_zero t.parts) ts.0 ts.1) ts.2) (test-from_Within t k.within)
+    both_in (is_ascending t.parts && has_no_zero t.parts && has_columns t.parts) (is_within t)
+    (both_in (is_ascending t.parts && has_no_zero t.parts) (has_columns t.parts) (both_in (is_ascending t.parts) (has_no_zero t.parts) ts.0
+    ts.1)
+    ts.2) (test-from_Within t k.within)
 
 -- a coefficient is within the limit, and so is that of each column
 pub AllWithin-listed : (y : ℕ) (ps : List (ℕ × ℤ)) → AllWithin ps → unsigned_abs (listed_at y ps) ≤ 2 ^ 40

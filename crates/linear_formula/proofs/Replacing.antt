@@ -20,10 +20,13 @@ pub cast_multiplier : (a : ℤ) → unsigned_abs a ≤ 2 ^ 40 → to_z w64 (of_z
 cast_multiplier a h = to_z-of_z (fits_multiplier a h) ∙ cast_wide a (omega (arith, h))
 
 -- a summand more
-pub summands-step : (by : ℕ → LinearSum) (ps : List (ℕ × ℤ)) (out new all : List (ℤ × LinearSum)) (k : ℕ) (m : ℤ) (t : LinearSum) → out ++ summands_of_parts by (drop k ps) ≡ all → k < length ps → m ≡ (at ps k).1 → t ≡ by (at ps k).0 → new ≡ out ++ (m, t) ∷ [] → new ++ summands_of_parts by (drop (k + 1) ps) ≡ all
+pub summands-step : (by : ℕ → LinearSum) (ps : List (ℕ × ℤ)) (out new all : List (ℤ × LinearSum)) (k : ℕ) (m : ℤ) (t : LinearSum) →
+    out ++ summands_of_parts by (drop k ps) ≡ all → k < length ps → m ≡ (at ps k).1 → t ≡ by (at ps k).0 → new ≡ out ++ (m, t) ∷ [] →
+    new ++ summands_of_parts by (drop (k + 1) ps) ≡ all
 summands-step by ps out new all k m t i h em et en =
     let rest = summands_of_parts by (drop (k + 1) ps) in
-    let now : (m, t) ∷ rest ≡ summands_of_parts by (drop k ps) = ap (λ z. (z, t) ∷ rest) em ∙ ap (λ u. ((at ps k).1, u) ∷ rest) et ∙ sym (ap (summands_of_parts by) (drop_at ps k h)) in
+    let now : (m, t) ∷ rest ≡ summands_of_parts by (drop k ps) = ap (λ z. (z, t) ∷ rest) em ∙ ap (λ u. ((at ps k).1, u) ∷ rest) et
+    ∙ sym (ap (summands_of_parts by) (drop_at ps k h)) in
     ap (λ l. l ++ rest) en ∙ append_assoc out ((m, t) ∷ []) rest ∙ ap (λ l. out ++ l) now ∙ i
 
 pub constant-term : (t : LinearSum) → IsTrue (is_term t) → IsTrue (is_term (constant_sum t.constant))
@@ -42,7 +45,8 @@ column-term x h = test-from_IsTerm (column_sum x) (record {
 pub value-column : (v : ℕ → ℤ) (x : ℕ) → value_of v (column_sum x) ≡ v x
 value-column v x = omega (arith, ints)
 
-summands-value : (v : ℕ → ℤ) (by : ℕ → LinearSum) (ps : List (ℕ × ℤ)) (c : ℤ) → combination_value v (summands_of_parts by ps ++ (pos 1, constant_sum c) ∷ []) (pos 0) ≡ value_of_parts (replaced_valuation by v) ps +ℤ c
+summands-value : (v : ℕ → ℤ) (by : ℕ → LinearSum) (ps : List (ℕ × ℤ)) (c : ℤ) →
+    combination_value v (summands_of_parts by ps ++ (pos 1, constant_sum c) ∷ []) (pos 0) ≡ value_of_parts (replaced_valuation by v) ps +ℤ c
 summands-value v by [] c = omega (arith, ints)
 summands-value v by (p ∷ ps) c = omega (arith, ints, summands-value v by ps c)
 

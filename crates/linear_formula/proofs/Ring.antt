@@ -16,7 +16,18 @@ add-mul a b c =
 
 pub mul-assoc : (a b c : ℤ) → (a *ℤ b) *ℤ c ≡ a *ℤ (b *ℤ c)
 mul-assoc a b c =
-    omega (arith, ints, ap (λ n. n * up c) (product_is a b).0, ap (λ n. n * down c) (product_is a b).0, ap (λ n. n * up c) (product_is a b).1, ap (λ n. n * down c) (product_is a b).1, ap (λ n. up a * n) (product_is b c).0, ap (λ n. down a * n) (product_is b c).0, ap (λ n. up a * n) (product_is b c).1, ap (λ n. down a * n) (product_is b c).1)
+    omega (
+      arith,
+      ints,
+      ap (λ n. n * up c) (product_is a b).0,
+      ap (λ n. n * down c) (product_is a b).0,
+      ap (λ n. n * up c) (product_is a b).1,
+      ap (λ n. n * down c) (product_is a b).1,
+      ap (λ n. up a * n) (product_is b c).0,
+      ap (λ n. down a * n) (product_is b c).0,
+      ap (λ n. up a * n) (product_is b c).1,
+      ap (λ n. down a * n) (product_is b c).1,
+    )
 
 pub zero-mul : (a : ℤ) → pos 0 *ℤ a ≡ pos 0
 zero-mul a = omega (arith, ints)

@@ -25,7 +25,8 @@ at-ascends low (suc i) (suc j) (p ∷ ps) a h k =
     let as_ = both (nat_le low p.0) (is_ascending_from (p.0 + 1) ps) a in
     at-ascends (p.0 + 1) i j ps as_.1 (omega (arith, h)) (omega (arith, k))
 
-pub listed-at_place : (low x k : ℕ) (ps : List (ℕ × ℤ)) → IsTrue (is_ascending_from low ps) → k < length ps → (at ps k).0 ≡ x → listed_at x ps ≡ (at ps k).1
+pub listed-at_place : (low x k : ℕ) (ps : List (ℕ × ℤ)) → IsTrue (is_ascending_from low ps) → k < length ps → (at ps k).0 ≡ x →
+    listed_at x ps ≡ (at ps k).1
 listed-at_place low x k [] a h e = absurd (omega (arith, h))
 listed-at_place low x zero (p ∷ ps) a h e =
     let here : (x == p.0) ≡ true = eq-eqb x p.0 (sym e) in
@@ -56,7 +57,8 @@ between-begins ps x = record {
   above = λ k h d. absurd (omega (arith, h, d));
 }
 
-pub between-up : (ps : List (ℕ × ℤ)) (x low high middle : ℕ) → IsTrue (is_ascending ps) → Between ps x low high → low ≤ middle → middle < high → (at ps middle).0 < x → Between ps x (middle + 1) high
+pub between-up : (ps : List (ℕ × ℤ)) (x low high middle : ℕ) → IsTrue (is_ascending ps) → Between ps x low high → low ≤ middle →
+    middle < high → (at ps middle).0 < x → Between ps x (middle + 1) high
 between-up ps x low high middle a b h k lt = record {
   ordered = omega (arith, k);
   bound = b.bound;
@@ -69,7 +71,8 @@ between-up ps x low high middle a b h k lt = record {
       let less : j < middle = omega (arith, d, eqb_apart j middle e) in
       omega (arith, at-ascends 0 j middle ps a less (omega (arith, k, b.bound)), lt)
 
-pub between-down : (ps : List (ℕ × ℤ)) (x low high middle : ℕ) → IsTrue (is_ascending ps) → Between ps x low high → low ≤ middle → middle < high → x < (at ps middle).0 → Between ps x low middle
+pub between-down : (ps : List (ℕ × ℤ)) (x low high middle : ℕ) → IsTrue (is_ascending ps) → Between ps x low high → low ≤ middle →
+    middle < high → x < (at ps middle).0 → Between ps x low middle
 between-down ps x low high middle a b h k lt = record {
   ordered = h;
   bound = omega (arith, k, b.bound);

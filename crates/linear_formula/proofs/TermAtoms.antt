@@ -12,7 +12,8 @@ are_terms-append (a ∷ as_) bs h k =
     let hs = both (is_term a.term) (are_terms as_) h in
     both_in (is_term a.term) (are_terms (as_ ++ bs)) hs.0 (are_terms-append as_ bs hs.1 k)
 
-pub are_terms-push : (atoms : List Atom) (a : Atom) → IsTrue (are_terms atoms) → IsTrue (is_term a.term) → IsTrue (are_terms (atoms ++ a ∷ []))
+pub are_terms-push : (atoms : List Atom) (a : Atom) → IsTrue (are_terms atoms) → IsTrue (is_term a.term) →
+    IsTrue (are_terms (atoms ++ a ∷ []))
 are_terms-push atoms a h k = are_terms-append atoms (a ∷ []) h (both_in (is_term a.term) true k refl)
 
 -- the atoms of each part of a list are terms

@@ -14,7 +14,8 @@ HoldsAll v (atom ∷ atoms) = Holds v atom × HoldsAll v atoms
 
 abbrev pub renamed_atoms_by : (ℕ → ℕ) → List Atom → List Atom
 renamed_atoms_by new_of [] = []
-renamed_atoms_by new_of (atom ∷ atoms) = record { term = renamed_by new_of atom.term } ∷ renamed_atoms_by new_of atoms
+renamed_atoms_by new_of (atom ∷ atoms) = record { term = renamed_by new_of atom.term }
+    ∷ renamed_atoms_by new_of atoms
 
 abbrev pub renamed_atoms : List (ℕ × ℕ) → List Atom → List Atom
 renamed_atoms map atoms = renamed_atoms_by (renamed_column map) atoms

@@ -9,7 +9,8 @@ use Rattle.linear_formula.specs.declared.formula.Atom.{Atom}
 -- a renamed sum has the value that the sum has where each column stands for the new one
 abbrev pub RenamesValues : Type 0
 RenamesValues =
-    (v : Valuation) (f : ℕ → ℕ) (t : LinearSum) → value_of v (renamed_by f t) ≡ value_of (λ x. v (f x)) t
+    (v : Valuation) (f : ℕ → ℕ) (t : LinearSum) → value_of v (renamed_by f t)
+    ≡ value_of (λ x. v (f x)) t
 
 abbrev pub RenamesHolding : Type 0
 RenamesHolding =

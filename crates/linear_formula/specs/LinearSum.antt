@@ -71,12 +71,14 @@ max_constant = 2 ^ 84
 
 abbrev pub are_coefficients_within : List (ℕ × ℤ) → Bool
 are_coefficients_within [] = true
-are_coefficients_within (p ∷ ps) = nat_le (unsigned_abs p.1) max_coefficient && are_coefficients_within ps
+are_coefficients_within (p ∷ ps) = nat_le (unsigned_abs p.1) max_coefficient &&
+    are_coefficients_within ps
 
 -- the three limits
 abbrev pub is_within : LinearSum → Bool
 is_within t =
-    nat_le (length t.parts) max_parts && are_coefficients_within t.parts && nat_le (unsigned_abs t.constant) max_constant
+    nat_le (length t.parts) max_parts && are_coefficients_within t.parts && nat_le
+    (unsigned_abs t.constant) max_constant
 
 -- columns in order, no coefficient 0, and the limits
 abbrev pub is_term : LinearSum → Bool

@@ -10,7 +10,8 @@ put_part x a ps = if is_zero a then ps else ((x, a) ∷ ps)
 abbrev pub with_part : ℕ → ℤ → List (ℕ × ℤ) → List (ℕ × ℤ)
 with_part x a [] = put_part x a []
 with_part x a (p ∷ ps) =
-    if nat_lt x p.0 then put_part x a (p ∷ ps) else (if x == p.0 then put_part x (a +ℤ p.1) ps else (p ∷ with_part x a ps))
+    if nat_lt x p.0 then put_part x a (p ∷ ps) else (if x == p.0 then put_part x (a +ℤ p.1) ps else
+    (p ∷ with_part x a ps))
 
 -- m times the first parts, and the second
 abbrev pub plus_parts : ℤ → List (ℕ × ℤ) → List (ℕ × ℤ) → List (ℕ × ℤ)

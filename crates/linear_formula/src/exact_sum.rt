@@ -72,7 +72,8 @@ impl ExactSum {
     /// The sum, where it is not far beyond the limits of terms.
     pub fn value(self) -> Option<i128>
         requires { unsigned_abs self.low < 2 ^ 96 }
-        ensures { MatchOption result (2 ^ 96 ≤ unsigned_abs (exact_value self)) (λ z. z ≡ exact_value self) }
+        ensures { MatchOption result (2 ^ 96 ≤ unsigned_abs (exact_value self))
+            (λ z. z ≡ exact_value self) }
     {
         if self.high > 1 || self.high < -1 {
             None

@@ -1,6 +1,6 @@
 // Atoms and cubes.
 
-ghost use Rattle.std.specs.Prelude.{◌≡◌, ◌++◌, ◌∷◌, [], ◌↔◌, ◌≤ℤ◌, ◌-ℤ◌, ℕ, ℤ, pos, unwrap_or, IfOk, OnOk, OnErr, IsErrOf, IsTrue};
+ghost use Rattle.std.specs.Prelude.{◌≡◌, ◌++◌, ◌∷◌, [], ◌↔◌, ℕ, ℤ, unwrap_or, IfOk, OnOk, OnErr, IsErrOf, IsTrue};
 ghost use Rattle.std.specs.BTreeMap.{get};
 ghost use Rattle.std.specs.Ordering.{nat_cmp};
 ghost use Rattle.linear_formula.specs.LinearSum.{value_of, valuation, is_term, is_within};
@@ -180,8 +180,10 @@ impl Atom {
         ensures value { IfOk result (λ atom. atom.term ≡ substituted column by.now self.now.term) }
         ensures kept { IfOk result (λ atom. IsTrue (is_term atom.term)) }
         ensures law { IfOk result
-            (λ atom. (v : ℕ → ℤ) → value_of v atom.term ≡ value_of (valuation_with v column (value_of v by.now)) self.now.term) }
-        ensures wide { IsErrOf result LinError.Wide → ¬ IsTrue (is_within (substituted column by.now self.now.term)) }
+            (λ atom. (v : ℕ → ℤ) → value_of v atom.term
+            ≡ value_of (valuation_with v column (value_of v by.now)) self.now.term) }
+        ensures wide { IsErrOf result LinError.Wide →
+            ¬ IsTrue (is_within (substituted column by.now self.now.term)) }
     {
         let term = self.term.substitute(alloc, column, by)?;
         Ok(Atom { term })
@@ -222,7 +224,8 @@ fn rename_onto(
     atoms: &[Atom],
 ) -> Result<(), LinError>
     ensures items { OnOk result
-        (out.new ≡ out.old ++ renamed_atoms_by (λ x. unwrap_or (get nat_cmp columns.now x) x) atoms.now) }
+        (out.new ≡ out.old ++ renamed_atoms_by (λ x. unwrap_or (get nat_cmp columns.now x) x)
+        atoms.now) }
     ensures within { OnOk result (IsTrue (are_within out.old) → IsTrue (are_within out.new)) }
     ensures wide { IsErrOf result LinError.Wide → ¬ IsTrue
         (are_within (renamed_atoms_by (λ x. unwrap_or (get nat_cmp columns.now x) x) atoms.now)) }
@@ -283,9 +286,11 @@ impl Cube {
         requires { IsTrue (is_renaming map.now) }
         ensures value { IfOk result (λ cube. cube.atoms ≡ renamed_atoms map.now self.now.atoms) }
         ensures law { IfOk result
-            (λ cube. (v : ℕ → ℤ) → (HoldsAll v cube.atoms ↔ HoldsAll (renamed_valuation map.now v) self.now.atoms)) }
+            (λ cube. (v : ℕ → ℤ) →
+            (HoldsAll v cube.atoms ↔ HoldsAll (renamed_valuation map.now v) self.now.atoms)) }
         ensures within { IfOk result (λ cube. IsTrue (are_within cube.atoms)) }
-        ensures wide { IsErrOf result LinError.Wide → ¬ IsTrue (are_within (renamed_atoms map.now self.now.atoms)) }
+        ensures wide { IsErrOf result LinError.Wide →
+            ¬ IsTrue (are_within (renamed_atoms map.now self.now.atoms)) }
     {
         let columns = new_columns(alloc, map)?;
         let old = self.atoms.as_slice();

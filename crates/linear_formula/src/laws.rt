@@ -1,4 +1,5 @@
-//! Laws of the definitions that contracts cite, for the crates above. These functions compute nothing.
+//! Laws of the definitions that contracts cite, for the crates above. These functions compute
+//! nothing.
 
 ghost use Rattle.std.specs.Prelude.{◌≡◌, pos};
 ghost use Rattle.linear_formula.specs.LinearSum.{max_parts, max_coefficient, max_constant};

@@ -26,7 +26,8 @@ pub fn column_term(alloc: Global, column: u32) -> Result<Term, OutOfMemory>
     Ok(Term::new(Parts::from_vec(parts), 0))
 }
 
-/// What has to be added up to put the terms of a reading in the places of a term's columns: a multiple for each part, in
+/// What has to be added up to put the terms of a reading in the places of a term's columns: a
+/// multiple for each part, in
 /// order, and then the constant. `Term::combine` adds it up.
 pub fn summands<R: Reading>(
     alloc: Global,

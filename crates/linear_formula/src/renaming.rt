@@ -15,7 +15,8 @@ pub type NewColumns = BTreeMap<u32, u32>;
 
 /// The new number of each listed column.
 pub fn new_columns(alloc: Global, map: &[(u32, u32)]) -> Result<NewColumns, OutOfMemory>
-    ensures { IfOk result (λ m. (x : ℕ) → unwrap_or (get nat_cmp m x) x ≡ renamed_column map.now x) }
+    ensures { IfOk result (λ m. (x : ℕ) → unwrap_or (get nat_cmp m x) x ≡ renamed_column map.now
+        x) }
 {
     let mut columns = BTreeMap::new(alloc);
     let mut left = map.len();
@@ -45,7 +46,8 @@ pub fn add_renamed(
     requires limits { AllWithin parts.now }
     requires empty { sums.old.parts ≡ [] }
     requires room { sums.old.adds + length parts.now ≤ 2 ^ 73 }
-    ensures { OnOk result (sums.new.parts ≡ renamed_parts (λ x. unwrap_or (get nat_cmp columns.now x) x) parts.now) }
+    ensures { OnOk result
+        (sums.new.parts ≡ renamed_parts (λ x. unwrap_or (get nat_cmp columns.now x) x) parts.now) }
 {
     let mut left = parts.len();
     while left > 0 {

@@ -62,7 +62,8 @@ impl Sums {
     ) -> Result<(), OutOfMemory>
         requires limit { unsigned_abs coefficient ≤ 2 ^ 84 }
         requires room { self.old.adds < 2 ^ 73 }
-        ensures parts { OnOk result (self.new.parts ≡ with_part column (multiplier *ℤ coefficient) self.old.parts) }
+        ensures parts { OnOk result (self.new.parts ≡ with_part column (multiplier *ℤ coefficient)
+            self.old.parts) }
         ensures adds { OnOk result (self.new.adds ≡ self.old.adds + 1) }
     {
         let sum = sum_at(&self.sums, column).plus_product(multiplier, coefficient);
@@ -75,7 +76,8 @@ impl Sums {
     pub fn add_all(&mut self, multiplier: i64, parts: &[(u32, i128)]) -> Result<(), OutOfMemory>
         requires limits { AllWithin parts.now }
         requires room { self.old.adds + length parts.now ≤ 2 ^ 73 }
-        ensures parts { OnOk result (self.new.parts ≡ plus_parts multiplier parts.now self.old.parts) }
+        ensures parts { OnOk result (self.new.parts ≡ plus_parts multiplier parts.now
+            self.old.parts) }
         ensures adds { OnOk result (self.new.adds ≡ self.old.adds + length parts.now) }
     {
         let mut left = parts.len();

@@ -181,12 +181,15 @@ impl Term {
         })
     }
 
-    /// The sum of the multiples and of the constant. No partial sum is ever too wide: only the result counts.
+    /// The sum of the multiples and of the constant. No partial sum is ever too wide: only the
+    /// result counts.
     pub fn combine(alloc: Global, parts: &[(i64, Term)], constant: i64) -> Result<Term, LinError>
         ensures value { IfOk result (λ t. t ≡ combination parts.now constant) }
         ensures kept { IfOk result (λ t. IsTrue (is_term t)) }
-        ensures law { IfOk result (λ t. (v : ℕ → ℤ) → value_of v t ≡ combination_value v parts.now constant) }
-        ensures wide { IsErrOf result LinError.Wide → ¬ IsTrue (is_within (combination parts.now constant)) }
+        ensures law { IfOk result (λ t. (v : ℕ → ℤ) → value_of v t ≡ combination_value v parts.now
+            constant) }
+        ensures wide { IsErrOf result LinError.Wide →
+            ¬ IsTrue (is_within (combination parts.now constant)) }
     {
         let mut sums = Sums::new(alloc);
         let mut total = ExactSum::new(constant);
@@ -214,10 +217,12 @@ impl Term {
     ) -> Result<Term, LinError>
         requires first_limit { unsigned_abs first ≤ max_coefficient }
         requires second_limit { unsigned_abs second ≤ max_coefficient }
-        ensures value { IfOk result (λ t. t ≡ combination ((first, left.now) ∷ (second, right.now) ∷ []) (pos 0)) }
+        ensures value { IfOk result
+            (λ t. t ≡ combination ((first, left.now) ∷ (second, right.now) ∷ []) (pos 0)) }
         ensures kept { IfOk result (λ t. IsTrue (is_term t)) }
         ensures law { IfOk result
-            (λ t. (v : ℕ → ℤ) → value_of v t ≡ combination_value v ((first, left.now) ∷ (second, right.now) ∷ []) (pos 0)) }
+            (λ t. (v : ℕ → ℤ) → value_of v t ≡ combination_value v
+            ((first, left.now) ∷ (second, right.now) ∷ []) (pos 0)) }
         ensures wide { IsErrOf result LinError.Wide → ¬ IsTrue
             (is_within (combination ((first, left.now) ∷ (second, right.now) ∷ []) (pos 0))) }
     {
@@ -237,8 +242,11 @@ impl Term {
         ensures value { IfOk result (λ t. t ≡ substituted column by.now self.now) }
         ensures kept { IfOk result (λ t. IsTrue (is_term t)) }
         ensures law { IfOk result
-            (λ t. (v : ℕ → ℤ) → value_of v t ≡ value_of (valuation_with v column (value_of v by.now)) self.now) }
-        ensures wide { IsErrOf result LinError.Wide → ¬ IsTrue (is_within (substituted column by.now self.now)) }
+            (λ t. (v : ℕ → ℤ) → value_of v t
+            ≡ value_of (valuation_with v column (value_of v by.now))
+            self.now) }
+        ensures wide { IsErrOf result LinError.Wide →
+            ¬ IsTrue (is_within (substituted column by.now self.now)) }
     {
         let coefficient = coefficient_of(self.parts(), column);
         if coefficient == 0 {
@@ -259,7 +267,8 @@ impl Term {
 
     /// Gives the columns their new numbers.
     pub fn rename(&self, alloc: Global, columns: &NewColumns) -> Result<Term, LinError>
-        ensures value { IfOk result (λ t. t ≡ renamed_by (λ x. unwrap_or (get nat_cmp columns.now x) x) self.now) }
+        ensures value { IfOk result
+            (λ t. t ≡ renamed_by (λ x. unwrap_or (get nat_cmp columns.now x) x) self.now) }
         ensures kept { IfOk result (λ t. IsTrue (is_term t)) }
         ensures wide { IsErrOf result LinError.Wide → ¬ IsTrue
             (is_within (renamed_by (λ x. unwrap_or (get nat_cmp columns.now x) x) self.now)) }
@@ -274,7 +283,8 @@ impl Term {
     pub fn negate(&mut self) -> Result<(), LinError>
         ensures value { OnOk result (self.new ≡ negated self.old) }
         ensures kept { OnOk result (IsTrue (is_term self.new)) }
-        ensures law { OnOk result ((v : ℕ → ℤ) → value_of v self.new ≡ pos 1 -ℤ value_of v self.old) }
+        ensures law { OnOk result ((v : ℕ → ℤ) → value_of v self.new ≡ pos 1 -ℤ value_of v
+            self.old) }
         ensures wide { OnErr result (¬ IsTrue (is_within (negated self.old))) }
         ensures unchanged { OnErr result (self.new ≡ self.old) }
         ensures error { IsErrOf result LinError.Memory → ⊥ }
@@ -303,10 +313,12 @@ impl Term {
         requires limits { AllWithin right.now }
         requires constant_limit { unsigned_abs right_constant ≤ 2 ^ 84 }
         ensures value { IfOk result
-            (λ t. t ≡ plus_both first left.now second (record { parts = right.now; constant = right_constant })) }
+            (λ t. t ≡ plus_both first left.now second
+            (record { parts = right.now; constant = right_constant })) }
         ensures kept { IfOk result (λ t. IsTrue (is_term t)) }
         ensures wide { IsErrOf result LinError.Wide → ¬ IsTrue
-            (is_within (plus_both first left.now second (record { parts = right.now; constant = right_constant }))) }
+            (is_within (plus_both first left.now second
+            (record { parts = right.now; constant = right_constant }))) }
     {
         let parts = merged(alloc, first, left.parts(), second, right)?;
         Term::finished(parts, first * left.constant() + second * right_constant)
@@ -318,7 +330,8 @@ impl Term {
         requires limits { AllWithin items.items }
         ensures value { IfOk result (λ t. t ≡ record { parts = items.items; constant = constant }) }
         ensures kept { IfOk result (λ t. IsTrue (is_term t)) }
-        ensures wide { OnErr result (¬ IsTrue (is_within (record { parts = items.items; constant = constant }))) }
+        ensures wide { OnErr result
+            (¬ IsTrue (is_within (record { parts = items.items; constant = constant }))) }
     {
         if items.len() > MAX_PARTS || constant > MAX_CONSTANT || constant < -MAX_CONSTANT {
             return Err(LinError::Wide);

@@ -16,7 +16,6 @@ use Rattle.shadow_elim.specs.Shadows.{KeepsAll, NamesNone, LosesNone}
 use Rattle.shadow_elim.specs.Sums.{total, rows_of_sums, row_sums}
 use Rattle.shadow_elim.proofs.Summing.{sums-hold, hold-sums, holds-same, sums-append, sums-split}
 use Rattle.flow_graph.specs.declared.graph.Lin.{Lin}
-use Rattle.flow_graph.specs.declared.graph.Edge.{Edge}
 use Rattle.flow_graph.specs.declared.graph.Edge.TheVariants.{Entry, Assign, Guard, Input, Pick, Assert, Return}
 use Rattle.flow_graph.specs.Runs.{inside, left, failing, lin_value}
 use Rattle.flow_graph.specs.WellFormed.{max_slots, names_slots}
@@ -28,25 +27,41 @@ use Rattle.weakest_pre.specs.Predecessors.{HoldsPredecessors, HoldsNoOther}
 use Rattle.weakest_pre.proofs.Agreeing.{value-bounds, bounds-value, value-is64, is64-value, holds-agree, agree-back, holds-append, holds-split, rows-absent, other}
 use Rattle.weakest_pre.proofs.Places.{slots-agree, entry-reads, one-reads, behind-agrees, changed, value-assigned, return-reads}
 
--- ---- rows that are read
-read-holds : (v : Valuation) (by : ℕ → LinearSum) (target atoms : List Atom) → atoms ≡ rows_of_sums (row_sums by target) → HoldsAll (replaced_valuation by v) target → HoldsAll v atoms
+-- Rows that are read
+
+read-holds : (v : Valuation) (by : ℕ → LinearSum) (target atoms : List Atom) → atoms ≡ rows_of_sums (row_sums by target) →
+    HoldsAll (replaced_valuation by v) target → HoldsAll v atoms
 read-holds v by target atoms e h = subst (HoldsAll v) (sym e) (sums-hold v by target h)
 
-holds-read : (v : Valuation) (by : ℕ → LinearSum) (target atoms : List Atom) → atoms ≡ rows_of_sums (row_sums by target) → HoldsAll v atoms → HoldsAll (replaced_valuation by v) target
+holds-read : (v : Valuation) (by : ℕ → LinearSum) (target atoms : List Atom) → atoms ≡ rows_of_sums (row_sums by target) →
+    HoldsAll v atoms →
+    HoldsAll (replaced_valuation by v) target
 holds-read v by target atoms e h = hold-sums v by target (subst (HoldsAll v) e h)
 
--- ---- the entry
+-- The entry
+
 module _ (to params : ℕ) (target atoms : List Atom) (e : atoms ≡ rows_of_sums (row_sums (entry_reading params) target)) where
   pub entry-holds : HoldsPredecessors (Entry to params) target atoms
-  entry-holds = λ f s entry vs es g.
-      (g.0, read-holds (valuation_of entry []) (entry_reading params) target atoms e (holds-same (columns_of (entered entry) entry []) (replaced_valuation (entry_reading params) (valuation_of entry [])) target (λ x. sym (entry-reads params entry x g.0)) g.1.1))
+  entry-holds = λ f s entry vs es g. (
+    g.0,
+    read-holds (valuation_of entry []) (entry_reading params) target atoms e (holds-same (columns_of (entered entry) entry [])
+        (replaced_valuation (entry_reading params) (valuation_of entry [])) target (λ x. sym (entry-reads params entry x g.0)) g.1.1),
+  )
 
   pub entry-exact : HoldsNoOther (Entry to params) target atoms
-  entry-exact = λ f s entry vs es g.
-      (g.0, (tt, holds-same (replaced_valuation (entry_reading params) (valuation_of entry [])) (columns_of (entered entry) entry []) target (λ x. entry-reads params entry x g.0) (holds-read (valuation_of entry []) (entry_reading params) target atoms e g.1)))
+  entry-exact = λ f s entry vs es g. (
+    g.0,
+    (
+      tt,
+      holds-same (replaced_valuation (entry_reading params) (valuation_of entry [])) (columns_of (entered entry) entry []) target
+          (λ x. entry-reads params entry x g.0) (holds-read (valuation_of entry []) (entry_reading params) target atoms e g.1),
+    ),
+  )
 
--- ---- the exit
-module _ (from to slot : ℕ) (target atoms : List Atom) (e : atoms ≡ rows_of_sums (row_sums (one_reading first_exit (column_sum slot)) target)) where
+-- The exit
+
+module _ (from to slot : ℕ) (target atoms : List Atom)
+    (e : atoms ≡ rows_of_sums (row_sums (one_reading first_exit (column_sum slot)) target)) where
   abbrev by : ℕ → LinearSum
   by = one_reading first_exit (column_sum slot)
 
@@ -55,15 +70,26 @@ module _ (from to slot : ℕ) (target atoms : List Atom) (e : atoms ≡ rows_of_
       let v = columns_of s entry [] in
       let w = valuation_of entry (s slot ∷ []) in
       let lies : HoldsAll w target = (subst (LiesIn entry target) g.3.0 g.4).1 in
-      read-holds v by target atoms e (holds-agree (is_value_column first_entry first_entry) w (replaced_valuation by v) target (agree-back (is_value_column first_entry first_entry) (replaced_valuation by v) w (return-reads s entry slot f.slots)) f.columns lies)
+      read-holds v by target atoms e (holds-agree (is_value_column first_entry first_entry) w (replaced_valuation by v) target
+      (agree-back (is_value_column first_entry first_entry) (replaced_valuation by v) w (return-reads s entry slot f.slots)) f.columns lies)
 
   pub return-exact : HoldsNoOther (Return from to slot) target atoms
   return-exact = λ f s entry vs es g.
       let v = columns_of s entry [] in
-      let w = valuation_of entry (s slot ∷ []) in
-      ([], [], left (s slot ∷ []), (refl, refl), (tt, holds-agree (is_value_column first_entry first_entry) (replaced_valuation by v) w target (return-reads s entry slot f.slots) f.columns (holds-read v by target atoms e g)))
+      let w = valuation_of entry (s slot ∷ []) in (
+        [],
+        [],
+        left (s slot ∷ []),
+        (refl, refl),
+        (
+          tt,
+          holds-agree (is_value_column first_entry first_entry) (replaced_valuation by v) w
+              target (return-reads s entry slot f.slots) f.columns (holds-read v by target atoms e g),
+        ),
+      )
 
--- ---- rows of a guard
+-- Rows of a guard
+
 abbrev NamesSlots : List Atom → Type 0
 NamesSlots rows = IsTrue (list_all (names_slots max_slots) rows)
 
@@ -72,14 +98,18 @@ rows-behind s entry rows n h = holds-agree is_slot_column s (columns_of s entry 
 
 rows-before : (s : State) (entry : List ℤ) (rows : List Atom) → NamesSlots rows → HoldsAll (columns_of s entry []) rows → HoldsAll s rows
 rows-before s entry rows n h =
-    holds-agree is_slot_column (columns_of s entry []) s rows (agree-back is_slot_column s (columns_of s entry []) (slots-agree s entry)) n h
+    holds-agree is_slot_column (columns_of s entry []) s rows (agree-back is_slot_column s (columns_of s entry []) (slots-agree s entry)) n
+    h
 
 module _ (from to id : ℕ) (rows : Cube) (target atoms : List Atom) (e : atoms ≡ target ++ rows.atoms) where
-  both-hold : (s : State) (entry : List ℤ) → NamesSlots rows.atoms → HoldsAll (columns_of s entry []) target → HoldsAll s rows.atoms → HoldsAll (columns_of s entry []) atoms
+  both-hold : (s : State) (entry : List ℤ) → NamesSlots rows.atoms → HoldsAll (columns_of s entry []) target → HoldsAll s rows.atoms →
+      HoldsAll (columns_of s entry []) atoms
   both-hold s entry n h k =
-      subst (HoldsAll (columns_of s entry [])) (sym e) (holds-append (columns_of s entry []) target rows.atoms h (rows-behind s entry rows.atoms n k))
+      subst (HoldsAll (columns_of s entry [])) (sym e) (holds-append (columns_of s entry []) target rows.atoms h
+      (rows-behind s entry rows.atoms n k))
 
-  both-held : (s : State) (entry : List ℤ) → NamesSlots rows.atoms → HoldsAll (columns_of s entry []) atoms → HoldsAll (columns_of s entry []) target × HoldsAll s rows.atoms
+  both-held : (s : State) (entry : List ℤ) → NamesSlots rows.atoms → HoldsAll (columns_of s entry []) atoms →
+      HoldsAll (columns_of s entry []) target × HoldsAll s rows.atoms
   both-held s entry n h =
       let r = holds-split (columns_of s entry []) target rows.atoms (subst (HoldsAll (columns_of s entry [])) e h) in
       (r.0, rows-before s entry rows.atoms n r.1)
@@ -100,7 +130,8 @@ module _ (from to id : ℕ) (rows : Cube) (target atoms : List Atom) (e : atoms 
       let r = both-held s entry f.slots g in
       ([], [], failing id s, (r.1, refl, refl), (tt, r.0))
 
--- ---- an assignment
+-- An assignment
+
 abbrev NamesSlotsOnly : Lin → Type 0
 NamesSlotsOnly value = IsTrue (list_all (λ p. nat_lt p.1 max_slots) value.parts)
 
@@ -126,11 +157,13 @@ holds-range v t h =
     let high = h.0 in let low = h.1.0 in
     bounds-value (value_of v t) (omega (arith, ints, lower-value v t, low)) (omega (arith, ints, upper-value v t, high))
 
-module _ (from to slot : ℕ) (value : Lin) (target atoms : List Atom) (e : atoms ≡ rows_of_sums (assigned_sums slot (total (lin_sum value)) target)) where
+module _ (from to slot : ℕ) (value : Lin) (target atoms : List Atom)
+    (e : atoms ≡ rows_of_sums (assigned_sums slot (total (lin_sum value)) target)) where
   abbrev sum : LinearSum
   sum = total (lin_sum value)
 
-  assigned : (s : State) (entry : List ℤ) → FitsEdge (Assign from to slot value) target → value_of (columns_of s entry []) sum ≡ lin_value s value
+  assigned : (s : State) (entry : List ℤ) → FitsEdge (Assign from to slot value) target → value_of (columns_of s entry []) sum
+      ≡ lin_value s value
   assigned s entry f = value-assigned s entry value (both _ _ (both _ _ f.slots).1).1
 
   pub assign-holds : HoldsPredecessors (Assign from to slot value) target atoms
@@ -141,7 +174,8 @@ module _ (from to slot : ℕ) (value : Lin) (target atoms : List Atom) (e : atom
       let lies : HoldsAll (columns_of (with_slot s slot z) entry []) target = (subst (LiesIn entry target) g.3.1 g.4).1 in
       let small : nat_lt slot first_entry ≡ true = (both _ _ f.slots).0 in
       let in_range : IsTrue (is_value (value_of v sum)) = subst (λ y. IsTrue (is_value y)) (sym is) g.3.0 in
-      let rows = sums-hold v (one_reading slot sum) target (holds-same (columns_of (with_slot s slot z) entry []) (replaced_valuation (one_reading slot sum) v) target (λ x. sym (one-reads s entry slot z small sum is x)) lies) in
+      let rows = sums-hold v (one_reading slot sum) target (holds-same (columns_of (with_slot s slot z) entry [])
+      (replaced_valuation (one_reading slot sum) v) target (λ x. sym (one-reads s entry slot z small sum is x)) lies) in
       subst (HoldsAll v) (sym e) (sums-append v (row_sums (one_reading slot sum) target) (range_sums sum) rows (range-holds v sum in_range))
 
   pub assign-exact : HoldsNoOther (Assign from to slot value) target atoms
@@ -151,13 +185,17 @@ module _ (from to slot : ℕ) (value : Lin) (target atoms : List Atom) (e : atom
       let is : value_of v sum ≡ z = assigned s entry f in
       let small : nat_lt slot first_entry ≡ true = (both _ _ f.slots).0 in
       let met = sums-split v (row_sums (one_reading slot sum) target) (range_sums sum) (subst (HoldsAll v) e g) in
-      let lies = holds-same (replaced_valuation (one_reading slot sum) v) (columns_of (with_slot s slot z) entry []) target (λ x. one-reads s entry slot z small sum is x) (hold-sums v (one_reading slot sum) target met.0) in
+      let lies = holds-same (replaced_valuation (one_reading slot sum) v) (columns_of (with_slot s slot z) entry []) target
+      (λ x. one-reads s entry slot z small sum is x) (hold-sums v (one_reading slot sum) target met.0) in
       ([], [], inside to (with_slot s slot z), (subst (λ y. IsTrue (is_value y)) is (holds-range v sum met.1), refl, refl), (tt, lies))
 
--- ---- a slot that gets some value
+-- A slot that gets some value
+
 columns-values : (s : State) (entry : List ℤ) → AreValues s → AreAllValues entry → Is64 (columns_of s entry [])
 columns-values s entry vs es = λ x. by_tests x (nat_lt x first_entry) (nat_lt x first_exit) (nat_lt x first_symbol) where
-  by_tests : (x : ℕ) (b c d : Bool) → IsTrue (is64 (if b then s x else (if c then value_at entry (x - first_entry) else (if d then value_at [] (x - first_exit) else pos 0))))
+  by_tests : (x : ℕ) (b c d : Bool) →
+      IsTrue (is64 (if b then s x else (if c then value_at entry (x - first_entry) else (if d then value_at [] (x - first_exit) else pos
+      0))))
   by_tests x true c d = value-is64 (s x) (vs x)
   by_tests x false true d = value-is64 (value_at entry (x - first_entry)) (es (x - first_entry))
   by_tests x false false true = refl
@@ -174,25 +212,34 @@ only-at slot x zero h e = sym e
 only-at slot x (suc k) h e = absurd (omega (arith, h))
 
 module _ (slot : ℕ) (cube atoms : List Atom) where
-  forgotten : IsTrue (are_terms atoms) → KeepsAll cube atoms → NamesNone (slot ∷ []) atoms → (s : State) (entry : List ℤ) (z : ℤ) → AreValues s → AreAllValues entry → nat_lt slot first_entry ≡ true → IsTrue (is_value z) → HoldsAll (columns_of (with_slot s slot z) entry []) cube → HoldsAll (columns_of s entry []) atoms
+  forgotten : IsTrue (are_terms atoms) → KeepsAll cube atoms → NamesNone (slot ∷ []) atoms → (s : State) (entry : List ℤ) (z : ℤ) →
+      AreValues s → AreAllValues entry → nat_lt slot first_entry ≡ true → IsTrue (is_value z) →
+      HoldsAll (columns_of (with_slot s slot z) entry []) cube → HoldsAll (columns_of s entry []) atoms
   forgotten terms keeps free s entry z vs es small h k =
       let w = columns_of (with_slot s slot z) entry [] in
       let shadow : HoldsAll w atoms = keeps w (columns-values (with_slot s slot z) entry (slot-values s slot z vs h) es) k in
-      holds-agree (other slot) w (columns_of s entry []) atoms (behind-agrees s entry slot z small) (rows-absent slot atoms terms (free slot (0, omega arith, refl))) shadow
+      holds-agree (other slot) w (columns_of s entry []) atoms (behind-agrees s entry slot z small)
+      (rows-absent slot atoms terms (free slot (0, omega arith, refl))) shadow
 
   -- some value with which the rows hold
   abbrev Found : State → List ℤ → Type 0
   Found s entry = (z : ℤ) × IsTrue (is_value z) × HoldsAll (columns_of (with_slot s slot z) entry []) cube
 
-  found : LosesNone (slot ∷ []) cube atoms → (s : State) (entry : List ℤ) → AreValues s → AreAllValues entry → nat_lt slot first_entry ≡ true → HoldsAll (columns_of s entry []) atoms → Found s entry
+  found : LosesNone (slot ∷ []) cube atoms → (s : State) (entry : List ℤ) → AreValues s → AreAllValues entry → nat_lt slot first_entry
+      ≡ true → HoldsAll (columns_of s entry []) atoms → Found s entry
   found loses s entry vs es small h =
       let r = loses (columns_of s entry []) (columns-values s entry vs es) h in
       let w = r.0 in
-      let z = w slot in
-      (z, is64-value z (r.1 slot), holds-same w (columns_of (with_slot s slot z) entry []) cube (changed s entry slot z small w (λ x n. r.2 x (λ c. n (only-at slot x c.0 c.1 c.2))) refl) r.3)
+      let z = w slot in (
+        z,
+        is64-value z (r.1 slot),
+        holds-same w (columns_of (with_slot s slot z) entry []) cube
+            (changed s entry slot z small w (λ x n. r.2 x (λ c. n (only-at slot x c.0 c.1 c.2))) refl) r.3,
+      )
 
 module _ (from to slot : ℕ) (target atoms : List Atom) where
-  pub input-holds : IsTrue (are_terms atoms) → KeepsAll target atoms → NamesNone (slot ∷ []) atoms → HoldsPredecessors (Input from to slot) target atoms
+  pub input-holds : IsTrue (are_terms atoms) → KeepsAll target atoms → NamesNone (slot ∷ []) atoms → HoldsPredecessors (Input from to slot)
+      target atoms
   input-holds terms keeps free = λ f s entry vs es g.
       forgotten slot target atoms terms keeps free s entry g.3.0 vs es f.slots g.3.1 (subst (LiesIn entry target) g.3.3 g.4).1
 
@@ -202,7 +249,8 @@ module _ (from to slot : ℕ) (target atoms : List Atom) where
       (r.0 ∷ [], [], inside to (with_slot s slot r.0), (r.0, r.1, refl, refl), (tt, r.2))
 
 module _ (from to slot : ℕ) (rows : Cube) (target cube atoms : List Atom) (e : cube ≡ target ++ rows.atoms) where
-  pub pick-holds : IsTrue (are_terms atoms) → KeepsAll cube atoms → NamesNone (slot ∷ []) atoms → HoldsPredecessors (Pick from to slot rows) target atoms
+  pub pick-holds : IsTrue (are_terms atoms) → KeepsAll cube atoms → NamesNone (slot ∷ []) atoms → HoldsPredecessors (Pick from to slot rows)
+      target atoms
   pick-holds terms keeps free = λ f s entry vs es g.
       let fs = both (nat_lt slot max_slots) (list_all (names_slots max_slots) rows.atoms) f.slots in
       let z = g.3.0 in
@@ -216,5 +264,10 @@ module _ (from to slot : ℕ) (rows : Cube) (target cube atoms : List Atom) (e :
       let fs = both (nat_lt slot max_slots) (list_all (names_slots max_slots) rows.atoms) f.slots in
       let r = found slot cube atoms loses s entry vs es fs.0 g in
       let w = columns_of (with_slot s slot r.0) entry [] in
-      let all = holds-split w target rows.atoms (subst (HoldsAll w) e r.2) in
-      ([], [], inside to (with_slot s slot r.0), (r.0, r.1, rows-before (with_slot s slot r.0) entry rows.atoms fs.1 all.1, refl, refl), (tt, all.0))
+      let all = holds-split w target rows.atoms (subst (HoldsAll w) e r.2) in (
+        [],
+        [],
+        inside to (with_slot s slot r.0),
+        (r.0, r.1, rows-before (with_slot s slot r.0) entry rows.atoms fs.1 all.1, refl, refl),
+        (tt, all.0),
+      )

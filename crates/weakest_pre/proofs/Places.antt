@@ -20,18 +20,21 @@ use Rattle.shadow_elim.specs.Sums.{total}
 use Rattle.weakest_pre.specs.Preimage.{lin_sum}
 use Rattle.weakest_pre.proofs.Agreeing.{Agree, other}
 
--- ---- slots
+-- Slots
+
 pub slot-at : (s : State) (entry exit : List ℤ) (x : ℕ) → nat_lt x first_entry ≡ true → columns_of s entry exit x ≡ s x
 slot-at s entry exit x e = rw e refl
 
 -- the same entry and exit values in the same columns
-past-slots : (s t : State) (entry exit : List ℤ) (x : ℕ) → nat_lt x first_entry ≡ false → columns_of s entry exit x ≡ columns_of t entry exit x
+past-slots : (s t : State) (entry exit : List ℤ) (x : ℕ) → nat_lt x first_entry ≡ false → columns_of s entry exit x ≡ columns_of t entry
+    exit x
 past-slots s t entry exit x e = rw e refl
 
 pub slots-agree : (s : State) (entry : List ℤ) → Agree is_slot_column s (columns_of s entry [])
 slots-agree s entry = λ x h. sym (slot-at s entry [] x h)
 
--- ---- the entry
+-- The entry
+
 entry-at : (s : State) (entry exit : List ℤ) (i : ℕ) → i < first_entry → columns_of s entry exit (first_entry + i) ≡ value_at entry i
 entry-at s entry exit i h =
     let a : nat_lt (first_entry + i) first_entry ≡ false = le-ltb (first_entry + i) first_entry (omega arith) in
@@ -39,18 +42,23 @@ entry-at s entry exit i h =
     let d : (first_entry + i) - first_entry ≡ i = omega arith in
     rw (a, b, d) refl
 
-pub entry-reads : (params : ℕ) (entry : List ℤ) (x : ℕ) → length entry ≡ params → value_of (valuation_of entry []) (entry_reading params x) ≡ columns_of (entered entry) entry [] x
+pub entry-reads : (params : ℕ) (entry : List ℤ) (x : ℕ) → length entry ≡ params → value_of (valuation_of entry []) (entry_reading params x)
+    ≡ columns_of (entered entry) entry [] x
 entry-reads params entry x e =
     by_tests (nat_lt x first_entry) (nat_lt x params) refl refl where
-      by_tests : (b c : Bool) → nat_lt x first_entry ≡ b → nat_lt x params ≡ c → value_of (valuation_of entry []) (if b then (if c then column_sum (first_entry + x) else constant_sum (pos 0)) else column_sum x) ≡ columns_of (entered entry) entry [] x
+      by_tests : (b c : Bool) → nat_lt x first_entry ≡ b → nat_lt x params ≡ c → value_of (valuation_of entry [])
+          (if b then (if c then column_sum (first_entry + x) else constant_sum (pos 0)) else column_sum x) ≡ columns_of (entered entry)
+          entry [] x
       by_tests true true d f =
-          value-column (valuation_of entry []) (first_entry + x) ∙ entry-at no_slots entry [] x (ltb-true x first_entry d) ∙ sym (slot-at (entered entry) entry [] x d)
+          value-column (valuation_of entry []) (first_entry + x) ∙ entry-at no_slots entry [] x (ltb-true x first_entry d)
+          ∙ sym (slot-at (entered entry) entry [] x d)
       by_tests true false d f =
           sym (slot-at (entered entry) entry [] x d ∙ get_or_past entry x (pos 0) (omega (arith, ltb-false x params f, e)))
       by_tests false c d f =
           value-column (valuation_of entry []) x ∙ past-slots no_slots (entered entry) entry [] x d
 
--- ---- a slot with a new value
+-- A slot with a new value
+
 chosen_old : (b c : Bool) (new old rest : ℤ) → c ≡ false → (if b then cond c new old else rest) ≡ (if b then old else rest)
 chosen_old true c new old rest e = rw e refl
 chosen_old false c new old rest e = refl
@@ -69,7 +77,8 @@ module _ (s : State) (entry : List ℤ) (slot : ℕ) (z : ℤ) (small : nat_lt s
 
   pub behind-other : (x : ℕ) → (x == slot) ≡ false → behind x ≡ before x
   behind-other x e =
-      chosen_old (nat_lt x first_entry) (x == slot) z (s x) (if nat_lt x first_exit then value_at entry (x - first_entry) else (if nat_lt x first_symbol then value_at [] (x - first_exit) else pos 0)) e
+      chosen_old (nat_lt x first_entry) (x == slot) z (s x) (if nat_lt x first_exit then value_at entry (x - first_entry) else
+      (if nat_lt x first_symbol then value_at [] (x - first_exit) else pos 0)) e
 
   pub behind-agrees : Agree (other slot) behind before
   behind-agrees = λ x h. behind-other x (ne_eqb x slot (λ e. eqb_apart slot x (not-true (slot == x) h) (sym e)))
@@ -87,22 +96,29 @@ module _ (s : State) (entry : List ℤ) (slot : ℕ) (z : ℤ) (small : nat_lt s
     by_test true d = ap w (eqb-true x slot d) ∙ e ∙ sym behind-slot ∙ ap behind (sym (eqb-true x slot d))
     by_test false d = a x (eqb_apart x slot d) ∙ sym (behind-other x d)
 
--- ---- the value of an assignment
+-- The value of an assignment
+
 abbrev multiples_of : List (ℤ × ℕ) → List (ℤ × LinearSum)
 multiples_of parts = map (λ p. (p.0, column_sum p.1)) parts
 
-multiples-value : (s : State) (v : Valuation) (parts : List (ℤ × ℕ)) (c : ℤ) → Agree is_slot_column s v → IsTrue (list_all (λ p. nat_lt p.1 first_entry) parts) → combination_value v (multiples_of parts) c ≡ value_of_slots s parts +ℤ c
+multiples-value : (s : State) (v : Valuation) (parts : List (ℤ × ℕ)) (c : ℤ) → Agree is_slot_column s v →
+    IsTrue (list_all (λ p. nat_lt p.1 first_entry) parts) → combination_value v (multiples_of parts) c ≡ value_of_slots s parts +ℤ c
 multiples-value s v [] c a n = omega (arith, ints)
 multiples-value s v (p ∷ parts) c a n =
     let ns = both (nat_lt p.1 first_entry) (list_all (λ q. nat_lt q.1 first_entry) parts) n in
     let d : value_of v (column_sum p.1) ≡ s p.1 = value-column v p.1 ∙ sym (a p.1 ns.0) in
-    ap (λ y. (p.0 *ℤ y) +ℤ combination_value v (multiples_of parts) c) d ∙ ap (λ y. (p.0 *ℤ s p.1) +ℤ y) (multiples-value s v parts c a ns.1) ∙ omega (arith, ints)
+    ap (λ y. (p.0 *ℤ y) +ℤ combination_value v (multiples_of parts) c) d ∙ ap (λ y. (p.0 *ℤ s p.1) +ℤ y)
+    (multiples-value s v parts c a ns.1)
+    ∙ omega (arith, ints)
 
-pub value-assigned : (s : State) (entry : List ℤ) (value : Lin) → IsTrue (list_all (λ p. nat_lt p.1 first_entry) value.parts) → value_of (columns_of s entry []) (total (lin_sum value)) ≡ lin_value s value
+pub value-assigned : (s : State) (entry : List ℤ) (value : Lin) → IsTrue (list_all (λ p. nat_lt p.1 first_entry) value.parts) →
+    value_of (columns_of s entry []) (total (lin_sum value)) ≡ lin_value s value
 value-assigned s entry value n =
-    value-combination (columns_of s entry []) (multiples_of value.parts) value.constant ∙ multiples-value s (columns_of s entry []) value.parts value.constant (slots-agree s entry) n
+    value-combination (columns_of s entry []) (multiples_of value.parts) value.constant ∙ multiples-value s (columns_of s entry [])
+    value.parts value.constant (slots-agree s entry) n
 
--- ---- the exit
+-- The exit
+
 either_from : (a b : Bool) → IsTrue (a || b) → IsTrue a ⊎ IsTrue b
 either_from true b h = inl refl
 either_from false b h = inr h
@@ -115,17 +131,24 @@ past-entry x h = by_side (either_from (is_among first_entry first_entry x) (is_a
       let l : first_exit ≤ x = leb-true first_exit x (both (nat_le first_exit x) (nat_lt x (first_exit + first_entry)) k).0 in
       omega (arith, l)
 
-pub return-reads : (s : State) (entry : List ℤ) (slot : ℕ) → nat_lt slot first_entry ≡ true → Agree (is_value_column first_entry first_entry) (replaced_valuation (one_reading first_exit (column_sum slot)) (columns_of s entry [])) (valuation_of entry (s slot ∷ []))
+pub return-reads : (s : State) (entry : List ℤ) (slot : ℕ) → nat_lt slot first_entry ≡ true →
+    Agree (is_value_column first_entry first_entry)
+    (replaced_valuation (one_reading first_exit (column_sum slot)) (columns_of s entry [])) (valuation_of entry (s slot ∷ []))
 return-reads s entry slot small = λ x h. by_test x (past-entry x h) (x == first_exit) refl where
-  others : (x : ℕ) → (x ≡ first_exit → ⊥) → (b : Bool) → nat_lt x first_exit ≡ b → (if b then value_at entry (x - first_entry) else (if nat_lt x first_symbol then value_at [] (x - first_exit) else pos 0)) ≡ (if b then value_at entry (x - first_entry) else (if nat_lt x first_symbol then value_at (s slot ∷ []) (x - first_exit) else pos 0))
+  others : (x : ℕ) → (x ≡ first_exit → ⊥) → (b : Bool) → nat_lt x first_exit ≡ b →
+      (if b then value_at entry (x - first_entry) else (if nat_lt x first_symbol then value_at [] (x - first_exit) else pos 0))
+      ≡ (if b then value_at entry (x - first_entry) else (if nat_lt x first_symbol then value_at (s slot ∷ []) (x - first_exit) else pos 0))
   others x n true d = refl
   others x n false d =
       let above : 1 ≤ x - first_exit = omega (arith, n, ltb-false x first_exit d) in
-      ap (λ y. if nat_lt x first_symbol then y else pos 0) (get_or_past [] (x - first_exit) (pos 0) (omega arith) ∙ sym (get_or_past (s slot ∷ []) (x - first_exit) (pos 0) above))
+      ap (λ y. if nat_lt x first_symbol then y else pos 0) (get_or_past [] (x - first_exit) (pos 0) (omega arith)
+      ∙ sym (get_or_past (s slot ∷ []) (x - first_exit) (pos 0) above))
 
-  by_test : (x : ℕ) → first_entry ≤ x → (b : Bool) → (x == first_exit) ≡ b → value_of (columns_of s entry []) (if b then column_sum slot else column_sum x) ≡ valuation_of entry (s slot ∷ []) x
+  by_test : (x : ℕ) → first_entry ≤ x → (b : Bool) → (x == first_exit) ≡ b → value_of (columns_of s entry [])
+      (if b then column_sum slot else column_sum x) ≡ valuation_of entry (s slot ∷ []) x
   by_test x l true d =
-      value-column (columns_of s entry []) slot ∙ slot-at s entry [] slot small ∙ sym (ap (valuation_of entry (s slot ∷ [])) (eqb-true x first_exit d))
+      value-column (columns_of s entry []) slot ∙ slot-at s entry [] slot small
+      ∙ sym (ap (valuation_of entry (s slot ∷ [])) (eqb-true x first_exit d))
   by_test x l false d =
       let a : nat_lt x first_entry ≡ false = le-ltb x first_entry l in
       value-column (columns_of s entry []) x ∙ rw a (others x (eqb_apart x first_exit d) (nat_lt x first_exit) refl)

@@ -14,7 +14,10 @@ use Rattle.flow_graph.specs.Readings.{entry_reading, one_reading}
 
 -- the value of an assignment, as a sum of its slots
 abbrev pub lin_sum : Lin → Sum
-lin_sum value = record { summands = map (λ p. (p.0, column_sum p.1)) value.parts; constant = value.constant }
+lin_sum value = record {
+  summands = map (λ p. (p.0, column_sum p.1)) value.parts;
+  constant = value.constant;
+}
 
 -- the two rows of a sum's range: t - (2^63 - 1) ≤ 0 and -t - 2^63 ≤ 0
 abbrev pub range_sums : LinearSum → List Sum
@@ -33,7 +36,8 @@ assigned_sums slot value target = row_sums (one_reading slot value) target ++ ra
 -- the value comes first, and then its rows
 abbrev pub assigned_before : (slot : ℕ) → Lin → List Atom → Projected
 assigned_before slot value target =
-    summed (lin_sum value ∷ []) (λ _. summed (assigned_sums slot (total (lin_sum value)) target) (λ rows. gives rows None))
+    summed (lin_sum value ∷ []) (λ _. summed (assigned_sums slot (total (lin_sum value)) target)
+    (λ rows. gives rows None))
 
 -- A call has no preimage of its own.
 abbrev pub preimage : Edge → List Atom → Projected
@@ -44,4 +48,5 @@ preimage (Input from to slot) target = projected (slot ∷ []) target
 preimage (Pick from to slot rows) target = projected (slot ∷ []) (target ++ rows.atoms)
 preimage (Call from to proc args slot) target = gives [] None
 preimage (Assert from to id rows) target = gives (target ++ rows.atoms) None
-preimage (Return from to slot) target = read_before (one_reading first_exit (column_sum slot)) target
+preimage (Return from to slot) target = read_before (one_reading first_exit (column_sum slot))
+    target

@@ -38,9 +38,11 @@ fn exact(cube: Cube) -> Pre
 /// The target as it reads before an edge that changes no rows.
 fn read<R: Reading>(alloc: Global, reading: &R, target: &Cube) -> Result<Pre, PreError>
     ensures rows { IfOk result
-        (λ p. read_before (R.term_at reading.now) target.now.atoms ≡ gives p.cube.atoms (pair_rows p.inexact)) }
+        (λ p. read_before (R.term_at reading.now) target.now.atoms ≡ gives p.cube.atoms
+        (pair_rows p.inexact)) }
     ensures limit { IfErr result
-        (λ e. IfRefused e (λ kept. read_before (R.term_at reading.now) target.now.atoms ≡ refuses kept)) }
+        (λ e. IfRefused e (λ kept. read_before (R.term_at reading.now) target.now.atoms
+        ≡ refuses kept)) }
     ensures right { IfErr result (λ e. IfRefused e IsRight) }
 {
     let atoms = target.atoms.as_slice();
@@ -65,7 +67,8 @@ fn value_sum(alloc: Global, value: &Lin) -> Result<Sum, OutOfMemory>
 
 /// A multiple of a term and a constant.
 fn multiple(alloc: Global, multiplier: i64, term: &Term, constant: i64) -> Result<Sum, OutOfMemory>
-    ensures { IfOk result (λ s. s ≡ record { summands = (multiplier, term.now) ∷ []; constant = constant }) }
+    ensures { IfOk result
+        (λ s. s ≡ record { summands = (multiplier, term.now) ∷ []; constant = constant }) }
 {
     let summands = vec![in alloc; (multiplier, term.copy(alloc)?)]?;
     Ok(Sum {
@@ -87,10 +90,12 @@ fn push_range(alloc: Global, sums: &mut Vec<Sum>, term: &Term) -> Result<(), Out
 /// range.
 fn with_value(alloc: Global, reading: &OneColumn, target: &Cube) -> Result<Pre, PreError>
     ensures rows { IfOk result
-        (λ p. summed (assigned_sums reading.now.column reading.now.by target.now.atoms) (λ rows. gives rows None)
+        (λ p. summed (assigned_sums reading.now.column reading.now.by target.now.atoms)
+        (λ rows. gives rows None)
         ≡ gives p.cube.atoms (pair_rows p.inexact)) }
     ensures limit { IfErr result
-        (λ e. IfRefused e (IsFirstWide (assigned_sums reading.now.column reading.now.by target.now.atoms))) }
+        (λ e. IfRefused e
+        (IsFirstWide (assigned_sums reading.now.column reading.now.by target.now.atoms))) }
     ensures right { IfErr result (λ e. IfRefused e IsRight) }
 {
     let atoms = target.atoms.as_slice();
@@ -103,9 +108,11 @@ fn with_value(alloc: Global, reading: &OneColumn, target: &Cube) -> Result<Pre, 
 /// Before an assignment: the value comes first, and then its rows.
 fn assigned(alloc: Global, slot: u32, value: &Lin, target: &Cube) -> Result<Pre, PreError>
     ensures rows { IfOk result
-        (λ p. assigned_before slot value.now target.now.atoms ≡ gives p.cube.atoms (pair_rows p.inexact)) }
+        (λ p. assigned_before slot value.now target.now.atoms ≡ gives p.cube.atoms
+        (pair_rows p.inexact)) }
     ensures limit { IfErr result
-        (λ e. IfRefused e (λ kept. assigned_before slot value.now target.now.atoms ≡ refuses kept)) }
+        (λ e. IfRefused e (λ kept. assigned_before slot value.now target.now.atoms
+        ≡ refuses kept)) }
     ensures right { IfErr result (λ e. IfRefused e IsRight) }
 {
     let sum = value_sum(alloc, value)?;
@@ -153,9 +160,12 @@ fn asked_are_terms(edge: &Edge, target: &Cube)
 }
 
 /// The cube of the states before an edge that go over it into the target (Dijkstra's weakest
-/// precondition, and over 64-bit values its projection where the edge forgets a slot). `Pre::inexact`
-/// is the first pair of rows whose elimination may let other states in. Before an assignment the value
-/// is asked for first, then the rows of the target, then the value's range; the limit is that of the
+/// precondition, and over 64-bit values its projection where the edge forgets a slot).
+/// `Pre::inexact`
+/// is the first pair of rows whose elimination may let other states in. Before an assignment the
+/// value
+/// is asked for first, then the rows of the target, then the value's range; the limit is that of
+/// the
 /// first sum that is too wide, or of the elimination.
 pub fn pre(alloc: Global, edge: &Edge, target: &Cube) -> Result<Pre, PreError>
     requires { is_call edge.now ≡ false }

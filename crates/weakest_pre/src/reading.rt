@@ -1,7 +1,5 @@
 //! What stands in the places of columns before an edge.
 
-ghost use Rattle.std.specs.Prelude.{ℕ};
-ghost use Rattle.linear_formula.specs.LinearSum.{LinearSum};
 ghost use Rattle.flow_graph.specs.Readings.{entry_reading, one_reading};
 
 use flow_graph::columns::FIRST_ENTRY;

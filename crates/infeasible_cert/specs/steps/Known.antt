@@ -53,7 +53,8 @@ RowsInOrder (t ∷ ts) = InOrder 0 t.parts × RowsInOrder ts
 -- the sum for a column is the divisor times the row's coefficient
 abbrev pub DividesAt : List LinearSum → Derived → ℕ → Type 0
 DividesAt rows d x =
-    FitsAlong (pos 0) (column_products x (summands rows d.parts)) × (total (column_products x (summands rows d.parts)) ≡ d.divide *ℤ coefficient x d.row.term)
+    FitsAlong (pos 0) (column_products x (summands rows d.parts))
+    × (total (column_products x (summands rows d.parts)) ≡ d.divide *ℤ coefficient x d.row.term)
 
 abbrev pub DividesParts : List LinearSum → Derived → List (ℕ × ℤ) → Type 0
 DividesParts rows d [] = Unit {0}
@@ -73,4 +74,5 @@ DividesNamed rows d ps = DividesAll rows d (columns_of (named_rows rows ps))
 
 abbrev pub IsRightConstant : List LinearSum → Derived → Type 0
 IsRightConstant rows d =
-    FitsAlong (pos 0) (constant_products (summands rows d.parts)) × IsRoundedUp (total (constant_products (summands rows d.parts))) d.divide d.row.term.constant
+    FitsAlong (pos 0) (constant_products (summands rows d.parts))
+    × IsRoundedUp (total (constant_products (summands rows d.parts))) d.divide d.row.term.constant

@@ -13,7 +13,8 @@ HasRoom adds s = (unsigned_abs s.high ≤ adds * 2 ^ 53) × (unsigned_abs s.low 
 -- columns in order from `low` on, with sums that have room
 abbrev pub AreSums : ℕ → ℕ → List (ℕ × ExactSum) → Type 0
 AreSums adds low [] = Unit {0}
-AreSums adds low (e ∷ es) = (low ≤ e.0) × (e.0 < 2 ^ 32) × HasRoom adds e.1 × AreSums adds (e.0 + 1) es
+AreSums adds low (e ∷ es) = (low ≤ e.0) × (e.0 < 2 ^ 32) × HasRoom adds e.1 × AreSums adds (e.0 + 1)
+    es
 
 abbrev pub no_sum : ExactSum
 no_sum = record { high = pos 0; low = pos 0 }

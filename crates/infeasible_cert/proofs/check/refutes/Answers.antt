@@ -9,7 +9,8 @@ use Rattle.infeasible_cert.proofs.check.refutes.Goals as goal
 
 pub is_right-requires : goal.is_right-requires
 is_right-requires c =
-    base-order c.as_slice-atoms.result.now (subst (λ (as_ : List Atom). IsTrue (are_terms as_)) (sym c.as_slice-atoms.ensures.value) c.as_slice-atoms.ensures.terms)
+    base-order c.as_slice-atoms.result.now (subst (λ (as_ : List Atom). IsTrue (are_terms as_)) (sym c.as_slice-atoms.ensures.value)
+    c.as_slice-atoms.ensures.terms)
 
 pub returns-clause-right : goal.returns-clause-right
 returns-clause-right c =
@@ -31,4 +32,5 @@ returns-clause-sound c = λ g v w h.
       shallow = n.0;
       right = subst (λ (as_ : List Atom). IsRight (base_rows as_) (refutation_of c.args.certificate.now)) e n.1;
     } in
-    right-sound c.args.cube.now.atoms (refutation_of c.args.certificate.now) v c.as_slice-atoms.ensures.terms (c.is_right.ensures.terms g) s w h
+    right-sound c.args.cube.now.atoms (refutation_of c.args.certificate.now) v c.as_slice-atoms.ensures.terms (c.is_right.ensures.terms g) s
+    w h

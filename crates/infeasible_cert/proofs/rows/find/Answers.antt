@@ -8,4 +8,6 @@ returns-in-Ok c =
 
 pub returns-in-Err : goal.returns-in-Err
 returns-in-Err c =
-    found-below (base_rows c.args.rows.now.columns.now.atoms.now) c.args.rows.now.nodes.now c.args.number c.in-Err.behind c.find_below.result c.in-Err.ensures c.find_below.ensures
+    found-below (base_rows c.args.rows.now.columns.now.atoms.now) c.args.rows.now.nodes.now c.args.number c.in-Err.behind
+    c.find_below.result
+    c.in-Err.ensures c.find_below.ensures

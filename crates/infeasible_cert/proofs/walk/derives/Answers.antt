@@ -13,4 +13,7 @@ is_right_step-requires c =
 pub loop-i-preserved : goal.loop-i-preserved
 loop-i-preserved c =
     let h : c.loop-i.i < length c.args.derived.now = omega arith in
-    derived-steps (rows_in c.args.rows.now) c.args.derived.now c.loop-i.i c.index-derived-i.result c.loop-i.invariant h (subst (λ (d : Derived). IsTrue (is_term d.row.term)) c.index-derived-i.is c.is_right_step.ensures.term) (subst (λ (d : Derived). IsRightStep (rows_in c.args.rows.now ++ terms_of (take c.loop-i.i c.args.derived.now)) d) c.index-derived-i.is (c.if-not-is_right_step.ensures.right.0 refl))
+    derived-steps (rows_in c.args.rows.now) c.args.derived.now c.loop-i.i c.index-derived-i.result c.loop-i.invariant h
+    (subst (λ (d : Derived). IsTrue (is_term d.row.term)) c.index-derived-i.is c.is_right_step.ensures.term)
+    (subst (λ (d : Derived). IsRightStep (rows_in c.args.rows.now ++ terms_of (take c.loop-i.i c.args.derived.now)) d) c.index-derived-i.is
+    (c.if-not-is_right_step.ensures.right.0 refl))

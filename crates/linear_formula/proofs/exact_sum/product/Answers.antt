@@ -8,4 +8,5 @@ pub returns-clause-limit : goal.returns-clause-limit
 returns-clause-limit c =
     let e : to_z w128 (of_z w128 c.from.result) ≡ c.args.a = omega (arith, ints) in
     let d : to_z w128 (of_z w128 c.args.b) ≡ c.args.b = omega (arith, ints) in
-    subst (λ z. unsigned_abs z ≤ 2 ^ 63 * unsigned_abs c.args.b) (sym (product_cast c.args.a c.args.b _ _ e d c.ranges.a c.requires)) (product_limit c.args.a c.args.b c.ranges.a)
+    subst (λ z. unsigned_abs z ≤ 2 ^ 63 * unsigned_abs c.args.b) (sym (product_cast c.args.a c.args.b _ _ e d c.ranges.a c.requires))
+    (product_limit c.args.a c.args.b c.ranges.a)

@@ -4,4 +4,5 @@ use Rattle.linear_formula.proofs.reading.summands.Given as goal
 
 abbrev pub invariant-loop-column : goal.invariant-loop-column
 invariant-loop-column g l =
-    l.items.items ++ summands_of_parts (g.R.Reading.term_at l.reading) (drop l.column-index l.column-items) ≡ summands_of_parts (g.R.Reading.term_at l.reading) l.column-items
+    l.items.items ++ summands_of_parts (g.R.Reading.term_at l.reading) (drop l.column-index l.column-items) ≡ summands_of_parts
+    (g.R.Reading.term_at l.reading) l.column-items

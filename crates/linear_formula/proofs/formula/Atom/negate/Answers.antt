@@ -5,4 +5,5 @@ use Rattle.linear_formula.proofs.formula.Atom.negate.Goals as goal
 
 pub returns-clause-law : goal.returns-clause-law
 returns-clause-law c =
-    on_ok_weaker c.negate.result (λ h v. negated_holds (value_of v c.args.self.now.term) (value_of v c.negate.new.self) (h v)) c.negate.ensures.law
+    on_ok_weaker c.negate.result (λ h v. negated_holds (value_of v c.args.self.now.term) (value_of v c.negate.new.self) (h v))
+    c.negate.ensures.law

@@ -11,5 +11,9 @@ use Rattle.linear_formula.proofs.formula.Cube.rename.Goals as goal
 pub returns-clause-law : goal.returns-clause-law
 returns-clause-law c = λ v.
     let f : ℕ → ℕ = λ x. unwrap_or (get nat_cmp c.in_ok-columns.columns x) x in
-    let e : c.rename_onto.new.out ≡ renamed_atoms c.args.map.now c.args.self.now.atoms = c.in_ok-rename_onto.ensures.items ∙ ap (λ l. l ++ renamed_atoms_by f c.as_slice-old.result.now) c.in_ok-atoms.ensures ∙ ap (renamed_atoms_by f) c.as_slice-old.ensures.value ∙ renamed_atoms-same f (renamed_column c.args.map.now) c.args.self.now.atoms c.in_ok-columns.ensures in
-    subst (λ (l : List Atom). HoldsAll v l ↔ HoldsAll (renamed_valuation c.args.map.now v) c.args.self.now.atoms) (sym e) (renamed-holds v c.args.map.now c.args.self.now.atoms)
+    let e : c.rename_onto.new.out ≡ renamed_atoms c.args.map.now c.args.self.now.atoms = c.in_ok-rename_onto.ensures.items
+    ∙ ap (λ l. l ++ renamed_atoms_by f c.as_slice-old.result.now) c.in_ok-atoms.ensures ∙ ap (renamed_atoms_by f)
+    c.as_slice-old.ensures.value
+    ∙ renamed_atoms-same f (renamed_column c.args.map.now) c.args.self.now.atoms c.in_ok-columns.ensures in
+    subst (λ (l : List Atom). HoldsAll v l ↔ HoldsAll (renamed_valuation c.args.map.now v) c.args.self.now.atoms) (sym e)
+    (renamed-holds v c.args.map.now c.args.self.now.atoms)

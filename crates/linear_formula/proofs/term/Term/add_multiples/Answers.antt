@@ -19,12 +19,34 @@ both-requires-clause-limits c =
 
 pub returns-clause-value : goal.returns-clause-value
 returns-clause-value c =
-    IfOk-weaker c.both.result _ _ (λ t k. k ∙ both_same c.args.first (to_z w128 (of_z w128 c.from.result)) c.args.left.now c.args.second (to_z w128 (of_z w128 c.from-2.result)) c.args.right.now c.parts.result.now (to_z w128 (of_z w128 c.constant-constant.result)) (first_is c.args.first c.from.result c.ranges.first c.from.ensures) (first_is c.args.second c.from-2.result c.ranges.second c.from-2.ensures) c.parts.ensures.value (constant_is c.args.right.now c.constant-constant.result c.constant-constant.ensures.value c.constant-constant.ensures.kept) ∙ combination-both c.args.first c.args.left.now c.args.second c.args.right.now) c.both.ensures.value
+    IfOk-weaker c.both.result _ _ (λ t k. k ∙ both_same c.args.first (to_z w128 (of_z w128 c.from.result)) c.args.left.now c.args.second
+    (to_z w128 (of_z w128 c.from-2.result)) c.args.right.now c.parts.result.now (to_z w128 (of_z w128 c.constant-constant.result))
+    (first_is c.args.first c.from.result c.ranges.first c.from.ensures) (first_is c.args.second c.from-2.result c.ranges.second
+    c.from-2.ensures)
+    c.parts.ensures.value (constant_is c.args.right.now c.constant-constant.result c.constant-constant.ensures.value
+    c.constant-constant.ensures.kept)
+    ∙ combination-both c.args.first c.args.left.now c.args.second c.args.right.now) c.both.ensures.value
 
 pub returns-clause-law : goal.returns-clause-law
 returns-clause-law c =
-    IfOk-weaker c.both.result _ _ (λ t k v. ap (value_of v) (k ∙ both_same c.args.first (to_z w128 (of_z w128 c.from.result)) c.args.left.now c.args.second (to_z w128 (of_z w128 c.from-2.result)) c.args.right.now c.parts.result.now (to_z w128 (of_z w128 c.constant-constant.result)) (first_is c.args.first c.from.result c.ranges.first c.from.ensures) (first_is c.args.second c.from-2.result c.ranges.second c.from-2.ensures) c.parts.ensures.value (constant_is c.args.right.now c.constant-constant.result c.constant-constant.ensures.value c.constant-constant.ensures.kept) ∙ combination-both c.args.first c.args.left.now c.args.second c.args.right.now) ∙ value-combination v ((c.args.first, c.args.left.now) ∷ (c.args.second, c.args.right.now) ∷ []) (pos 0)) c.both.ensures.value
+    IfOk-weaker c.both.result _ _ (λ t k v. ap (value_of v) (k ∙ both_same c.args.first (to_z w128 (of_z w128 c.from.result))
+    c.args.left.now
+    c.args.second (to_z w128 (of_z w128 c.from-2.result)) c.args.right.now c.parts.result.now
+    (to_z w128 (of_z w128 c.constant-constant.result))
+    (first_is c.args.first c.from.result c.ranges.first c.from.ensures) (first_is c.args.second c.from-2.result c.ranges.second
+    c.from-2.ensures)
+    c.parts.ensures.value (constant_is c.args.right.now c.constant-constant.result c.constant-constant.ensures.value
+    c.constant-constant.ensures.kept)
+    ∙ combination-both c.args.first c.args.left.now c.args.second c.args.right.now) ∙ value-combination v ((c.args.first, c.args.left.now)
+    ∷ (c.args.second, c.args.right.now) ∷ []) (pos 0)) c.both.ensures.value
 
 pub returns-clause-wide : goal.returns-clause-wide
 returns-clause-wide c = λ w h.
-    c.both.ensures.wide w (subst (λ (u : LinearSum). IsTrue (is_within u)) (sym (both_same c.args.first (to_z w128 (of_z w128 c.from.result)) c.args.left.now c.args.second (to_z w128 (of_z w128 c.from-2.result)) c.args.right.now c.parts.result.now (to_z w128 (of_z w128 c.constant-constant.result)) (first_is c.args.first c.from.result c.ranges.first c.from.ensures) (first_is c.args.second c.from-2.result c.ranges.second c.from-2.ensures) c.parts.ensures.value (constant_is c.args.right.now c.constant-constant.result c.constant-constant.ensures.value c.constant-constant.ensures.kept) ∙ combination-both c.args.first c.args.left.now c.args.second c.args.right.now)) h)
+    c.both.ensures.wide w (subst (λ (u : LinearSum). IsTrue (is_within u))
+    (sym (both_same c.args.first (to_z w128 (of_z w128 c.from.result)) c.args.left.now c.args.second (to_z w128 (of_z w128 c.from-2.result))
+    c.args.right.now c.parts.result.now (to_z w128 (of_z w128 c.constant-constant.result))
+    (first_is c.args.first c.from.result c.ranges.first c.from.ensures) (first_is c.args.second c.from-2.result c.ranges.second
+    c.from-2.ensures)
+    c.parts.ensures.value (constant_is c.args.right.now c.constant-constant.result c.constant-constant.ensures.value
+    c.constant-constant.ensures.kept)
+    ∙ combination-both c.args.first c.args.left.now c.args.second c.args.right.now)) h)

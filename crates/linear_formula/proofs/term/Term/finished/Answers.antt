@@ -9,7 +9,8 @@ use Rattle.linear_formula.proofs.term.Term.finished.Goals as goal
 pub invariant_of-result : goal.invariant_of-result
 invariant_of-result c =
     let e : to_z w128 (of_z w128 c.args.constant) ≡ c.args.constant = to_z-of_z c.ranges.constant in
-    subst (λ (z : ℤ). IsTrue (is_term (record { parts = c.args.items.items; constant = z }))) (sym e) (test-from_IsTerm (record { parts = c.args.items.items; constant = c.args.constant }) (record {
+    subst (λ (z : ℤ). IsTrue (is_term (record { parts = c.args.items.items; constant = z }))) (sym e)
+    (test-from_IsTerm (record { parts = c.args.items.items; constant = c.args.constant }) (record {
       order = c.requires.order;
       within = record {
         count = omega arith;
@@ -21,7 +22,8 @@ invariant_of-result c =
 pub returns-clause-kept : goal.returns-clause-kept
 returns-clause-kept c =
     let e : to_z w128 (of_z w128 c.args.constant) ≡ c.args.constant = to_z-of_z c.ranges.constant in
-    subst (λ (z : ℤ). IsTrue (is_term (record { parts = c.args.items.items; constant = z }))) (sym e) (test-from_IsTerm (record { parts = c.args.items.items; constant = c.args.constant }) (record {
+    subst (λ (z : ℤ). IsTrue (is_term (record { parts = c.args.items.items; constant = z }))) (sym e)
+    (test-from_IsTerm (record { parts = c.args.items.items; constant = c.args.constant }) (record {
       order = c.requires.order;
       within = record {
         count = omega arith;
