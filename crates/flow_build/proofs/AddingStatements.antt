@@ -11,7 +11,7 @@ use Rattle.flow_build.proofs.Sizes.{between_one}
 use Rattle.flow_build.proofs.Fresh.{edges_append}
 use Rattle.c_tree.specs.declared.tree.Stmt.{Stmt}
 use Rattle.c_tree.specs.View.{statement_of, statements_of}
-use Rattle.c_tree.specs.Syntax.{Expression, Statement, block, set, ignore, assume, assert, if_else, loop, do_while, break, continue, return, Statements, no_statements, statement}
+use Rattle.c_tree.specs.Syntax.{Expression, Statement, block, set, ignore, assume, assert, if_else, loop, do_while, break, continue, return, Statements, statement}
 use Rattle.c_tree.specs.WellFormed.{statement_nodes, statements_nodes}
 use Rattle.flow_graph.specs.declared.graph.Edge.{Edge}
 use Rattle.flow_build.specs.declared.builder.Builder.{Builder}

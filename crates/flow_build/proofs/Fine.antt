@@ -254,7 +254,8 @@ module _ (body : Statements) (nodes slots : ℕ) where
       let qs = multiple_parts d b in
       let all = list_all-append (λ (p : ℤ × ℕ). nat_lt p.1 slots) ps qs in
       record {
-        named = both_in (nat_le (length (ps ++ qs)) 2) (list_all (λ p. nat_lt p.1 slots) (ps ++ qs)) (le-leb (length (ps ++ qs)) 2 (two a b))
+        named = both_in (nat_le (length (ps ++ qs)) 2) (list_all (λ p. nat_lt p.1 slots) (ps ++ qs))
+            (le-leb (length (ps ++ qs)) 2 (two a b))
             (all ∙ both_in (list_all (λ p. nat_lt p.1 slots) ps) (list_all (λ p. nat_lt p.1 slots) qs) (parts_named c a h)
             (parts_named d b g));
         coefficients = All-append (λ (part : ℤ × ℕ). IsCoefficient body part.0) ps qs (parts_allowed c a i) (parts_allowed d b j);

@@ -9,7 +9,7 @@ use Rattle.flow_graph.specs.Runs.{End, came, stopped, failed, inside, Called, En
 use Rattle.flow_graph.specs.Columns.{AreAllValues}
 use Rattle.flow_graph.proofs.Values.{run_values}
 use Rattle.flow_build.specs.steps.Blocks.{end_node, entry_node, body_node, first_free}
-use Rattle.flow_build.specs.steps.Procedures.{procedure_blocks, procedure_edges, IsGraphOf, AreGraphsOf}
+use Rattle.flow_build.specs.steps.Procedures.{procedure_blocks, procedure_edges, AreGraphsOf}
 use Rattle.flow_build.proofs.Translated.{AllPlain}
 use Rattle.flow_build.proofs.Outgoing.{At}
 use Rattle.flow_build.proofs.Reaching.{Told, Reach, Covers, then_covers, passed}

@@ -36,7 +36,7 @@ pub fits_term : (a n b : ℤ) → unsigned_abs a ≤ 2 ^ 40 → FitsSigned w64 b
 fits_term a n b h f e =
     subst (λ z. FitsSigned w128 z) (sym (term_is a n b h f e)) (fits_wide (a *ℤ b) (omega (arith, product_small a b h f)))
 
-sum_limit : (a b : ℤ) → unsigned_abs (a +ℤ b) ≤ unsigned_abs a + unsigned_abs b
+pub sum_limit : (a b : ℤ) → unsigned_abs (a +ℤ b) ≤ unsigned_abs a + unsigned_abs b
 sum_limit a b = omega (arith, ints)
 
 -- one part more

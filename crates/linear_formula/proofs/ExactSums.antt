@@ -6,6 +6,7 @@ use Rattle.std.proofs.lemmas.Int.{ints, unsigned_abs-mul, fits_signed_from_abs}
 use Rattle.std.proofs.Math.Nat.{mul-le-mul}
 use Rattle.linear_formula.proofs.Finishing.{cast_wide}
 use Rattle.linear_formula.proofs.Ring.{mul-add, mul-assoc}
+use Rattle.linear_formula.proofs.Evaluating.{sum_limit}
 
 size_of_64 : (a : ℤ) → FitsSigned w64 a → unsigned_abs a ≤ 2 ^ 63
 size_of_64 a f = omega (arith, ints, f)
@@ -97,9 +98,6 @@ middle_is : (t : ℤ) → unsigned_abs t < 2 ^ 48 → (passed (middle_of t) ≡ 
 middle_is t h =
     let b : unsigned_abs (t *ℤ pos (2 ^ 48)) < 2 ^ 96 = omega (arith, ints, h) in
     (ap (λ z. passed (z *ℤ pos (2 ^ 48))) (passed_is t (omega (arith, h))) ∙ passed_is (t *ℤ pos (2 ^ 48)) (omega (arith, b)), b)
-
-sum_limit : (a b : ℤ) → unsigned_abs (a +ℤ b) ≤ unsigned_abs a + unsigned_abs b
-sum_limit a b = omega (arith, ints)
 
 low_and_middle_is : (low t : ℤ) → unsigned_abs low < 2 ^ 96 → unsigned_abs t < 2 ^ 48 → (low_and_middle low t ≡ low +ℤ (t *ℤ pos (2 ^ 48)))
     × (unsigned_abs (low +ℤ (t *ℤ pos (2 ^ 48))) < 2 ^ 97)

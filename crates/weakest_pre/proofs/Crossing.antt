@@ -1,5 +1,5 @@
 -- The states before an edge, and those that go over it into a target.
-use Rattle.std.proofs.Common.{◌≡◌, ℕ, ◌<◌, Bool, true, false, List, [], ◌∷◌, ◌++◌, zero, suc, cond, ◌-◌, ◌==◌, ℤ, pos, negsuc, ◌+ℤ◌, ◌*ℤ◌, nat_lt, arith, refl, ◌∙◌, sym, subst}
+use Rattle.std.proofs.Common.{◌≡◌, ℕ, ◌<◌, Bool, true, false, List, [], ◌∷◌, ◌++◌, zero, suc, ◌-◌, ℤ, pos, negsuc, ◌+ℤ◌, ◌*ℤ◌, nat_lt, arith, refl, ◌∙◌, sym, subst}
 use Rattle.std.specs.Prelude.{IsTrue, slice_index_or, if◌then◌else◌}
 use Rattle.std.specs.List.{list_all}
 use Rattle.std.proofs.lemmas.Int.{ints}
@@ -24,8 +24,11 @@ use Rattle.flow_graph.specs.Readings.{entry_reading, one_reading}
 use Rattle.flow_graph.specs.Regions.{FitsEdge, LiesIn}
 use Rattle.weakest_pre.specs.Preimage.{lin_sum, range_sums, assigned_sums}
 use Rattle.weakest_pre.specs.Predecessors.{HoldsPredecessors, HoldsNoOther}
-use Rattle.weakest_pre.proofs.Agreeing.{value-bounds, bounds-value, value-is64, is64-value, holds-agree, agree-back, holds-append, holds-split, rows-absent, other}
+use Rattle.weakest_pre.proofs.Agreeing.{value-bounds, bounds-value, holds-agree, agree-back, holds-append, holds-split, rows-absent, other}
+use Rattle.flow_graph.proofs.Numbers.{value_of_64 as is64-value}
+use Rattle.flow_graph.proofs.Numbers.{value_64 as value-is64}
 use Rattle.weakest_pre.proofs.Places.{slots-agree, entry-reads, one-reads, behind-agrees, changed, value-assigned, return-reads}
+use Rattle.flow_graph.proofs.Values.{values_with as slot-values}
 
 -- Rows that are read
 
@@ -200,12 +203,6 @@ columns-values s entry vs es = λ x. by_tests x (nat_lt x first_entry) (nat_lt x
   by_tests x false true d = value-is64 (value_at entry (x - first_entry)) (es (x - first_entry))
   by_tests x false false true = refl
   by_tests x false false false = refl
-
-slot-values : (s : State) (slot : ℕ) (z : ℤ) → AreValues s → IsTrue (is_value z) → AreValues (with_slot s slot z)
-slot-values s slot z vs h = λ x. by_test (s x) (x == slot) (vs x) where
-  by_test : (y : ℤ) (b : Bool) → IsTrue (is_value y) → IsTrue (is_value (cond b z y))
-  by_test y true k = h
-  by_test y false k = k
 
 only-at : (slot x k : ℕ) → k < 1 → slice_index_or (slot ∷ []) k x ≡ x → x ≡ slot
 only-at slot x zero h e = sym e

@@ -1,5 +1,5 @@
 -- The columns before an edge, read at the sums in the places of those behind it.
-use Rattle.std.proofs.Common.{◌≡◌, ◌⊎◌, inl, inr, cond, ℕ, ◌<◌, ◌≤◌, ◌+◌, ◌-◌, Bool, true, false, List, [], ◌∷◌, length, map, ℤ, pos, ◌+ℤ◌, ◌*ℤ◌, ◌==◌, nat_lt, nat_le, ◌||◌, arith, refl, ◌∙◌, ap, sym}
+use Rattle.std.proofs.Common.{◌≡◌, ◌⊎◌, inl, inr, cond, ℕ, ◌<◌, ◌≤◌, ◌+◌, ◌-◌, Bool, true, false, List, [], ◌∷◌, length, map, ℤ, pos, ◌+ℤ◌, ◌*ℤ◌, ◌==◌, nat_lt, nat_le, arith, refl, ◌∙◌, ap, sym}
 use Rattle.std.specs.Prelude.{IsTrue, if◌then◌else◌}
 use Rattle.std.specs.List.{list_all}
 use Rattle.std.proofs.lemmas.Int.{ints}
@@ -19,6 +19,7 @@ use Rattle.flow_graph.specs.Readings.{entry_reading, one_reading}
 use Rattle.shadow_elim.specs.Sums.{total}
 use Rattle.weakest_pre.specs.Preimage.{lin_sum}
 use Rattle.weakest_pre.proofs.Agreeing.{Agree, other}
+use Rattle.shadow_elim.proofs.Projecting.{or-cases as either_from}
 
 -- Slots
 
@@ -118,10 +119,6 @@ value-assigned s entry value n =
     value.parts value.constant (slots-agree s entry) n
 
 -- The exit
-
-either_from : (a b : Bool) → IsTrue (a || b) → IsTrue a ⊎ IsTrue b
-either_from true b h = inl refl
-either_from false b h = inr h
 
 past-entry : (x : ℕ) → IsTrue (is_value_column first_entry first_entry x) → first_entry ≤ x
 past-entry x h = by_side (either_from (is_among first_entry first_entry x) (is_among first_exit first_entry x) h) where
