@@ -176,7 +176,7 @@ or-left : (a b : Bool) → IsTrue a → IsTrue (a || b)
 or-left true b h = refl
 or-left false b h = absurd cc
 
-or-cases : (a b : Bool) → IsTrue (a || b) → IsTrue a ⊎ IsTrue b
+pub or-cases : (a b : Bool) → IsTrue (a || b) → IsTrue a ⊎ IsTrue b
 or-cases true b h = inl h
 or-cases false b h = inr h
 

@@ -45,7 +45,7 @@ AsStrong-from_test t s h =
       constant = let e : int_le t.constant s.constant ≡ true = hs.1 in omega (arith, ints, e);
     }
 
-int_le-from : (a b : ℤ) → a ≤ℤ b → int_le a b ≡ true
+pub int_le-from : (a b : ℤ) → a ≤ℤ b → int_le a b ≡ true
 int_le-from a b h = grind (arith, ints)
 
 pub test-from_AsStrong : (t s : LinearSum) → AsStrong t s → is_as_strong t s ≡ true
