@@ -1,0 +1,5 @@
+use Rattle.graph_tests.proofs.SameMeaning.{program_values}
+use Rattle.graph_tests.proofs.laws.programs_return_values.Goals as goal
+
+pub returns : goal.returns
+returns c = λ P gs are. program_values P gs are

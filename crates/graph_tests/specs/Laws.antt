@@ -1,0 +1,28 @@
+-- The laws of programs and their graphs.
+use Rattle.std.specs.Prelude.{◌↔◌, List}
+use Rattle.c_tree.specs.Syntax.{PureProgram}
+use Rattle.flow_graph.specs.declared.graph.Graph.{Graph}
+use Rattle.flow_build.specs.Promises.{SameRuns, AreBounded}
+use Rattle.summary_form.specs.declared.summary.Summary.{Summary}
+use Rattle.summary_form.specs.Instances.{graph_runs, arity_in, program_runs, arity_of_program}
+use Rattle.summary_form.specs.Answering.{SummaryHolds}
+use Rattle.summary_form.specs.Laws.{HasValues, AnsweredHasNoRun}
+
+-- as `build` promises of the graphs that it makes
+pub record AreGraphsOf (P : PureProgram) (gs : List Graph) : Type 0 where
+  pub runs : SameRuns P gs
+  pub bounds : AreBounded P gs
+
+abbrev pub ProgramsReturnValues : Type 0
+ProgramsReturnValues =
+    (P : PureProgram) (gs : List Graph) → AreGraphsOf P gs → HasValues (program_runs P)
+
+abbrev pub OneMeaning : Type 0
+OneMeaning =
+    (P : PureProgram) (gs : List Graph) → AreGraphsOf P gs → (summary : Summary) →
+    (SummaryHolds (program_runs P) (arity_of_program P) summary
+    ↔ SummaryHolds (graph_runs gs) (arity_in gs) summary)
+
+abbrev pub AnsweredInPrograms : Type 0
+AnsweredInPrograms =
+    (P : PureProgram) (gs : List Graph) → AreGraphsOf P gs → AnsweredHasNoRun (program_runs P)

@@ -1,0 +1,117 @@
+//! The graph of a program, edge by edge.
+
+use crate::programs::program_of;
+use flow_build::build::build;
+use flow_graph::graph::{Edge, Graph};
+use flow_graph::graphs::Graphs;
+use linear_formula::formula::Cube;
+use std::alloc::{AllocError, Global};
+use std::fmt::Write;
+use std::process::Abort;
+use std::test::Fail;
+
+const SUM: &str = "int main(){ int x = 3; x = x + 4; assert(x == 7); return 0; }";
+
+/// The edges of the sum.
+const EDGES: &[&str] = &[
+    "to 4: entry of 0",
+    "4 to 5: guard",
+    "2 to 3: 1 = [] + 0",
+    "3 to 0: return of 1",
+    // int x = 3;
+    "5 to 6: 0 = [] + 3",
+    // x = x + 4;
+    "6 to 8: 1 = [(1, 0)] + 4",
+    "8 to 7: 0 = [(1, 1)] + 0",
+    // assert(x == 7);
+    "7 to 9: guard [(0, 1)] + -7 <= 0 [(0, -1)] + 7 <= 0",
+    "7 to 1: failure of 0 [(0, -1)] + 8 <= 0",
+    "7 to 1: failure of 0 [(0, 1)] + -6 <= 0",
+    // return 0;
+    "9 to 10: 1 = [] + 0",
+    "10 to 0: return of 1",
+];
+
+/// Writes the rows of an edge.
+fn write_rows(text: &mut String, rows: &Cube) -> Result<(), AllocError> {
+    for row in rows.atoms.as_slice() {
+        write!(
+            text,
+            " {:?} + {} <= 0",
+            row.term.parts(),
+            row.term.constant()
+        )?;
+    }
+    Ok(())
+}
+
+/// The text of an edge: its nodes, its kind, slots and coefficients.
+fn edge_text(alloc: Global, edge: &Edge) -> Result<String, AllocError> {
+    let mut text = String::new(alloc);
+    match edge {
+        Edge::Entry { to, params } => write!(text, "to {to}: entry of {params}")?,
+        Edge::Assign {
+            from,
+            to,
+            slot,
+            value,
+        } => write!(
+            text,
+            "{from} to {to}: {slot} = {:?} + {}",
+            value.parts.as_slice(),
+            value.constant
+        )?,
+        Edge::Guard { from, to, rows } => {
+            write!(text, "{from} to {to}: guard")?;
+            write_rows(&mut text, rows)?;
+        }
+        Edge::Assert { from, to, id, rows } => {
+            write!(text, "{from} to {to}: failure of {id}")?;
+            write_rows(&mut text, rows)?;
+        }
+        Edge::Return { from, to, slot } => write!(text, "{from} to {to}: return of {slot}")?,
+        Edge::Input { .. } | Edge::Pick { .. } | Edge::Call { .. } => write!(text, "{edge:?}")?,
+    }
+    Ok(text)
+}
+
+/// The first edge that has another text.
+fn first_other(alloc: Global, edges: &[Edge], texts: &[&str]) -> Result<Option<usize>, AllocError> {
+    for (place, (edge, text)) in edges.iter().zip(texts).enumerate() {
+        if edge_text(alloc, edge)?.as_str() != *text {
+            return Ok(Some(place));
+        }
+    }
+    Ok(None)
+}
+
+/// The nodes, the exit, the failure, the parameters, the slots and the edges.
+fn numbers(graph: &Graph) -> [usize; 6] {
+    [
+        graph.nodes as usize,
+        graph.exit as usize,
+        graph.fail as usize,
+        graph.params as usize,
+        graph.slots as usize,
+        graph.edges.as_slice().len(),
+    ]
+}
+
+fn graphs_of(rt: &impl Abort, alloc: Global, text: &str) -> Result<Graphs, Fail> {
+    let program = program_of(rt, alloc, text)?;
+    Ok(build(alloc, &program)?)
+}
+
+#[test]
+fn builds_the_graph_of_a_sum(rt: HostRuntime) -> Result<(), Fail> {
+    let graphs = graphs_of(&rt, rt.alloc(), SUM)?;
+    let [graph] = graphs.graphs.as_slice() else {
+        return Err(Fail::new("not one graph"));
+    };
+    assert_eq!(rt; numbers(graph), [11, 0, 1, 0, 2, 12]);
+    assert_eq!(rt;
+        first_other(rt.alloc(), graph.edges.as_slice(), EDGES)?,
+        None
+    );
+    Ok(())
+}
