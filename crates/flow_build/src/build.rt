@@ -104,8 +104,7 @@ fn graph(alloc: Global, procedure: &Procedure) -> Result<Graph, OutOfMemory>
 }
 
 /// The control-flow graphs of a program's procedures, one for each, with the same numbers. Their
-/// runs are those of the
-/// program, with equal depth, arguments, inputs and end.
+/// runs are those of the program, with equal depth, arguments, inputs and end.
 pub fn build(alloc: Global, program: &Program) -> Result<Graphs, OutOfMemory>
     ensures runs { IfOk result
         (λ g. SameRuns (program_from program.now.procedures.items program.now.main

@@ -40,8 +40,7 @@ pub record FitsEdge (edge : Edge) (target : List Atom) : Type 0 where
   pub columns : IsTrue (rows_name_only (is_region_column edge) target)
 
 -- From a state of slots and entry values, over the edge, into the target. Before the entry edge
--- there are entry values
--- alone. (An edge that is no call needs no graphs.)
+-- there are entry values alone. (An edge that is no call needs no graphs.)
 abbrev pub GoesInto : Edge → List Atom → State → (entry : List ℤ) → Type 0
 GoesInto (Entry to params) target s entry =
     (length entry ≡ params) × LiesIn entry target (inside to (entered entry))

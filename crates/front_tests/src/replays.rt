@@ -1,6 +1,5 @@
 //! A program that does what its first input says, run on inputs. Outcomes are counted by hand: a
-//! statement, a test of
-//! a loop and a node of an expression are a step each.
+//! statement, a test of a loop and a node of an expression are a step each.
 
 use crate::sources::program;
 use run_replay::{Outcome, Replayed, replay};

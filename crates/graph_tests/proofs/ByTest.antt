@@ -2,7 +2,7 @@
 use Rattle.std.proofs.Common.{◌≡◌, ◌≢◌, ℕ, zero, suc, ◌<◌, Bool, true, false, not, ◌&&◌, ◌==◌, nat_lt, nat_le, List, [], ◌∷◌, arith, refl, subst}
 use Rattle.std.specs.Prelude.{Option, None, Some, slice_get, IsTrue}
 use Rattle.std.specs.List.{list_all}
-use Rattle.linear_formula.proofs.Limits.{both}
+use Rattle.linear_formula.proofs.Limits.{both, not_so as is_false}
 use Rattle.std.proofs.lemmas.Bool.{ltb-true, leb-true}
 use Rattle.std.proofs.lemmas.Bool.Decides.{Decides-eqb, Decides-not}
 use Rattle.flow_graph.specs.declared.graph.Edge.{Edge}
@@ -21,10 +21,6 @@ same true true h = refl
 same true false h = absurd (no_way h)
 same false true h = absurd (no_way h)
 same false false h = refl
-
-is_false : (b : Bool) → IsTrue (not b) → b ≡ false
-is_false true h = absurd (no_way h)
-is_false false h = refl
 
 apart : (a b : ℕ) → IsTrue (not (a == b)) → a ≢ b
 apart a b h = (Decides-not (a == b) (Decides-eqb a b)).0 h

@@ -15,8 +15,7 @@ use std::test::Fail;
 use weakest_pre::preimage::pre;
 
 /// A lock is taken and given back; `n` changes where it is given back. The slots are those of
-/// `lock`, `n`, `old`, and one
-/// for what is worked out on the way.
+/// `lock`, `n`, `old`, and one for what is worked out on the way.
 const LOCK_LOOP: &str = "int main() { int lock = 0; int n = input(); int old = 0;
   do {
     assert(lock == 0);

@@ -9,9 +9,9 @@ use linear_formula::formula::{Atom, Atoms, Cube};
 use linear_formula::question::Question;
 use linear_formula::term::{Parts, Term};
 use shadow_elim::limit::Limit;
+use shadow_elim::projection::ProjectionError;
 use std::alloc::Global;
 use std::test::Fail;
-use shadow_elim::projection::ProjectionError;
 use weakest_pre::preimage::pre;
 
 /// Multiples of columns and a constant, at most 0.

@@ -1,6 +1,5 @@
 //! The graphs of programs, walked edge by edge: each walk ends as the replay of the program does,
-//! with as many inputs
-//! used.
+//! with as many inputs used.
 
 use crate::programs::{hold, lin_value, program_of};
 use crate::sources::{CONTEXTS, EXPRESSIONS, HEAD, PROGRAMS, SHARED};

@@ -46,13 +46,11 @@ pub struct Derived {
 }
 
 /// Why nothing meets a cube: derived rows that end in a contradiction, or a case for `column <= at`
-/// and one for
-/// `column >= at + 1` after derived rows.
+/// and one for `column >= at + 1` after derived rows.
 ///
 /// `copy` and the drop call themselves down to the deepest branch. On a stack of 8 MiB they were
-/// tried with branches that
-/// nest 3000 deep; `refutes` goes down `MAX_NESTING` branches at most, however deep the certificate
-/// is.
+/// tried with branches that nest 3000 deep; `refutes` goes down `MAX_NESTING` branches at most,
+/// however deep the certificate is.
 #[derive(Drop)]
 pub enum Certificate {
     Close(Vec<Derived>),

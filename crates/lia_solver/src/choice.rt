@@ -29,8 +29,7 @@ pub enum Choice {
 }
 
 /// What lower rows say of a column: the least integer that they allow, and the greatest one that is
-/// not above their
-/// bound.
+/// not above their bound.
 struct LowerBound {
     bound: i128,
     floor: i128,

@@ -64,8 +64,7 @@ fn ask(alloc: Global, left: &Cube, atom: &Atom) -> Result<Answer, OutOfMemory>
 }
 
 /// Whether each assignment that meets the left cube meets the right one. The atoms of the right
-/// cube are asked in
-/// order, until one isn't entailed or meets a limit.
+/// cube are asked in order, until one isn't entailed or meets a limit.
 pub fn entails(alloc: Global, left: &Cube, right: &Cube) -> Result<Entailed, OutOfMemory>
     ensures yes { IfOk result
         (λ e. IfYes e (λ certificates. RefuteEach left.now.atoms right.now.atoms certificates)) }

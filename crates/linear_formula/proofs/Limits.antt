@@ -26,7 +26,7 @@ pub both_in : (a b : Bool) → IsTrue a → IsTrue b → IsTrue (a && b)
 both_in true b h k = k
 both_in false b h k = h
 
-not_so : (b : Bool) → IsTrue (not b) → b ≡ false
+pub not_so : (b : Bool) → IsTrue (not b) → b ≡ false
 not_so true h = absurd (no_way_true h)
 not_so false h = refl
 

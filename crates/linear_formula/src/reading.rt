@@ -27,8 +27,7 @@ pub fn column_term(alloc: Global, column: u32) -> Result<Term, OutOfMemory>
 }
 
 /// What has to be added up to put the terms of a reading in the places of a term's columns: a
-/// multiple for each part, in
-/// order, and then the constant. `Term::combine` adds it up.
+/// multiple for each part, in order, and then the constant. `Term::combine` adds it up.
 pub fn summands<R: Reading>(
     alloc: Global,
     reading: &R,

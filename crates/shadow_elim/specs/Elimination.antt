@@ -61,8 +61,7 @@ abbrev pub counted : List LinearSum → Remainder
 counted rows = if nat_le (length rows) MAX_ROWS then remains rows else too_many
 
 -- the rows without the column: those that don't name it, and then the sums of the pairs, tightened.
--- Each sum is measured
--- before it is tightened.
+-- Each sum is measured before it is tightened.
 abbrev pub after_column : ℕ → List LinearSum → Remainder
 after_column x rows =
     if list_all is_within (pair_sums x rows)

@@ -42,8 +42,8 @@ settled splits atoms divide too_wide = limit_met (Wide (question.Cube (cube_of a
 settled splits atoms divide too_many_rows = limit_met (Rows (cube_of atoms))
 
 -- The search of a branch after the splits so far, the side at most k of a split first, and then the
--- side at least
--- k + 1. The depth only bounds the recursion: that many splits on one way are too many.
+-- side at least k + 1. The depth only bounds the recursion: that many splits on one way are too
+-- many.
 abbrev pub search : (depth : ℕ) → (splits : List Cube) → List Atom → Search
 search zero splits atoms = settled splits atoms (λ x k. limit_met (Branches splits))
     (outcome_of atoms)

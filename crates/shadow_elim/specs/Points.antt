@@ -22,14 +22,13 @@ least_of z [] = z
 least_of z (y ∷ ys) = least_of (int_min z y) ys
 
 -- A row at the values chosen so far, where the columns without a value count 0. For a row a·x +
--- rest with a above 0,
--- x is at most -rest / a; for a row -b·x + rest, x is at least rest / b.
+-- rest with a above 0, x is at most -rest / a; for a row -b·x + rest, x is at least rest / b.
 abbrev pub rest_of : List (ℕ × ℤ) → LinearSum → ℤ
 rest_of values t = value_of (valuation values) t
 
 -- The greatest integer that the upper rows allow, the least one that the lower rows allow, and the
--- greatest one that
--- is not above their bound before it is rounded. The rows of the range are among them.
+-- greatest one that is not above their bound before it is rounded. The rows of the range are among
+-- them.
 abbrev pub upper_bound : ℕ → List (ℕ × ℤ) → List LinearSum → ℤ
 upper_bound x values rows =
     least_of greatest_value (map (λ t. floor_quotient (neg_ℤ (rest_of values t)) (size_of x t))
@@ -50,8 +49,7 @@ abbrev pub nearest : (low high : ℤ) → ℤ
 nearest low high = if int_lt (pos 0) low then low else (if int_lt high (pos 0) then high else pos 0)
 
 -- What a branch comes to: values for its columns, a contradiction, a split of a column into at most
--- k and at least
--- k + 1, or a limit of the elimination.
+-- k and at least k + 1, or a limit of the elimination.
 pub data Outcome : Type 0 where
   chosen : List (ℕ × ℤ) → Outcome
   refuted : Outcome

@@ -31,8 +31,7 @@ abbrev pub is_contradiction : LinearSum → Bool
 is_contradiction t = has_no_parts t && int_lt (pos 0) t.constant
 
 -- Whether a row stays between those before it and those after it: of rows with the same
--- coefficients the first one
--- with the greatest constant, and none that always holds.
+-- coefficients the first one with the greatest constant, and none that always holds.
 abbrev pub stays : List LinearSum → LinearSum → List LinearSum → Bool
 stays before t after =
     not (is_trivial t) && (not (list_any (is_as_strong t) before) && not

@@ -12,8 +12,7 @@ use Rattle.shadow_elim.specs.Elimination.{elimination, first_inexact, listed_row
 use Rattle.shadow_elim.specs.Plan.{solution, limit_met}
 
 -- The elimination of columns from a cube meets the limit. A pair is met only where the elimination
--- ends: one that
--- comes after a row beyond the limits was never combined.
+-- ends: one that comes after a row beyond the limits was never combined.
 abbrev pub IsMetBy : Cube → List ℕ → Limit → Type 0
 IsMetBy cube columns Columns = ⊥
 IsMetBy cube columns (Wide branch) =

@@ -69,8 +69,7 @@ impl DerivedRows {
 pub struct Shadow {
     pub pre: Pre,
     /// A row for each new row that stayed after its column. Rows are numbered from 0: those of the
-    /// cube, the range
-    /// rows of the eliminated columns, and these.
+    /// cube, the range rows of the eliminated columns, and these.
     pub rows: DerivedRows,
 }
 

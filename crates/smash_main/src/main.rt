@@ -20,8 +20,7 @@ use std::process::ExitCode;
 const NO_MEMORY: u8 = 7;
 
 /// The words after the program's name. Words that can't be read, as those that aren't UTF-8, are no
-/// command, and so
-/// are no words.
+/// command, and so are no words.
 fn words_of(rt: &HostRuntime) -> Result<Vec<String>, AllocError> {
     let mut words = Vec::new(rt.alloc());
     match std::env::args(rt) {

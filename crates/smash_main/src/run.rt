@@ -24,8 +24,7 @@ usage: smash check [--budget n] [--workers n]
 ";
 
 /// How the program ended: 0 and 1 are verdicts, 3 a refusal of the source, 4 of the words, 5 a
-/// failed read, 6 a failed
-/// write, 7 want of memory.
+/// failed read, 6 a failed write, 7 want of memory.
 #[derive(Clone, Copy, PartialEq, Eq, Debug)]
 pub struct Finish {
     pub status: u8,
@@ -67,8 +66,7 @@ fn obey<S: Source, K: Sink>(
 }
 
 /// Runs the program on its words, a source and a sink. All that it says goes to the sink, and its
-/// whole output is made
-/// before the first byte is written.
+/// whole output is made before the first byte is written.
 pub fn run<S: Source, K: Sink>(
     alloc: Global,
     words: &[String],

@@ -159,8 +159,7 @@ fn decides_steps(rt: HostRuntime) -> Result<(), Fail> {
 }
 
 /// Whether a branch at the value refutes that twice the column 0 is the number, with its sides as
-/// they
-/// are or exchanged.
+/// they are or exchanged.
 fn refutes_at(alloc: Global, number: i32, at: i64, exchanged: bool) -> Result<bool, LinError> {
     let cube = cube_of(
         alloc,
@@ -229,8 +228,7 @@ fn decides_bounds(rt: HostRuntime) -> Result<(), Fail> {
 }
 
 /// Whether the row of the numbers is a contradiction: the column 7 is above its range, and the
-/// column 3
-/// below.
+/// column 3 below.
 fn refutes_ranges(alloc: Global, parts: &[(u32, i64)]) -> Result<bool, LinError> {
     let above = Atom {
         term: term_of(alloc, 7, -1, 9_223_372_036_854_775_808)?,

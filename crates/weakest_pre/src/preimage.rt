@@ -161,12 +161,9 @@ fn asked_are_terms(edge: &Edge, target: &Cube)
 
 /// The cube of the states before an edge that go over it into the target (Dijkstra's weakest
 /// precondition, and over 64-bit values its projection where the edge forgets a slot).
-/// `Pre::inexact`
-/// is the first pair of rows whose elimination may let other states in. Before an assignment the
-/// value
-/// is asked for first, then the rows of the target, then the value's range; the limit is that of
-/// the
-/// first sum that is too wide, or of the elimination.
+/// `Pre::inexact` is the first pair of rows whose elimination may let other states in. Before an
+/// assignment the value is asked for first, then the rows of the target, then the value's range;
+/// the limit is that of the first sum that is too wide, or of the elimination.
 pub fn pre(alloc: Global, edge: &Edge, target: &Cube) -> Result<Pre, PreError>
     requires { is_call edge.now ≡ false }
     ensures rows { IfOk result

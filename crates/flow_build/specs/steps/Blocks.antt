@@ -20,8 +20,8 @@ abbrev pub one : ℕ → Edge → Block
 one n e = record { node = n; edges = e ∷ [] }
 
 -- The nodes of every graph: its exit, the one of failures, the one behind the body's end, the one
--- that returns, the one
--- after the entry, and the one where the body begins. Others are numbered from `first_free` on.
+-- that returns, the one after the entry, and the one where the body begins. Others are numbered
+-- from `first_free` on.
 abbrev pub exit_node : ℕ
 exit_node = 0
 

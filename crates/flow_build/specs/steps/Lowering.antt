@@ -1,6 +1,5 @@
 -- The blocks of values, tests and statements. Each begins at a given node; its other nodes are
--- numbered from `lo` on, and
--- its slots from `t` on.
+-- numbered from `lo` on, and its slots from `t` on.
 use Rattle.std.specs.Prelude.{ℕ, ◌+◌, max, Bool, true, false, List, [], ◌∷◌, ◌++◌, None, Some, pos}
 use Rattle.c_tree.specs.Syntax.{Expression, Statement, block, set, ignore, assume, assert, if_else, loop, do_while, break, continue, return, Statements, no_statements, statement}
 use Rattle.flow_graph.specs.declared.graph.Edge.{Edge}

@@ -60,8 +60,7 @@ subtracted later_call v u =
     (kept_if (overflows_by (negsuc 0) u) u)
 
 -- A product is a multiple by a side that has a value before the run. Where neither side has, a
--- constant side stops the
--- run, and what is done with the sides' values is never reached.
+-- constant side stops the run, and what is done with the sides' values is never reached.
 abbrev pub multiplied : (left right : Option ℤ) → (later_call : Bool) → Value → Value → Value
 multiplied (Some c) right later_call v u = scaled c u
 multiplied None (Some c) later_call v u = scaled c v
