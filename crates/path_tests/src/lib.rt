@@ -1,0 +1,5 @@
+//! Tests of shortest paths, and nothing else.
+#![tactic(auto)]
+
+#[cfg(test)]
+mod routes;
