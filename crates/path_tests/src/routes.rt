@@ -6,7 +6,8 @@ use abstract_path::frontier::{Route, frontier, is_reached};
 use std::alloc::{AllocError, Global};
 use std::test::Fail;
 
-/// From 0 to 3 over 1 or 2, each over two edges, over 4 and 5, and straight; the last edge leads back.
+/// From 0 to 3 over 1 or 2, each over two edges, over 4 and 5, and straight; the last edge leads
+/// back.
 const EDGES: [(u32, u32); 9] = [
     (0, 1),
     (1, 3),
@@ -25,7 +26,8 @@ fn edges() -> &'static [(u32, u32); 9]
     &EDGES
 }
 
-/// Which edges are shut, the marked regions, and the edges of a shortest path with the place of its last crossing.
+/// Which edges are shut, the marked regions, and the edges of a shortest path with the place of its
+/// last crossing.
 /// `None`: there is no path.
 type Case = ([bool; 9], [bool; 6], Option<(&'static [u32], u32)>);
 
