@@ -1,5 +1,8 @@
 //! Shadows that are known, their limits, and small boxes by brute force.
 
+ghost use Rattle.std.specs.Prelude.{IsTrue};
+ghost use Rattle.linear_formula.specs.LinearSum.{is_ascending};
+
 use crate::rows::{Row, cube_of, push_row, small_cube};
 use linear_formula::assignment::{Assignment, Values};
 use linear_formula::error::LinError;
@@ -114,7 +117,9 @@ fn limits_have_kinds(rt: HostRuntime) -> Result<(), Fail> {
     Ok(())
 }
 
-fn holds_at(alloc: Global, cube: &Cube, values: &[(u32, i64)]) -> Result<bool, LinError> {
+fn holds_at(alloc: Global, cube: &Cube, values: &[(u32, i64)]) -> Result<bool, LinError>
+    requires { IsTrue (is_ascending values.now) }
+{
     let values = Values::from_vec(Vec::from_slice(alloc, values)?);
     let at = Assignment::new(values);
     Ok(cube.holds(&at))
