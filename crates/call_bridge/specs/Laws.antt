@@ -1,0 +1,78 @@
+-- What the asked query and the preimage over a must promise, without a call.
+use Rattle.std.specs.Prelude.{◌≡◌, ◌↔◌, ◌++◌, ℕ, List, None, Some, slice_get, ◌<◌, IsTrue, length}
+use Rattle.linear_formula.specs.LinearSum.{Valuation}
+use Rattle.linear_formula.specs.Formula.{HoldsAll, are_terms}
+use Rattle.linear_formula.specs.declared.formula.Atom.{Atom}
+use Rattle.flow_graph.specs.declared.graph.Edge.{Edge}
+use Rattle.flow_graph.specs.WellFormed.{has_slots, max_slots}
+use Rattle.flow_graph.specs.Columns.{first_entry, rows_name_only}
+use Rattle.shadow_elim.specs.Projection.{gives}
+use Rattle.shadow_elim.specs.ProjectionLaws.{Pair}
+use Rattle.summary_form.specs.declared.path.Path.{Path}
+use Rattle.summary_form.specs.declared.query.ExitKind.{ExitKind}
+use Rattle.summary_form.specs.NotMays.{Fits}
+use Rattle.call_bridge.specs.Calls.{arguments, result_slot, inner_column}
+use Rattle.call_bridge.specs.Asked.{asked, start_of, end_of, query_of, FitsCall, HoldsCalls, HoldsNoOtherCall}
+use Rattle.call_bridge.specs.Musts.{must_preimage, FitsMust, HoldsMust, HoldsNoOtherMust}
+
+-- where an edge names slots, the arguments and the slot of a call are slots
+pub record AreSlots (args : List ℕ) (slot : ℕ) : Type 0 where
+  pub are_slots : (j a : ℕ) → slice_get args j ≡ Some a → a < first_entry
+  pub slot_low : slot < first_entry
+
+abbrev pub CallsNameSlots : Type 0
+CallsNameSlots =
+    (edge : Edge) → IsTrue (has_slots max_slots edge) → AreSlots (arguments edge) (result_slot edge)
+
+-- every call from the source into the target meets the asked rows
+abbrev pub AskedHolds : Type 0
+AskedHolds =
+    (exit : ExitKind) (args : List ℕ) (slot : ℕ) (source target rows : List Atom) (pair : Pair) →
+    FitsCall args slot source target → asked exit args slot source target ≡ gives rows pair →
+    HoldsCalls exit args slot source target rows
+
+-- without an inexact pair, all values that meet them are those of such a call
+abbrev pub AskedIsExact : Type 0
+AskedIsExact =
+    (exit : ExitKind) (args : List ℕ) (slot : ℕ) (source target rows : List Atom) →
+    FitsCall args slot source target → asked exit args slot source target ≡ gives rows None →
+    HoldsNoOtherCall exit args slot source target rows
+
+-- the asked query fits a procedure that has an entry value for each argument and one exit value
+abbrev pub AskedFits : Type 0
+AskedFits =
+    (proc : ℕ) (exit : ExitKind) (args : List ℕ) (slot : ℕ) (source target rows : List Atom)
+    (pair : Pair) →
+    FitsCall args slot source target → asked exit args slot source target ≡ gives rows pair →
+    Fits proc (record { entries = length args; exits = 1 }) (query_of proc exit rows)
+
+-- the asked rows hold where the query's cubes do
+abbrev pub QueryIsMet : Type 0
+QueryIsMet =
+    (v : Valuation) (rows : List Atom) →
+    HoldsAll v (start_of rows ++ end_of rows) ↔ HoldsAll v rows
+
+-- the must's preimage holds of every state from which the must leads into the target
+abbrev pub MustPreimageHolds : Type 0
+MustPreimageHolds =
+    (must : Path) (args : List ℕ) (slot : ℕ) (target rows : List Atom) (pair : Pair) →
+    FitsMust must args slot target → must_preimage must args slot target ≡ gives rows pair →
+    HoldsMust must args slot target rows
+
+-- without an inexact pair, of no others
+abbrev pub MustPreimageIsExact : Type 0
+MustPreimageIsExact =
+    (must : Path) (args : List ℕ) (slot : ℕ) (target rows : List Atom) →
+    FitsMust must args slot target → must_preimage must args slot target ≡ gives rows None →
+    HoldsNoOtherMust must args slot target rows
+
+-- its rows are terms that name slots and entry values alone
+pub record IsRegion (rows : List Atom) : Type 0 where
+  pub names : IsTrue (rows_name_only inner_column rows)
+  pub terms : IsTrue (are_terms rows)
+
+abbrev pub MustPreimageIsRegion : Type 0
+MustPreimageIsRegion =
+    (must : Path) (args : List ℕ) (slot : ℕ) (target rows : List Atom) (pair : Pair) →
+    FitsMust must args slot target → must_preimage must args slot target ≡ gives rows pair →
+    IsRegion rows
