@@ -1,0 +1,14 @@
+mod Deciding
+mod Choosing
+mod Plainly
+mod Turned
+mod ReadOff
+mod Listed
+mod Turning
+mod Closings
+mod Marks
+mod Kept
+mod Standing
+mod OwnColumns
+mod MovingOn
+mod Ending

@@ -1,0 +1,12 @@
+//! Slices of the analysis of a query: legal steps at frontiers, and the exact end.
+#![tactic(auto)]
+
+pub mod at_turn;
+pub mod carried;
+pub mod cut;
+mod guess;
+pub mod outlook;
+pub mod plain;
+pub mod reaching;
+pub mod sight;
+pub mod slice;
