@@ -1,0 +1,3 @@
+mod SmallGraph
+mod EntryGraph
+mod ReturningGraph

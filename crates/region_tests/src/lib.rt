@@ -1,0 +1,11 @@
+//! Tests of partitions, trails, calls and states, and nothing else.
+#![tactic(auto)]
+
+#[cfg(test)]
+mod calls;
+#[cfg(test)]
+mod partitions;
+#[cfg(test)]
+mod states;
+#[cfg(test)]
+mod trails;
