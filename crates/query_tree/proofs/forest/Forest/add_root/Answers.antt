@@ -1,0 +1,27 @@
+use Rattle.std.proofs.Common.{◌≡◌, ◌<◌, [], ◌∷◌, ◌++◌, length, sym, ap, ◌∙◌, subst, arith}
+use Rattle.std.proofs.lemmas.List.{length_push}
+use Rattle.query_tree.specs.Forest.{after_root, root_of}
+use Rattle.query_tree.specs.Kept.{IsKept}
+use Rattle.query_tree.specs.Woods.{Woods}
+use Rattle.query_tree.proofs.Feed.{root_kept}
+use Rattle.query_tree.proofs.forest.Forest.add_root.Goals as goal
+
+pub invariant_of-self : goal.invariant_of-self
+invariant_of-self g c =
+    let es = c.self.inside.entries.items in
+    let len : length es ≡ c.self.inside.entries.len = sym c.self.inside.entries.ok.0 in
+    let number : c.len-id.result ≡ length es = c.len-id.ensures ∙ sym len in
+    let pushed : c.push_reserved.new.self.items ≡ after_root es c.args.grant c.args.payload = c.push_reserved.ensures.items
+    ∙ ap (λ n. es ++ root_of n c.args.grant c.args.payload ∷ []) number in
+    let room : length es < c.self.inside.room = omega (
+      arith,
+      c.requires,
+      ap (λ (w : Woods g.row.T.Denot). length w.entries) c.self.view_is,
+      ap (λ (w : Woods g.row.T.Denot). w.room) c.self.view_is,
+    ) in
+    record {
+      kept = subst IsKept (sym pushed) (root_kept es c.args.grant c.args.payload (omega arith) c.self.invariant.kept);
+      within = omega (arith, ap length pushed, length_push es (root_of (length es) c.args.grant c.args.payload), room);
+      reserved = omega (arith, c.push_reserved.ensures.capacity, c.self.invariant.reserved);
+      small = c.self.invariant.small;
+    }

@@ -1,0 +1,101 @@
+use Rattle.std.proofs.Common.{◌≡◌, ◌-◌, ◌<◌, List, length, drop, refl, sym, ap, ◌∙◌, subst, arith}
+use Rattle.std.proofs.lemmas.List.{take_at, length_push}
+use Rattle.std.proofs.lemmas.Option.{get_or_from_slice_get}
+use Rattle.query_tree.specs.declared.Entry.{Entry}
+use Rattle.query_tree.specs.Forest.{after_ask, less_at, part, changed, child_of}
+use Rattle.query_tree.specs.Kept.{IsKept}
+use Rattle.query_tree.specs.Woods.{Woods}
+use Rattle.query_tree.proofs.Lists.{length_changed}
+use Rattle.query_tree.proofs.Tests.{one_at}
+use Rattle.query_tree.proofs.Calls.{at_work}
+use Rattle.query_tree.proofs.Back.{ask_kept}
+use Rattle.query_tree.proofs.forest.Forest.ask.Goals as goal
+
+pub overflow_sub-left : goal.overflow_sub-left
+overflow_sub-left g c =
+    let es = c.self.inside.entries.items in
+    let is = ap (λ (w : Woods g.row.T.Denot). w.entries) c.self.view_is in
+    let l = c.args.lent in
+    let a = at_work es c.args.self.now.entries l.id l.left c.args.steps l.waiting is c.self.invariant.kept c.requires.lent c.requires.steps
+    c.index.result.now c.index.ensures c.in_default.not-Dropped in
+    let same = c.index-own.ensures ∙ get_or_from_slice_get es l.id c.requires.lent.own c.index-own.result.now a.at in
+    omega (arith, a.left, ap (λ (x : Entry g.row.T.Denot). x.left) same)
+
+pub rest-requires : goal.rest-requires
+rest-requires g c =
+    let es = c.self.inside.entries.items in
+    let is = ap (λ (w : Woods g.row.T.Denot). w.entries) c.self.view_is in
+    let l = c.args.lent in
+    let a = at_work es c.args.self.now.entries l.id l.left c.args.steps l.waiting is c.self.invariant.kept c.requires.lent c.requires.steps
+    c.index.result.now c.index.ensures c.in_default.not-Dropped in
+    let own = c.requires.lent.own in
+    rw c.deref_mut.ensures.value (record {
+      here = a.here;
+      fits = λ x b. omega (arith, a.spent, ap (λ (x : Entry g.row.T.Denot). x.spent) (one_at es l.id l.id own x a.at b refl));
+      above = λ x p b n. a.above p (ap (λ (x : Entry g.row.T.Denot). x.parent) (sym (one_at es l.id l.id own x a.at b refl)) ∙ n);
+    })
+
+pub invariant_of-self : goal.invariant_of-self
+invariant_of-self g c =
+    let es = c.self.inside.entries.items in
+    let is = ap (λ (w : Woods g.row.T.Denot). w.entries) c.self.view_is in
+    let l = c.args.lent in
+    let a = at_work es c.args.self.now.entries l.id l.left c.args.steps l.waiting is c.self.invariant.kept c.requires.lent c.requires.steps
+    c.index.result.now c.index.ensures c.in_default.not-Dropped in
+    let own = c.requires.lent.own in
+    let same = c.index-own.ensures ∙ get_or_from_slice_get es l.id own c.index-own.result.now a.at in
+    let says = rw (c.deref_mut.ensures.value, c.at_rest.ensures, same) at c.rest.ensures in
+    let new : c.rest.new.entries ≡ changed (less_at own l.id c.args.steps l.payload (part (own.left - c.args.steps))) es = says own a.at in
+    let taken = take_at c.rest.new.entries (drop (length c.rest.new.entries) es) c.self.inside.entries.len (omega arith) in
+    let pushed : c.push_reserved.new.self.items ≡ after_ask es own l.id c.args.steps l.payload c.args.child = c.push_reserved.ensures.items
+    ∙ rw (taken, new, c.at_rest-2.ensures, same) refl in
+    let n = length_changed (less_at own l.id c.args.steps l.payload (part (own.left - c.args.steps))) 0 es in
+    let m = length_push (changed (less_at own l.id c.args.steps l.payload (part (own.left - c.args.steps))) es)
+    (child_of own l.id c.args.steps c.args.child) in
+    let room : length es < c.self.inside.room = omega (
+      arith,
+      c.requires.room,
+      ap (λ (w : Woods g.row.T.Denot). length w.entries)
+          c.self.view_is,
+      ap (λ (w : Woods g.row.T.Denot). w.room) c.self.view_is,
+    ) in
+    record {
+      kept = subst IsKept (sym pushed) (ask_kept es own l.id a.at a.running c.args.steps l.payload a.le c.args.child c.self.invariant.kept);
+      within = omega (arith, ap length pushed, n, m, room);
+      reserved = omega (arith, c.push_reserved.ensures.capacity, c.self.invariant.reserved);
+      small = c.self.invariant.small;
+    }
+
+pub returns : goal.returns
+returns g c =
+    let es = c.self.inside.entries.items in
+    let is = ap (λ (w : Woods g.row.T.Denot). w.entries) c.self.view_is in
+    let l = c.args.lent in
+    let a = at_work es c.args.self.now.entries l.id l.left c.args.steps l.waiting is c.self.invariant.kept c.requires.lent c.requires.steps
+    c.index.result.now c.index.ensures c.in_default.not-Dropped in
+    let own = c.requires.lent.own in
+    let same = c.index-own.ensures ∙ get_or_from_slice_get es l.id own c.index-own.result.now a.at in
+    let says = rw (c.deref_mut.ensures.value, c.at_rest.ensures, same) at c.rest.ensures in
+    let new : c.rest.new.entries ≡ changed (less_at own l.id c.args.steps l.payload (part (own.left - c.args.steps))) es = says own a.at in
+    let taken = take_at c.rest.new.entries (drop (length c.rest.new.entries) es) c.self.inside.entries.len (omega arith) in
+    let pushed : c.push_reserved.new.self.items ≡ after_ask es own l.id c.args.steps l.payload c.args.child = c.push_reserved.ensures.items
+    ∙ rw (taken, new, c.at_rest-2.ensures, same) refl in
+    record {
+      room = ap (λ (w : Woods g.row.T.Denot). w.room) c.self.view_is;
+      asked = (
+        omega (
+          arith,
+          c.len-number.ensures,
+          ap (λ (w : Woods g.row.T.Denot). length w.entries) c.self.view_is,
+          length_changed (less_at own l.id c.args.steps l.payload (part (own.left - c.args.steps))) 0 es,
+          ap length new,
+          ap length taken,
+        ),
+        record {
+          own = own;
+          at = c.requires.lent.at;
+          running = a.running;
+          becomes = pushed ∙ ap (λ (xs : List (Entry g.row.T.Denot)). after_ask xs own l.id c.args.steps l.payload c.args.child) is;
+        },
+      );
+    }

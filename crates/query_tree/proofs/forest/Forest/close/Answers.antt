@@ -1,0 +1,48 @@
+use Rattle.std.proofs.Common.{◌≡◌, List, length, drop, ap, ◌∙◌, arith}
+use Rattle.std.proofs.lemmas.List.{take_at}
+use Rattle.query_tree.specs.declared.Entry.{Entry}
+use Rattle.query_tree.specs.Forest.{after_close, close_at}
+use Rattle.query_tree.specs.Woods.{Woods}
+use Rattle.query_tree.proofs.Lists.{length_changed}
+use Rattle.query_tree.proofs.Calls.{at_work}
+use Rattle.query_tree.proofs.Close.{close_kept}
+use Rattle.query_tree.proofs.forest.Forest.close.Goals as goal
+
+pub invariant_of-self : goal.invariant_of-self
+invariant_of-self g c =
+    let es = c.self.inside.entries.items in
+    let is = ap (λ (w : Woods g.row.T.Denot). w.entries) c.self.view_is in
+    let l = c.args.lent in
+    let a = at_work es c.args.self.now.entries l.id l.left c.args.steps l.waiting is c.self.invariant.kept c.requires.lent c.requires.steps
+    c.index.result.now c.index.ensures c.in_default.not-Dropped in
+    let own = c.requires.lent.own in
+    let says = rw c.deref_mut.ensures.value at c.close.ensures in
+    let new : c.close.new.entries ≡ after_close es own l.id c.args.steps l.payload c.args.stamp = says own a.at in
+    let taken = take_at c.close.new.entries (drop (length c.close.new.entries) es) c.self.inside.entries.len (omega arith) in
+    rw (taken, new) (record {
+      kept = close_kept es own l.id a.at a.running c.args.steps l.payload c.args.stamp a.le c.self.invariant.kept;
+      within = omega (arith, c.self.invariant.within, length_changed (close_at es own l.id c.args.steps l.payload c.args.stamp) 0 es);
+      reserved = c.self.invariant.reserved;
+      small = c.self.invariant.small;
+    })
+
+pub returns : goal.returns
+returns g c =
+    let es = c.self.inside.entries.items in
+    let is = ap (λ (w : Woods g.row.T.Denot). w.entries) c.self.view_is in
+    let l = c.args.lent in
+    let a = at_work es c.args.self.now.entries l.id l.left c.args.steps l.waiting is c.self.invariant.kept c.requires.lent c.requires.steps
+    c.index.result.now c.index.ensures c.in_default.not-Dropped in
+    let own = c.requires.lent.own in
+    let says = rw c.deref_mut.ensures.value at c.close.ensures in
+    let new : c.close.new.entries ≡ after_close es own l.id c.args.steps l.payload c.args.stamp = says own a.at in
+    let taken = take_at c.close.new.entries (drop (length c.close.new.entries) es) c.self.inside.entries.len (omega arith) in
+    record {
+      room = ap (λ (w : Woods g.row.T.Denot). w.room) c.self.view_is;
+      closed = record {
+        own = own;
+        at = c.requires.lent.at;
+        running = a.running;
+        becomes = taken ∙ (new ∙ ap (λ (xs : List (Entry g.row.T.Denot)). after_close xs own l.id c.args.steps l.payload c.args.stamp) is);
+      };
+    }

@@ -1,0 +1,41 @@
+use Rattle.std.proofs.Common.{◌≡◌, List, Some, length, drop, refl, sym, ap, ◌∙◌, arith}
+use Rattle.std.specs.Prelude.{slice_get}
+use Rattle.std.proofs.lemmas.List.{take_at}
+use Rattle.query_tree.specs.declared.Status.TheVariants.{Ready}
+use Rattle.query_tree.specs.declared.Entry.{Entry}
+use Rattle.query_tree.specs.Forest.{after_take, take_at as taken_at, has_live_child, is_none}
+use Rattle.query_tree.specs.Kept.{Held}
+use Rattle.query_tree.proofs.Lists.{length_changed}
+use Rattle.query_tree.proofs.Tests.{one_at}
+use Rattle.query_tree.proofs.Take.{take_kept}
+use Rattle.query_tree.proofs.forest.Forest.take.Goals as goal
+
+pub lend-requires-clause-held : goal.lend-requires-clause-held
+lend-requires-clause-held g c own at =
+    let es = c.self.inside.entries.items in
+    let r = c.in_ok-id.ensures in
+    let there : slice_get es c.in_ok-id.id ≡ Some own = ap (λ (xs : List (Entry g.row.T.Denot)). slice_get xs c.in_ok-id.id)
+    (sym c.deref_mut.ensures.value) ∙ at in
+    let first : slice_get es c.in_ok-id.id ≡ Some r.own = ap (λ (xs : List (Entry g.row.T.Denot)). slice_get xs c.in_ok-id.id)
+    (sym c.deref.ensures.value) ∙ r.at in
+    let ready : own.status ≡ Ready = ap (λ (x : Entry g.row.T.Denot). x.status) (one_at es c.in_ok-id.id c.in_ok-id.id r.own own first there
+    refl)
+    ∙ r.ready in
+    let h : Held own.status (is_none own.payload) = (c.self.invariant.kept.each.fine c.in_ok-id.id own there).held in
+    rw ready at h
+
+pub invariant_of-self : goal.invariant_of-self
+invariant_of-self g c =
+    let es = c.self.inside.entries.items in
+    let r = c.in_ok-id.ensures in
+    let first : slice_get es c.in_ok-id.id ≡ Some r.own = ap (λ (xs : List (Entry g.row.T.Denot)). slice_get xs c.in_ok-id.id)
+    (sym c.deref.ensures.value) ∙ r.at in
+    let new : c.lend.new.entries ≡ after_take es c.in_ok-id.id = c.lend.ensures.entries
+    ∙ ap (λ (xs : List (Entry g.row.T.Denot)). after_take xs c.in_ok-id.id) c.deref_mut.ensures.value in
+    let taken = take_at c.lend.new.entries (drop (length c.lend.new.entries) es) c.self.inside.entries.len (omega arith) in
+    rw (taken, new) (record {
+      kept = take_kept es c.in_ok-id.id r.own first r.ready c.self.invariant.kept;
+      within = omega (arith, c.self.invariant.within, length_changed (taken_at c.in_ok-id.id (has_live_child es c.in_ok-id.id)) 0 es);
+      reserved = c.self.invariant.reserved;
+      small = c.self.invariant.small;
+    })

@@ -1,0 +1,7 @@
+-- what public contracts cite
+pub mod Forest
+pub mod Takes
+pub mod Woods
+-- the invariant of a forest
+pub mod Kept
+pub mod Sound
