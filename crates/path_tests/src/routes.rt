@@ -1,4 +1,4 @@
-//! Paths through two small networks, and where they leave the marked regions.
+//! Paths through small networks, and where they leave the marked regions.
 
 ghost use Rattle.abstract_path.specs.Routes.{AreEdgesOf};
 
@@ -81,6 +81,33 @@ fn finds_frontiers(rt: HostRuntime) -> Result<(), Fail> {
     for (shut, marked, wanted) in CASES {
         assert!(rt; is_answered(rt.alloc(), &shut, &marked, wanted)?);
     }
+    Ok(())
+}
+
+/// From 0 over 1 to 2.
+const LINE: [(u32, u32); 2] = [(0, 1), (1, 2)];
+
+fn line() -> &'static [(u32, u32); 2]
+    ensures edges { AreEdgesOf 3 result.now }
+{
+    &LINE
+}
+
+fn is_walked(
+    alloc: Global,
+    shut: &[bool; 2],
+    wanted: Option<(&[u32], u32)>,
+) -> Result<bool, AllocError> {
+    match frontier(alloc, 3, line(), &[true, false, false], shut, 0, 2)? {
+        Route::Found { path, at } => Ok(wanted == Some((path.as_slice(), at))),
+        Route::NoPath => Ok(wanted.is_none()),
+    }
+}
+
+#[test]
+fn walks_a_line(rt: HostRuntime) -> Result<(), Fail> {
+    assert!(rt; is_walked(rt.alloc(), &[false, false], Some((&[0, 1], 0)))?);
+    assert!(rt; is_walked(rt.alloc(), &[false, true], None)?);
     Ok(())
 }
 
