@@ -1,6 +1,5 @@
 -- The words of the command line.
-use Rattle.std.specs.Prelude.{◌≡◌, ℕ, ◌-◌, ◌<◌, ◌≤◌, List, [], ◌∷◌, length, take, map, string_bytes, Bool, true, false, nat_eq, ◌==◌, refl, ℤ, ◌⊎◌, Option, Some, None, unwrap_or, codes}
-use Rattle.std.specs.Bool.{OnTrue, OnFalse}
+use Rattle.std.specs.Prelude.{◌≡◌, ℕ, ◌-◌, ◌≤◌, List, [], ◌∷◌, length, take, map, string_bytes, Bool, true, false, nat_eq, ◌==◌, refl, ℤ, ◌⊎◌, Option, Some, None, unwrap_or, codes}
 use Rattle.std.specs.declared.string.String.{String}
 use Rattle.std.specs.declared.alloc.Global.{Global}
 use Rattle.std.specs.Cmp.Lexicographic.{same_text}
@@ -10,10 +9,12 @@ use Rattle.std.proofs.Math.Seq.{take-length}
 use Rattle.std.proofs.lemmas.List.{length-drop, drop-map}
 use Rattle.std.proofs.lemmas.Bool.Decides.{nat_tests}
 use Rattle.std.proofs.lemmas.Slice.Eq.{bytes_eq-Decides}
-use Rattle.smash_main.specs.Words.{Command, check, replay, IsReplayRest, AreWords, check_bare, check_dashes, replay_fuel, replay_default, default_fuel}
-use Rattle.smash_main.specs.steps.WordsView.{IsBare}
+use Rattle.smash_main.specs.Words.{Command, check, replay, AreWords, check_budget, check_default, replay_fuel, replay_default, default_fuel, default_budget}
+use Rattle.smash_main.specs.declared.words.Setting.TheVariants as setting
+use Rattle.smash_main.specs.steps.WordsView.{IsRest}
 use Rattle.smash_main.specs.Words.{HasOneCommand}
-use Rattle.smash_main.proofs.WordsReplay.{replay_same}
+use Rattle.smash_main.proofs.WordsRest.{rest_same}
+use Rattle.smash_main.proofs.WordsForms.{replay_rest, rest_replay, check_rest, rest_check}
 
 abbrev pub texts : List (String Global) → List (List ℕ)
 texts words = map string_bytes words
@@ -54,7 +55,7 @@ not_zero n h = grind (arith, nat_tests)
 pub is_zero : (n : ℕ) → (n == 0) ≡ true → n ≡ 0
 is_zero n h = grind (arith, nat_tests)
 
--- lines
+-- Lines
 
 abbrev first_word : List (List ℕ) → List ℕ
 first_word [] = []
@@ -62,23 +63,26 @@ first_word (w ∷ ws) = w
 
 pub record IsCheckLine (words : List (List ℕ)) (c : Command) : Type 0 where
   pub rest : List (List ℕ)
+  pub budget : Option ℕ
   pub whole : words ≡ codes "check" ∷ rest
-  pub bare : IsBare rest
-  pub is : c ≡ check
+  pub given : IsRest setting.Budget false rest budget None
+  pub is : c ≡ check (unwrap_or budget default_budget)
 
 pub record IsReplayLine (words : List (List ℕ)) (c : Command) : Type 0 where
   pub rest : List (List ℕ)
   pub fuel : Option ℕ
   pub values : List ℤ
   pub whole : words ≡ codes "replay" ∷ rest
-  pub given : IsReplayRest false rest fuel (Some values)
+  pub given : IsRest setting.Fuel false rest fuel (Some values)
   pub is : c ≡ replay (unwrap_or fuel default_fuel) values
 
 line : {words : List (List ℕ)} {c : Command} → AreWords words c → IsCheckLine words c ⊎ IsReplayLine words c
-line check_bare = inl (record { rest = []; whole = refl; bare = inl refl; is = refl })
-line check_dashes = inl (record { rest = codes "--" ∷ []; whole = refl; bare = inr refl; is = refl })
-line (replay_fuel {words} {n} {zs} h) = inr (record { rest = words; fuel = Some n; values = zs; whole = refl; given = h; is = refl })
-line (replay_default {words} {zs} h) = inr (record { rest = words; fuel = None; values = zs; whole = refl; given = h; is = refl })
+line (check_budget {words} {n} h) = inl (record { rest = words; budget = Some n; whole = refl; given = check_rest h; is = refl })
+line (check_default {words} h) = inl (record { rest = words; budget = None; whole = refl; given = check_rest h; is = refl })
+line (replay_fuel {words} {n} {zs} h) = inr
+    (record { rest = words; fuel = Some n; values = zs; whole = refl; given = replay_rest h; is = refl })
+line (replay_default {words} {zs} h) = inr
+    (record { rest = words; fuel = None; values = zs; whole = refl; given = replay_rest h; is = refl })
 
 apart : (rest others : List (List ℕ)) → codes "check" ∷ rest ≡ codes "replay" ∷ others → ⊥
 apart rest others e = let a : 5 ≡ 6 = ap (λ x. length (first_word x)) e in omega (arith, a)
@@ -86,7 +90,10 @@ apart rest others e = let a : 5 ≡ 6 = ap (λ x. length (first_word x)) e in om
 pub one_command : HasOneCommand
 one_command ws c d g h = elim (line g) [
   | inl v ↦ elim (line h) [
-    | inl w ↦ v.is ∙ sym w.is
+    | inl w ↦
+        let r : v.rest ≡ w.rest = ap (drop 1) (sym v.whole ∙ w.whole) in
+        let s = rest_same setting.Budget w.budget None (subst (λ x. IsRest setting.Budget false x v.budget None) r v.given) w.given in
+        v.is ∙ ap (λ b. check (unwrap_or b default_budget)) s.numbers ∙ sym w.is
     | inr w ↦ absurd (apart v.rest w.rest (sym v.whole ∙ w.whole))
   ]
   | inr v ↦ elim (line h) [
@@ -94,62 +101,63 @@ one_command ws c d g h = elim (line g) [
     | inr w ↦
         let e : codes "replay" ∷ v.rest ≡ codes "replay" ∷ w.rest = sym v.whole ∙ w.whole in
         let r : v.rest ≡ w.rest = ap (drop 1) e in
-        let s = replay_same w.fuel (Some w.values) (subst (λ x. IsReplayRest false x v.fuel (Some v.values)) r v.given) w.given in
+        let s = rest_same setting.Fuel w.fuel (Some w.values)
+        (subst (λ x. IsRest setting.Fuel false x v.fuel (Some v.values)) r v.given) w.given in
         let z : v.values ≡ w.values = let l = s.lists in cc in
-        v.is ∙ ap (λ f. replay (unwrap_or f default_fuel) v.values) s.fuels ∙ ap (replay (unwrap_or w.fuel default_fuel)) z ∙ sym w.is
+        v.is ∙ ap (λ f. replay (unwrap_or f default_fuel) v.values) s.numbers ∙ ap (replay (unwrap_or w.fuel default_fuel)) z ∙ sym w.is
   ]
 ]
 
--- what the code reads
+-- What the code reads
 
 pub replay_line : (words : List (List ℕ)) (fuel : Option ℕ) (zs : List ℤ) (n : ℕ) → n ≡ unwrap_or fuel default_fuel →
-    IsReplayRest false words fuel (Some zs) → AreWords (codes "replay" ∷ words) (replay n zs)
-replay_line words None zs n e h = subst (λ k. AreWords (codes "replay" ∷ words) (replay k zs)) (sym e) (replay_default h)
-replay_line words (Some m) zs n e h = subst (λ k. AreWords (codes "replay" ∷ words) (replay k zs)) (sym e) (replay_fuel h)
+    IsRest setting.Fuel false words fuel (Some zs) → AreWords (codes "replay" ∷ words) (replay n zs)
+replay_line words None zs n e h = subst (λ k. AreWords (codes "replay" ∷ words) (replay k zs)) (sym e) (replay_default (rest_replay h))
+replay_line words (Some m) zs n e h = subst (λ k. AreWords (codes "replay" ∷ words) (replay k zs)) (sym e) (replay_fuel (rest_replay h))
 
-pub no_replay_list : (words : List (List ℕ)) (fuel : Option ℕ) (l : Option (List ℤ)) → l ≡ None → IsReplayRest false words fuel l →
-    (c : Command) → AreWords (codes "replay" ∷ words) c → ⊥
+pub check_line : (words : List (List ℕ)) (budget : Option ℕ) (n : ℕ) → n ≡ unwrap_or budget default_budget →
+    IsRest setting.Budget false words budget None → AreWords (codes "check" ∷ words) (check n)
+check_line words None n e h = subst (λ k. AreWords (codes "check" ∷ words) (check k)) (sym e) (check_default (rest_check h refl))
+check_line words (Some m) n e h = subst (λ k. AreWords (codes "check" ∷ words) (check k)) (sym e) (check_budget (rest_check h refl))
+
+differ : (o : Option (List ℤ)) (zs : List ℤ) → o ≡ None → o ≡ Some zs → ⊥
+differ o zs a b = let n : None ≡ Some zs = sym a ∙ b in cc
+
+pub no_replay_list : (words : List (List ℕ)) (fuel : Option ℕ) (l : Option (List ℤ)) → l ≡ None →
+    IsRest setting.Fuel false words fuel l → (c : Command) → AreWords (codes "replay" ∷ words) c → ⊥
 no_replay_list words fuel l e g c h = elim (line h) [
   | inl w ↦ apart w.rest words (sym w.whole)
   | inr w ↦
-      let s = replay_same w.fuel (Some w.values) g (subst (λ x. IsReplayRest false x w.fuel (Some w.values)) (sym (ap (drop 1) w.whole))
-      w.given)
+      let s = rest_same setting.Fuel w.fuel (Some w.values) g
+      (subst (λ x. IsRest setting.Fuel false x w.fuel (Some w.values)) (sym (ap (drop 1) w.whole)) w.given)
       in
       differ (Some w.values) w.values (sym s.lists ∙ e) refl
 ]
-  where
-    differ : (o : Option (List ℤ)) (zs : List ℤ) → o ≡ None → o ≡ Some zs → ⊥
-    differ o zs a b = let n : None ≡ Some zs = sym a ∙ b in cc
 
-pub check_line : (words rest : List (List ℕ)) → words ≡ codes "check" ∷ rest → IsBare rest → AreWords words check
-check_line words rest e (inl h) = subst (λ x. AreWords x check) (sym (e ∙ ap (λ r. codes "check" ∷ r) h)) check_bare
-check_line words rest e (inr h) = subst (λ x. AreWords x check) (sym (e ∙ ap (λ r. codes "check" ∷ r) h)) check_dashes
-
-pub no_check : (words rest : List (List ℕ)) → words ≡ codes "check" ∷ rest → (IsBare rest → ⊥) → (c : Command) → AreWords words c → ⊥
-no_check words rest e none c h = elim (line h) [
-  | inl w ↦ let q : rest ≡ w.rest = ap (drop 1) (sym e ∙ w.whole) in none (subst IsBare (sym q) w.bare)
-  | inr w ↦ apart rest w.rest (sym e ∙ w.whole)
+pub no_check_list : (words : List (List ℕ)) (budget : Option ℕ) (l : Option (List ℤ)) → (l ≡ None → ⊥) →
+    IsRest setting.Budget false words budget l → (c : Command) → AreWords (codes "check" ∷ words) c → ⊥
+no_check_list words budget l some g c h = elim (line h) [
+  | inl w ↦
+      let s = rest_same setting.Budget w.budget None g
+      (subst (λ x. IsRest setting.Budget false x w.budget None) (sym (ap (drop 1) w.whole)) w.given)
+      in
+      some s.lists
+  | inr w ↦ apart words w.rest w.whole
 ]
 
--- no words, or `--`
+-- What can't be read is no command
 
-pub bare_one : (words : List (String Global)) (text : List ℕ) → length words < 2 → texts words ≡ text ∷ texts (drop 1 words) →
-    text ≡ codes "--" → IsBare (texts words)
-bare_one [] text low e is = inl refl
-bare_one (w ∷ []) text low e is = inr (e ∙ ap (λ t. t ∷ []) is)
-bare_one (w ∷ v ∷ ws) text low e is = absurd (omega arith)
+pub no_replay : (words : List (List ℕ)) → ((n : Option ℕ) (l : Option (List ℤ)) → IsRest setting.Fuel false words n l → ⊥) →
+    (c : Command) → AreWords (codes "replay" ∷ words) c → ⊥
+no_replay words none c h = elim (line h) [
+  | inl w ↦ apart w.rest words (sym w.whole)
+  | inr w ↦ none w.fuel (Some w.values)
+      (subst (λ x. IsRest setting.Fuel false x w.fuel (Some w.values)) (sym (ap (drop 1) w.whole)) w.given)
+]
 
-pub not_bare_one : (words : List (List ℕ)) (text : List ℕ) (rest : List (List ℕ)) → words ≡ text ∷ rest → (text ≡ codes "--" → ⊥) →
-    IsBare words → ⊥
-not_bare_one words text rest e n (inl h) = let q : 0 ≡ length (text ∷ rest) = ap length (sym h ∙ e) in omega (arith, q)
-not_bare_one words text rest e n (inr h) = n (ap first_word (sym e ∙ h))
-
-pub bare_at : (words : List (String Global)) (text : List ℕ) (b : Bool) → length words < 2 → texts words ≡ text ∷ texts (drop 1 words) →
-    b ≡ pointwise nat_eq text (codes "--") → OnTrue b (IsBare (texts words))
-bare_at words text true low e q = bare_one words text low e (text_is text (codes "--") true q refl)
-bare_at words text false low e q = tt
-
-pub not_bare_at : (words : List (String Global)) (text : List ℕ) (b : Bool) → texts words ≡ text ∷ texts (drop 1 words) →
-    b ≡ pointwise nat_eq text (codes "--") → OnFalse b (IsBare (texts words) → ⊥)
-not_bare_at words text true e q = tt
-not_bare_at words text false e q = not_bare_one (texts words) text (texts (drop 1 words)) e (text_is_not text (codes "--") false q refl)
+pub no_check : (words : List (List ℕ)) → ((n : Option ℕ) (l : Option (List ℤ)) → IsRest setting.Budget false words n l → ⊥) →
+    (c : Command) → AreWords (codes "check" ∷ words) c → ⊥
+no_check words none c h = elim (line h) [
+  | inl w ↦ none w.budget None (subst (λ x. IsRest setting.Budget false x w.budget None) (sym (ap (drop 1) w.whole)) w.given)
+  | inr w ↦ apart words w.rest w.whole
+]

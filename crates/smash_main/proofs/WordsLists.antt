@@ -6,10 +6,10 @@ use Rattle.c_lexer.proofs.Lists.{each-behind, drop_first, same_run}
 use Rattle.smash_main.specs.Words.{IsValue, IsPiece, ArePieces, one, more, IsList, none, some, max_inputs}
 use Rattle.c_lexer.specs.Lexing.{Each, RunEnds}
 use Rattle.smash_main.specs.steps.WordsView.{IsRun, Encloses}
-use Rattle.smash_main.proofs.WordsRuns.{is_space, is_of_word, is_of_piece, each-both, each_all, all_each, each_not, not_of, spaces_are, are_spaces, spaces_no_comma, spaces_end_word, front_of}
+use Rattle.smash_main.proofs.WordsRuns.{is_space, is_of_word, is_of_piece, each_both, each_all, all_each, each_not, not_of, spaces_are, are_spaces, spaces_no_comma, spaces_end_word, front_of}
 use Rattle.smash_main.proofs.WordsNumbers.{value_word, value_piece, value_first, value_same}
 
--- pieces
+-- Pieces
 
 pub piece_same : (text : List ℕ) (y z : ℤ) → IsPiece text y → IsPiece text z → y ≡ z
 piece_same text y z g h =
@@ -25,8 +25,8 @@ piece_same text y z g h =
 pub piece_no_comma : (text : List ℕ) (z : ℤ) → IsPiece text z → Each is_of_piece text
 piece_no_comma text z h =
     subst (Each is_of_piece) (sym h.whole)
-    (each-both is_of_piece (replicate h.before 32) (h.value ++ replicate h.behind 32) (spaces_no_comma h.before)
-    (each-both is_of_piece h.value (replicate h.behind 32) (value_piece h.value z h.read) (spaces_no_comma h.behind)))
+    (each_both is_of_piece (replicate h.before 32) (h.value ++ replicate h.behind 32) (spaces_no_comma h.before)
+    (each_both is_of_piece h.value (replicate h.behind 32) (value_piece h.value z h.read) (spaces_no_comma h.behind)))
 
 piece_no_space : (text : List ℕ) (z : ℤ) → IsPiece text z → Each is_space text → ⊥
 piece_no_space text z h e =
@@ -65,7 +65,7 @@ module _ (text rest : List ℕ) (n m : ℕ) (r : IsRun is_space text n) (is : re
             h.read,
       )
 
--- pieces parted by commas, by the first one
+-- Pieces parted by commas, by the first one
 
 pub record IsLast (text : List ℕ) (zs : List ℤ) : Type 0 where
   pub z : ℤ
@@ -128,7 +128,7 @@ pieces_no_space text zs h e = elim (view h) [
   | inr w ↦ each_not is_space w.0 w.1 44 refl (subst (Each is_space) w.2 (each_all is_space text e))
 ]
 
--- the loop over pieces
+-- The loop over pieces
 
 pub record Reading (text rest : List ℕ) (values : List ℤ) : Type 0 where
   pub sound : (zs : List ℤ) → ArePieces rest zs → ArePieces text (values ++ zs)
@@ -190,7 +190,7 @@ module _ (text rest : List ℕ) (values : List ℤ) (len : ℕ) (so_far : Readin
       split : (a b : ℕ) → a ≤ b → (a ≡ b) ⊎ (a < b)
       split a b h = grind arith
 
--- lists
+-- Lists
 
 pub snoc_same : (xs ys : List ℕ) (b : ℕ) → xs ++ b ∷ [] ≡ ys ++ b ∷ [] → xs ≡ ys
 snoc_same [] [] b e = refl

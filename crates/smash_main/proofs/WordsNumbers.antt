@@ -11,9 +11,9 @@ use Rattle.c_lexer.specs.Lexing.{Each, RunEnds}
 use Rattle.smash_main.proofs.WordsRuns.{each_all, each_as, is_of_word, is_of_piece, is_space}
 
 -- values grow
-pub value_from-le : (n : ℕ) (bs : List ℕ) → n ≤ value_from n bs
-value_from-le n [] = omega arith
-value_from-le n (b ∷ bs) = let k = value_from-le (10 * n + (b - 48)) bs in omega (arith, k)
+pub value_from_le : (n : ℕ) (bs : List ℕ) → n ≤ value_from n bs
+value_from_le n [] = omega arith
+value_from_le n (b ∷ bs) = let k = value_from_le (10 * n + (b - 48)) bs in omega (arith, k)
 
 pub too_big : (digits : List ℕ) (n i high : ℕ) → i < length digits → value_from n (drop i digits) ≡ value_from 0 digits → high < 10 * n
     + (get_or digits i 0 - 48) → high < value_from 0 digits
@@ -21,14 +21,14 @@ too_big digits n i high lt told big =
     let d = get_or digits i 0 in
     let v : value_from (10 * n + (d - 48)) (drop (i + 1) digits) ≡ value_from 0 digits = sym (ap (value_from n) (drop_first digits i lt))
     ∙ told in
-    let l = value_from-le (10 * n + (d - 48)) (drop (i + 1) digits) in
+    let l = value_from_le (10 * n + (d - 48)) (drop (i + 1) digits) in
     omega (arith, v, l, big)
 
 pub told_more : (digits : List ℕ) (n m i : ℕ) → i < length digits → value_from n (drop i digits) ≡ value_from 0 digits → m ≡ 10 * n
     + (get_or digits i 0 - 48) → value_from m (drop (i + 1) digits) ≡ value_from 0 digits
 told_more digits n m i lt told e = ap (λ k. value_from k (drop (i + 1) digits)) e ∙ sym (ap (value_from n) (drop_first digits i lt)) ∙ told
 
--- digits
+-- Digits
 
 first_digit : (b : ℕ) → (nat_le 49 b && nat_le b 57) ≡ true → is_digit b ≡ true
 first_digit b h = grind (arith, nat_tests)

@@ -12,9 +12,9 @@ use Rattle.outer_io.proofs.Known.{whole_rest}
 use Rattle.run_replay.proofs.Keeps.{and_left, and_right}
 use Rattle.smash_main.specs.steps.WordsView.{IsRun}
 
-pub each-both : (c : ℕ → Bool) (xs ys : List ℕ) → Each c xs → Each c ys → Each c (xs ++ ys)
-each-both c [] ys h k = k
-each-both c (x ∷ xs) ys h k = (h.0, each-both c xs ys h.1 k)
+pub each_both : (c : ℕ → Bool) (xs ys : List ℕ) → Each c xs → Each c ys → Each c (xs ++ ys)
+each_both c [] ys h k = k
+each_both c (x ∷ xs) ys h k = (h.0, each_both c xs ys h.1 k)
 
 pub each_as : (c d : ℕ → Bool) → ((b : ℕ) → c b ≡ true → d b ≡ true) → (xs : List ℕ) → Each c xs → Each d xs
 each_as c d f [] h = tt
@@ -34,7 +34,7 @@ each_not c front rest b f h = let k = each-behind c front (b ∷ rest) h in let 
 pub not_of : (a b : ℕ) → not (a == b) ≡ false → a ≡ b
 not_of a b h = grind (arith, nat_tests)
 
--- spaces
+-- Spaces
 
 abbrev pub is_space : ℕ → Bool
 is_space b = b == 32

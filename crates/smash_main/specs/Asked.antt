@@ -1,47 +1,55 @@
--- What a source asks for under a command: a status and a whole text.
+-- What a source asks for under a command: a status, a whole text, and what is handed back.
 use Rattle.std.specs.Prelude.{◌≡◌, ℕ, ◌<◌, List, [], ◌∷◌, ◌++◌, ◌⊎◌, codes, true, false, ℤ, slice_get, Some, Option, None}
 use Rattle.std.specs.Fmt.{decimal, signed_decimal}
 use Rattle.c_tree.specs.declared.tree.Pos.{Pos}
 use Rattle.c_tree.specs.declared.tree.AssertPlace.{AssertPlace}
 use Rattle.c_tree.specs.Syntax.{PureProgram}
 use Rattle.c_tree.specs.Meaning.{Returned, Stopped, Failed, ReplayOutcome, Comes, Starved, Fuel, Replays}
-use Rattle.smash_main.specs.declared.report.Verdict.{Verdict}
+use Rattle.smash_main.specs.declared.verdict.Verdict.{Verdict}
 use Rattle.smash_main.specs.Words.{Command, check, replay}
 use Rattle.smash_main.specs.Source.{IsAccepted, IsRefused, refusal_line}
-use Rattle.smash_main.specs.Plain.{is_plain}
-use Rattle.smash_main.specs.Verdicts.{HaveVerdicts}
+use Rattle.flow_graph.specs.declared.graph.Graph.{Graph}
+use Rattle.smash_main.specs.Analysis.{IsAnalysis, Witness, no_witness}
+use Rattle.smash_main.specs.Calls.{main_calls}
 use Rattle.smash_main.specs.Report.{report_of, status_of}
 
 -- the first refusal of the bytes
-pub record AsksRefusal (bytes : List ℕ) (status : ℕ) (text : List ℕ) : Type 0 where
+pub record AsksRefusal (bytes : List ℕ) (status : ℕ) (text : List ℕ) (w : Witness) : Type 0 where
   pub at : Pos
   pub why : List ℕ
   pub refused : IsRefused bytes at why
   pub is_three : status ≡ 3
   pub told : text ≡ refusal_line at why
+  pub nothing : w ≡ no_witness
 
 -- Checks
 
 abbrev pub unbuilt_text : List ℕ
 unbuilt_text = codes "refused: not built yet" ++ 10 ∷ []
 
--- the report of a program, with its status
-pub record IsReported (program : PureProgram) (status : ℕ) (text : List ℕ) : Type 0 where
+-- the report of an analysis, with its status, its graphs and its states
+pub record IsReported (program : PureProgram) (budget status : ℕ) (text : List ℕ) (w : Witness) :
+    Type 0 where
   pub verdicts : List Verdict
-  pub judged : HaveVerdicts program verdicts
+  pub graphs : List Graph
+  pub handed : w.graphs ≡ Some graphs
+  pub judged : IsAnalysis program budget graphs w.states verdicts
   pub ended : status ≡ status_of verdicts
   pub told : text ≡ report_of program.asserts verdicts
 
--- a program with a second procedure, an input or a loop
-pub record IsUnbuilt (program : PureProgram) (status : ℕ) (text : List ℕ) : Type 0 where
-  pub more : is_plain program ≡ false
+-- a program whose `main` calls a defined procedure
+pub record IsUnbuilt (program : PureProgram) (status : ℕ) (text : List ℕ) (w : Witness) :
+    Type 0 where
+  pub more : main_calls program ≡ true
   pub is_three : status ≡ 3
   pub told : text ≡ unbuilt_text
+  pub nothing : w ≡ no_witness
 
 -- any other program
-pub record IsChecked (program : PureProgram) (status : ℕ) (text : List ℕ) : Type 0 where
-  pub plain : is_plain program ≡ true
-  pub reported : IsReported program status text
+pub record IsChecked (program : PureProgram) (budget status : ℕ) (text : List ℕ) (w : Witness) :
+    Type 0 where
+  pub no_calls : main_calls program ≡ false
+  pub reported : IsReported program budget status text w
 
 -- Replays
 
@@ -79,24 +87,27 @@ replay_status Fuel = 2
 
 -- the one outcome of the program on the list
 pub record IsReplayed (program : PureProgram) (fuel : ℕ) (list : List ℤ) (status : ℕ)
-    (text : List ℕ) : Type 0 where
+    (text : List ℕ) (w : Witness) : Type 0 where
   pub outcome : ReplayOutcome
   pub used : ℕ
   pub replayed : Replays program list fuel outcome used
   pub ended : status ≡ replay_status outcome
   pub told : text ≡ replay_text program fuel outcome used
+  pub nothing : w ≡ no_witness
 
 -- the answer to a program under a command
-abbrev pub Answers : Command → PureProgram → ℕ → List ℕ → Type 0
-Answers check program status text = IsUnbuilt program status text ⊎ IsChecked program status text
-Answers (replay fuel list) program status text = IsReplayed program fuel list status text
+abbrev pub Answers : Command → PureProgram → ℕ → List ℕ → Witness → Type 0
+Answers (check budget) program status text w =
+    IsUnbuilt program status text w ⊎ IsChecked program budget status text w
+Answers (replay fuel list) program status text w = IsReplayed program fuel list status text w
 
 -- an accepted source, and the answer to its program
-pub record AsksAnswer (c : Command) (bytes : List ℕ) (status : ℕ) (text : List ℕ) : Type 0 where
+pub record AsksAnswer (c : Command) (bytes : List ℕ) (status : ℕ) (text : List ℕ) (w : Witness) :
+    Type 0 where
   pub program : PureProgram
   pub accepted : IsAccepted bytes program
-  pub answers : Answers c program status text
+  pub answers : Answers c program status text w
 
 -- what the source asks for under the command
-abbrev pub AsksFor : Command → List ℕ → ℕ → List ℕ → Type 0
-AsksFor c bytes status text = AsksRefusal bytes status text ⊎ AsksAnswer c bytes status text
+abbrev pub AsksFor : Command → List ℕ → ℕ → List ℕ → Witness → Type 0
+AsksFor c bytes status text w = AsksRefusal bytes status text w ⊎ AsksAnswer c bytes status text w

@@ -1,8 +1,8 @@
+pub mod Analysis
 pub mod Asked
-pub mod Plain
+pub mod Calls
 pub mod Report
 pub mod Run
 pub mod Source
-pub mod Verdicts
 pub mod Words
 pub mod steps

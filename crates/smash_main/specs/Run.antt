@@ -1,12 +1,13 @@
 -- What the program owes to its words, its source and its sink.
-use Rattle.std.specs.Prelude.{◌≡◌, ℕ, ◌+◌, ◌≤◌, List, [], ◌∷◌, ◌++◌, length, codes, ◌⊎◌, Some, true}
+use Rattle.std.specs.Prelude.{◌≡◌, ℕ, ◌+◌, ◌≤◌, List, [], ◌∷◌, ◌++◌, length, codes, ◌⊎◌, Some, false}
 use Rattle.std.specs.declared.option.Option.{Option}
 use Rattle.std.specs.Io.KnownBytes.{Consumes, Appends, IsAtEnd, Keeps}
 use Rattle.outer_io.specs.Causes.{Rose, Took, TookAtMost, WritesFront}
 use Rattle.c_tree.specs.Syntax.{PureProgram}
 use Rattle.smash_main.specs.Words.{Command, check, replay}
 use Rattle.smash_main.specs.Source.{IsAccepted, source_limit}
-use Rattle.smash_main.specs.Plain.{is_plain}
+use Rattle.smash_main.specs.Analysis.{Witness, no_witness}
+use Rattle.smash_main.specs.Calls.{main_calls}
 use Rattle.smash_main.specs.Asked.{AsksFor, Answers}
 
 abbrev pub usage_text : List ℕ
@@ -51,48 +52,54 @@ pub record IsWhole (source : Change) (bytes : List ℕ) : Type 0 where
   pub at_end : IsAtEnd source.after
   pub fits : length bytes ≤ source_limit
 
--- The source was read whole, and the end is what its bytes ask for. An accepted source is never
--- refused.
-pub record EndsWhole (c : Command) (status : ℕ) (source sink : Change) : Type 0 where
+-- The source was read whole, and the end is what its bytes ask for, with what is handed back beside
+-- it. An accepted source is never refused.
+pub record EndsWhole (c : Command) (status : ℕ) (source sink : Change) (w : Witness) :
+    Type 0 where
   pub bytes : List ℕ
   pub read : IsWhole source bytes
   pub due : ℕ
   pub text : List ℕ
-  pub asked : AsksFor c bytes due text
-  pub settled : (P : PureProgram) → IsAccepted bytes P → Answers c P due text
+  pub asked : AsksFor c bytes due text w
+  pub settled : (P : PureProgram) → IsAccepted bytes P → Answers c P due text w
   pub ends : EndsWith status sink due text
 
 -- one byte more than a source may have was taken, and it is refused
-pub record EndsTooLong (status : ℕ) (source sink : Change) : Type 0 where
+pub record EndsTooLong (status : ℕ) (source sink : Change) (w : Witness) : Type 0 where
   pub taken : Took source.before source.after (source_limit + 1)
   pub ends : EndsWith status sink 3 too_long_text
+  pub nothing : w ≡ no_witness
 
 -- a read failed, and nothing was written
-pub record EndsFaulty (status : ℕ) (source sink : Change) : Type 0 where
+pub record EndsFaulty (status : ℕ) (source sink : Change) (w : Witness) : Type 0 where
   pub failed : HasFault source
   pub taken : TakesAtMost source source_limit
   pub is_five : status ≡ 5
   pub silent : StaysAsItWas sink
+  pub nothing : w ≡ no_witness
 
 -- memory ran out, and nothing was written
-pub record EndsEmpty (status : ℕ) (source sink : Change) : Type 0 where
+pub record EndsEmpty (status : ℕ) (source sink : Change) (w : Witness) : Type 0 where
   pub taken : TakesAtMost source (source_limit + 1)
   pub is_seven : status ≡ 7
   pub silent : StaysAsItWas sink
+  pub nothing : w ≡ no_witness
 
--- words that are no command: the usage text, or memory runs out
-abbrev pub EndsUsage : ℕ → Change → Type 0
-EndsUsage status sink = EndsWith status sink 4 usage_text ⊎ ((status ≡ 7) × StaysAsItWas sink)
+-- words that are no command: the usage text, or memory runs out; nothing is handed back
+pub record EndsUsage (status : ℕ) (sink : Change) (w : Witness) : Type 0 where
+  pub ends : EndsWith status sink 4 usage_text ⊎ ((status ≡ 7) × StaysAsItWas sink)
+  pub nothing : w ≡ no_witness
 
 -- how a command ends
-abbrev pub Obeys : Command → ℕ → Change → Change → Type 0
-Obeys c status source sink =
-    EndsWhole c status source sink ⊎ (EndsTooLong status source sink ⊎
-    (EndsFaulty status source sink ⊎ EndsEmpty status source sink))
+abbrev pub Obeys : Command → ℕ → Change → Change → Witness → Type 0
+Obeys c status source sink w =
+    EndsWhole c status source sink w ⊎ (EndsTooLong status source sink w ⊎
+    (EndsFaulty status source sink w ⊎ EndsEmpty status source sink w))
 
--- `check` on a program that it evaluates: 0 or 1. A replay: 0, 1 or 2.
+-- `check` on a program whose `main` calls no defined procedure, and a replay: 0, 1 or 2.
 abbrev pub IsVerdictStatus : Command → PureProgram → ℕ → Type 0
-IsVerdictStatus check P status = is_plain P ≡ true → (status ≡ 0) ⊎ ((status ≡ 1) ⊎ (status ≡ 7))
+IsVerdictStatus (check budget) P status =
+    main_calls P ≡ false → (status ≡ 0) ⊎ ((status ≡ 1) ⊎ ((status ≡ 2) ⊎ (status ≡ 7)))
 IsVerdictStatus (replay fuel list) P status =
     (status ≡ 0) ⊎ ((status ≡ 1) ⊎ ((status ≡ 2) ⊎ (status ≡ 7)))
 

@@ -5,7 +5,7 @@ use Rattle.std.specs.declared.string.String.{String}
 use Rattle.std.specs.declared.alloc.Global.{Global}
 
 pub data Command : Type 0 where
-  check : Command
+  check : (budget : ℕ) → Command
   replay : (fuel : ℕ) (list : List ℤ) → Command
 
 -- Numbers
@@ -98,9 +98,32 @@ pub data IsReplayRest : (dashed : Bool) → List (List ℕ) → (fuel : Option �
 abbrev pub default_fuel : ℕ
 default_fuel = 1000000
 
+abbrev pub max_budget : ℕ
+max_budget = 20000
+
+abbrev pub IsBudget : List ℕ → ℕ → Type 0
+IsBudget text n = IsNumber 1 max_budget text n
+
+-- The words behind `check`: one option, and one `--` behind which no word is an option, in any
+-- order.
+pub data IsCheckRest : (dashed : Bool) → List (List ℕ) → (budget : Option ℕ) → Type 0 where
+  end : {d : Bool} → IsCheckRest d [] None
+  budget_word : {word : List ℕ} {words : List (List ℕ)} {n : ℕ} → IsBudget word n →
+      IsCheckRest false words None → IsCheckRest false (codes "--budget" ∷ word ∷ words) (Some n)
+  budget_equals : {words : List (List ℕ)} {n : ℕ} → (text : List ℕ) → IsBudget text n →
+      IsCheckRest false words None → IsCheckRest false ((codes "--budget=" ++ text) ∷ words)
+      (Some n)
+  dashes : {words : List (List ℕ)} → IsCheckRest true words None →
+      IsCheckRest false (codes "--" ∷ words) None
+
+abbrev pub default_budget : ℕ
+default_budget = 2000
+
 pub data AreWords : List (List ℕ) → Command → Type 0 where
-  check_bare : AreWords (codes "check" ∷ []) check
-  check_dashes : AreWords (codes "check" ∷ codes "--" ∷ []) check
+  check_budget : {words : List (List ℕ)} {n : ℕ} → IsCheckRest false words (Some n) →
+      AreWords (codes "check" ∷ words) (check n)
+  check_default : {words : List (List ℕ)} → IsCheckRest false words None →
+      AreWords (codes "check" ∷ words) (check default_budget)
   replay_fuel : {words : List (List ℕ)} {n : ℕ} {zs : List ℤ} → IsReplayRest false words (Some n)
       (Some zs) → AreWords (codes "replay" ∷ words) (replay n zs)
   replay_default : {words : List (List ℕ)} {zs : List ℤ} → IsReplayRest false words None (Some zs) →

@@ -1,3 +1,5 @@
 pub mod Accepting
+pub mod Analysing
+pub mod Handing
 pub mod Judging
 pub mod WordsView

@@ -2,12 +2,14 @@
 #![tactic(auto)]
 
 mod accept;
-mod plain;
+mod analysis;
+mod calling;
 mod reply;
 mod report;
 mod run;
 #[cfg(test)]
 mod tests;
+mod verdict;
 mod words;
 
 use crate::run::run;

@@ -1,73 +1,95 @@
 //! What a source asks for under a command.
 
-ghost use Rattle.std.specs.Prelude.{◌≡◌, ◌≤◌, length, IfOk, IsTrue, Some, string_bytes};
+ghost use Rattle.std.specs.Prelude.{◌≡◌, ◌≤◌, length, false, IfOk, Some, string_bytes};
 ghost use Rattle.c_tree.specs.Syntax.{PureProgram};
 ghost use Rattle.c_tree.specs.Whole.{program_of};
-ghost use Rattle.smash_main.specs.Plain.{is_plain};
-ghost use Rattle.smash_main.specs.Source.{IsAccepted, refusal_line, source_limit};
-ghost use Rattle.smash_main.specs.steps.Accepting.{reason_text};
-ghost use Rattle.smash_main.specs.Asked.{AsksFor, Answers, IsReported, IsReplayed, HasPlace, failed_text, replay_status, replay_text};
-ghost use Rattle.smash_main.specs.Words.{Command as PureCommand};
-ghost use Rattle.smash_main.specs.steps.WordsView.{command_of};
 ghost use Rattle.run_replay.specs.Outcome.{replay_outcome};
+ghost use Rattle.smash_main.specs.Analysis.{no_witness};
+ghost use Rattle.smash_main.specs.Asked.{AsksFor, Answers, IsReported, IsReplayed, HasPlace, failed_text, replay_status, replay_text};
+ghost use Rattle.smash_main.specs.Calls.{main_calls};
+ghost use Rattle.smash_main.specs.Source.{IsAccepted, refusal_line, source_limit};
+ghost use Rattle.smash_main.specs.Words.{Command as PureCommand};
+ghost use Rattle.smash_main.specs.steps.Accepting.{reason_text};
+ghost use Rattle.smash_main.specs.steps.Handing.{handed_in};
+ghost use Rattle.smash_main.specs.steps.WordsView.{command_of};
 
 use crate::accept::{Reason, Rejection, accept};
-use crate::plain::is_plain;
-use crate::report::{report, status, verdicts};
+use crate::analysis::{Analysis, analyse};
+use crate::calling::main_calls;
+use crate::report::{report, status};
 use crate::words::Command;
 use c_tree::tree::{AssertPlace, Pos, Program};
+use flow_graph::graphs::Graphs;
+use query_rules::QueryState;
 use run_replay::{Outcome, Replayed, replay};
 use std::alloc::{AllocError, Global};
-
-/// Steps that suffice for every program that has one procedure and no loop: it has at most as many
-/// nodes.
-const CHECK_FUEL: u64 = 8000;
+use std::sync::Arc;
 
 const UNBUILT: &str = "refused: not built yet\n";
 
-/// A status and the whole text that is written with it.
+/// A status and the whole text that is written with it, and the graphs and states of an analysis
+/// that came to its end.
 #[derive(Drop)]
 pub struct Reply {
     pub status: u8,
     pub text: String,
+    pub graphs: Option<Arc<Graphs>>,
+    pub states: Vec<Vec<QueryState>>,
 }
 
 /// The refusal of a source.
 fn refusal(alloc: Global, why: Reason, at: Pos) -> Result<Reply, AllocError>
     ensures status { IfOk result (λ a. a.status ≡ 3) }
     ensures text { IfOk result (λ a. string_bytes a.text ≡ refusal_line at (reason_text why)) }
+    ensures nothing { IfOk result (λ a. handed_in a ≡ no_witness) }
 {
     let text = format!(in alloc; "refused {}:{}: {}\n", at.line, at.column, why.text())?;
-    Ok(Reply { status: 3, text })
+    Ok(bare_reply(alloc, 3, text))
 }
 
-/// The report of a program that has one procedure, no input and no loop.
-fn checked(alloc: Global, program: &Program) -> Result<Reply, AllocError>
-    requires { IsTrue (is_plain (program_of program.now)) }
-    ensures { IfOk result (λ a. IsReported (program_of program.now) a.status
-        (string_bytes a.text)) }
+/// A reply that hands nothing back.
+fn bare_reply(alloc: Global, status: u8, text: String) -> Reply
+    ensures status { result.status ≡ status }
+    ensures text { result.text ≡ text }
+    ensures nothing { handed_in result ≡ no_witness }
 {
-    let replayed = replay(alloc, program, &[], CHECK_FUEL)?;
-    let found = verdicts(alloc, replayed.outcome, program.asserts.len())?;
-    let text = report(alloc, &program.asserts, &found)?;
-    Ok(Reply {
-        status: status(&found),
+    Reply {
+        status,
         text,
+        graphs: None,
+        states: Vec::new(alloc),
+    }
+}
+
+/// The report of a program whose `main` calls no defined procedure.
+fn checked(alloc: Global, program: &Program, budget: u32) -> Result<Reply, AllocError>
+    requires { main_calls (program_of program.now) ≡ false }
+    ensures { IfOk result (λ a. IsReported (program_of program.now) budget a.status
+        (string_bytes a.text) (handed_in a)) }
+{
+    let Analysis {
+        graphs,
+        verdicts,
+        states,
+    } = analyse(alloc, program, budget)?;
+    let text = report(alloc, &program.asserts, &verdicts)?;
+    Ok(Reply {
+        status: status(&verdicts),
+        text,
+        graphs: Some(Arc::new(alloc, graphs)?),
+        states,
     })
 }
 
 /// The answer of `check` to a program.
-fn check_program(alloc: Global, program: &Program) -> Result<Reply, AllocError>
-    ensures { IfOk result (λ a. Answers PureCommand.check (program_of program.now) a.status
-        (string_bytes a.text)) }
+fn check_program(alloc: Global, program: &Program, budget: u32) -> Result<Reply, AllocError>
+    ensures { IfOk result (λ a. Answers (PureCommand.check budget) (program_of program.now) a.status
+        (string_bytes a.text) (handed_in a)) }
 {
-    if is_plain(program) {
-        return checked(alloc, program);
+    if main_calls(program) {
+        return Ok(bare_reply(alloc, 3, String::from_str(alloc, UNBUILT)?));
     }
-    Ok(Reply {
-        status: 3,
-        text: String::from_str(alloc, UNBUILT)?,
-    })
+    checked(alloc, program, budget)
 }
 
 /// The status of a replay.
@@ -120,23 +142,20 @@ fn replay_program(
     list: &[i64],
 ) -> Result<Reply, AllocError>
     ensures { IfOk result (λ a. IsReplayed (program_of program.now) fuel list.now a.status
-        (string_bytes a.text)) }
+        (string_bytes a.text) (handed_in a)) }
 {
     let replayed = replay(alloc, program, list, fuel)?;
     let text = replay_text(alloc, program, fuel, replayed)?;
-    Ok(Reply {
-        status: replay_status(replayed.outcome),
-        text,
-    })
+    Ok(bare_reply(alloc, replay_status(replayed.outcome), text))
 }
 
 /// The answer to a program.
 fn answer(alloc: Global, command: &Command, program: &Program) -> Result<Reply, AllocError>
     ensures { IfOk result (λ a. Answers (command_of command.now) (program_of program.now) a.status
-        (string_bytes a.text)) }
+        (string_bytes a.text) (handed_in a)) }
 {
     match command {
-        Command::Check => check_program(alloc, program),
+        Command::Check { budget } => check_program(alloc, program, *budget),
         Command::Replay { fuel, list } => replay_program(alloc, program, *fuel, list),
     }
 }
@@ -145,9 +164,9 @@ fn answer(alloc: Global, command: &Command, program: &Program) -> Result<Reply, 
 pub fn reply_to(alloc: Global, command: &Command, bytes: &[u8]) -> Result<Reply, AllocError>
     requires { length bytes.now ≤ source_limit }
     ensures asked { IfOk result (λ a. AsksFor (command_of command.now) bytes.now a.status
-        (string_bytes a.text)) }
+        (string_bytes a.text) (handed_in a)) }
     ensures settled { IfOk result (λ a. (P : PureProgram) → IsAccepted bytes.now P →
-        Answers (command_of command.now) P a.status (string_bytes a.text)) }
+        Answers (command_of command.now) P a.status (string_bytes a.text) (handed_in a)) }
 {
     match accept(alloc, bytes) {
         Ok(program) => answer(alloc, command, &program),

@@ -1,16 +1,21 @@
 //! The top call: words, a source and a sink.
 
-ghost use Rattle.std.specs.Prelude.{◌≡◌, ◌+◌};
+ghost use Rattle.std.specs.Prelude.{◌≡◌, ◌+◌, string_bytes};
 ghost use Rattle.outer_io.specs.Causes.{TookAtMost};
+ghost use Rattle.smash_main.specs.Analysis.{no_witness};
 ghost use Rattle.smash_main.specs.Source.{source_limit};
 ghost use Rattle.smash_main.specs.Words.{IsCommand, IsNoCommand, Command as PureCommand};
+ghost use Rattle.smash_main.specs.steps.Handing.{handed_by, handed_in};
 ghost use Rattle.smash_main.specs.steps.WordsView.{command_of};
 ghost use Rattle.smash_main.specs.Run.{change, EndsWith, EndsUsage, Obeys, Completes};
 
-use crate::reply::reply_to;
+use crate::reply::{Reply, reply_to};
 use crate::words::{Command, command_from};
+use flow_graph::graphs::Graphs;
 use outer_io::{ReadError, Sink, Source, read_all, write_all};
+use query_rules::QueryState;
 use std::alloc::Global;
+use std::sync::Arc;
 
 /// The most bytes that a source may have, `source_limit` of the clauses.
 const SOURCE_LIMIT: usize = 65_536;
@@ -24,22 +29,55 @@ usage: smash check [--budget n] [--workers n]
 ";
 
 /// How the program ended: 0 and 1 are verdicts, 3 a refusal of the source, 4 of the words, 5 a
-/// failed read, 6 a failed write, 7 want of memory.
-#[derive(Clone, Copy, PartialEq, Eq, Debug)]
+/// failed read, 6 a failed write, 7 want of memory. Where an analysis came to its end, its graphs,
+/// by the numbers of the procedures, and for each assertion the states of its queries, the root's
+/// first, are handed back.
+#[derive(Drop)]
 pub struct Finish {
     pub status: u8,
+    pub graphs: Option<Arc<Graphs>>,
+    pub states: Vec<Vec<QueryState>>,
 }
 
-const NO_MEMORY: Finish = Finish { status: 7 };
+/// Ends with a status alone.
+fn end(alloc: Global, status: u8) -> Finish
+    ensures status { result.status ≡ status }
+    ensures nothing { handed_by result ≡ no_witness }
+{
+    Finish {
+        status,
+        graphs: None,
+        states: Vec::new(alloc),
+    }
+}
 
-/// Writes a whole text, and ends with a status.
-fn tell<K: Sink>(sink: &mut K, status: u8, text: &[u8]) -> Finish
-    ensures { EndsWith result.status (change (K.taken sink.old) (K.taken sink.new)
+/// Writes a whole text, and gives the status with which to end.
+fn tell<K: Sink>(sink: &mut K, status: u8, text: &[u8]) -> u8
+    ensures { EndsWith result (change (K.taken sink.old) (K.taken sink.new)
         (K.faults sink.old) (K.faults sink.new)) status text.now }
 {
     match write_all(sink, text) {
-        Ok(_) => Finish { status },
-        Err(_) => Finish { status: 6 },
+        Ok(_) => status,
+        Err(_) => 6,
+    }
+}
+
+/// Writes a reply, and hands back what it does.
+fn tell_reply<K: Sink>(sink: &mut K, reply: Reply) -> Finish
+    ensures ends { EndsWith result.status (change (K.taken sink.old) (K.taken sink.new)
+        (K.faults sink.old) (K.faults sink.new)) reply.status (string_bytes reply.text) }
+    ensures handed { handed_by result ≡ handed_in reply }
+{
+    let Reply {
+        status,
+        text,
+        graphs,
+        states,
+    } = reply;
+    Finish {
+        status: tell(sink, status, text.as_bytes()),
+        graphs,
+        states,
     }
 }
 
@@ -52,16 +90,17 @@ fn obey<S: Source, K: Sink>(
 ) -> Finish
     ensures { Obeys (command_of command.now) result.status
         (change (S.left source.old) (S.left source.new) (S.faults source.old) (S.faults source.new))
-        (change (K.taken sink.old) (K.taken sink.new) (K.faults sink.old) (K.faults sink.new)) }
+        (change (K.taken sink.old) (K.taken sink.new) (K.faults sink.old) (K.faults sink.new))
+        (handed_by result) }
 {
     match read_all(alloc, source, SOURCE_LIMIT) {
         Ok(bytes) => match reply_to(alloc, command, &bytes) {
-            Ok(reply) => tell(sink, reply.status, reply.text.as_bytes()),
-            Err(_) => NO_MEMORY,
+            Ok(reply) => tell_reply(sink, reply),
+            Err(_) => end(alloc, 7),
         },
-        Err(ReadError::TooLong) => tell(sink, 3, TOO_LONG.as_bytes()),
-        Err(ReadError::ReadFault) => Finish { status: 5 },
-        Err(ReadError::Memory) => NO_MEMORY,
+        Err(ReadError::TooLong) => end(alloc, tell(sink, 3, TOO_LONG.as_bytes())),
+        Err(ReadError::ReadFault) => end(alloc, 5),
+        Err(ReadError::Memory) => end(alloc, 7),
     }
 }
 
@@ -73,9 +112,10 @@ pub fn run<S: Source, K: Sink>(
     source: &mut S,
     sink: &mut K,
 ) -> Finish
-    // Words that are no command get the usage text, and nothing is read.
+    // Words that are no command get the usage text, nothing is read, and nothing is handed back.
     ensures usage { IsNoCommand words.now → EndsUsage result.status
-        (change (K.taken sink.old) (K.taken sink.new) (K.faults sink.old) (K.faults sink.new)) }
+        (change (K.taken sink.old) (K.taken sink.new) (K.faults sink.old) (K.faults sink.new))
+        (handed_by result) }
     ensures unread { IsNoCommand words.now → source.new ≡ source.old }
 
     // Whatever the words are and however it ends, it takes one byte more than the limit at most.
@@ -84,14 +124,15 @@ pub fn run<S: Source, K: Sink>(
     // A command reads the source; what its bytes ask for is written. Each fault has its cause.
     ensures obeys { (c : PureCommand) → IsCommand words.now c → Obeys c result.status
         (change (S.left source.old) (S.left source.new) (S.faults source.old) (S.faults source.new))
-        (change (K.taken sink.old) (K.taken sink.new) (K.faults sink.old) (K.faults sink.new)) }
+        (change (K.taken sink.old) (K.taken sink.new) (K.faults sink.old) (K.faults sink.new))
+        (handed_by result) }
     ensures complete { (c : PureCommand) → IsCommand words.now c → Completes c result.status
         (change (S.left source.old) (S.left source.new) (S.faults source.old) (S.faults source.new))
         (change (K.taken sink.old) (K.taken sink.new) (K.faults sink.old) (K.faults sink.new)) }
 {
     match command_from(alloc, words) {
         Ok(Some(given)) => obey(alloc, &given, source, sink),
-        Ok(None) => tell(sink, 4, USAGE.as_bytes()),
-        Err(_) => NO_MEMORY,
+        Ok(None) => end(alloc, tell(sink, 4, USAGE.as_bytes())),
+        Err(_) => end(alloc, 7),
     }
 }

@@ -1,10 +1,12 @@
 //! Tables of commands on sources and sinks in memory, each with its status and its whole output.
 
+mod agreement;
 mod tables;
 
+use self::agreement::tally_all;
 use self::tables::{
-    BLANKS, BODIES, CHECKS, COMMANDS, FAULTS, Fault, LIMITS, Limit, NO_COMMANDS, REFUSALS, REPLAYS,
-    Row, SUM, WORKED,
+    ANALYSES, BLANKS, BODIES, CHECKS, COMMANDS, FAULTS, Fault, LIMITS, Limit, NO_COMMANDS,
+    REFUSALS, REPLAYS, Row, SUM, WORKED,
 };
 use crate::run::run;
 use crate::words::{Command, command_from, one_command};
@@ -69,6 +71,11 @@ fn agree(rt: &impl Abort, alloc: Global, rows: &[Row]) -> Result<(), Fail> {
 #[test]
 fn answers_checks(rt: HostRuntime) -> Result<(), Fail> {
     agree(&rt, rt.alloc(), &CHECKS)
+}
+
+#[test]
+fn answers_analyses(rt: HostRuntime) -> Result<(), Fail> {
+    agree(&rt, rt.alloc(), &ANALYSES)
 }
 
 #[test]
@@ -188,7 +195,7 @@ fn command_of(alloc: Global, line: &str) -> Result<String, Fail> {
     let words = words_in(alloc, line)?;
     match command_from(alloc, &words)? {
         None => Ok(String::from_str(alloc, "none")?),
-        Some(Command::Check) => Ok(String::from_str(alloc, "check")?),
+        Some(Command::Check { budget }) => Ok(format!(in alloc; "check {budget}")?),
         Some(Command::Replay { fuel, list }) => Ok(format!(in alloc; "{fuel} {list:?}")?),
     }
 }
@@ -223,5 +230,13 @@ fn takes_list_of(alloc: Global, count: usize) -> Result<bool, Fail> {
 fn lists_of_many_values(rt: HostRuntime) -> Result<(), Fail> {
     assert!(rt; takes_list_of(rt.alloc(), 10_000)?);
     assert!(rt; !takes_list_of(rt.alloc(), 10_001)?);
+    Ok(())
+}
+
+#[test]
+fn checks_and_replays_agree(rt: HostRuntime) -> Result<(), Fail> {
+    let tally = tally_all(rt.alloc())?;
+    assert_eq!(rt; tally.wrong, 0, "{tally:?}");
+    assert!(rt; tally.found > 100 && tally.proved > 50, "{tally:?}");
     Ok(())
 }

@@ -2,10 +2,9 @@
 
 ghost use Rattle.std.specs.Prelude.{◌≡◌, ℕ, ◌+◌, ◌-◌, ◌*◌, ◌≤◌, ◌<◌, List, [], ◌∷◌, ◌++◌, length, map, string_bytes, ℤ, pos, IfOk, IfSome, IfNone, true, false, option_map, Option, ◌==◌, codes};
 ghost use Rattle.std.specs.List.{list_all};
-ghost use Rattle.std.specs.Bool.{OnTrue, OnFalse};
 ghost use Rattle.smash_main.specs.Words as spec;
-ghost use Rattle.smash_main.specs.Words.{IsCommand, Command as PureCommand, IsNumber, IsValue, IsPiece, ArePieces, IsList, IsReplayRest, AreWords, HasOneCommand, value_from, max_inputs};
-ghost use Rattle.smash_main.specs.steps.WordsView.{command_of, test_of, IsRun, IsNegative, Encloses, Gives, gives_of, used_of, IsOption, IsFuelWord, IsItem, state_of, with_item, IsBare};
+ghost use Rattle.smash_main.specs.Words.{IsCommand, Command as PureCommand, IsNumber, IsValue, IsPiece, ArePieces, IsList, AreWords, HasOneCommand, value_from, max_inputs};
+ghost use Rattle.smash_main.specs.steps.WordsView.{command_of, test_of, IsRun, IsNegative, Encloses, name_of, high_of, Sets, IsNamed, IsRest, Gives, gives_of, used_of, IsOption, IsNumberWord, IsItem, state_of, with_item};
 
 use std::alloc::{AllocError, Global};
 
@@ -18,10 +17,16 @@ const MAX_FUEL: u64 = 1_000_000_000;
 
 const DEFAULT_FUEL: u64 = 1_000_000;
 
+const MAX_BUDGET: u64 = 20_000;
+
+const DEFAULT_BUDGET: u64 = 2000;
+
 /// A command.
 #[derive(Drop)]
 pub enum Command {
-    Check,
+    /// The budget is from 1 to `MAX_BUDGET`.
+    Check { budget: u32 },
+    /// The fuel is from 1 to `MAX_FUEL`, and the list has at most `MAX_INPUTS` values.
     Replay { fuel: u64, list: Vec<i64> },
 }
 
@@ -35,20 +40,33 @@ enum Class {
     OfPiece,
 }
 
-/// What the first words of a replay give.
+/// An option that takes a number from 1 to its `high`.
+#[derive(Clone, Copy, PartialEq, Eq, Debug)]
+enum Setting {
+    /// Of a replay.
+    Fuel,
+    /// Of a check.
+    Budget,
+}
+
+/// What the first words give.
 #[derive(Drop)]
 enum Item {
     Dashes,
-    /// The fuel, and how many words give it.
-    Fuel { fuel: u64, used: usize },
+    /// The number of an option, from 1 to the option's `high`, and the 1 or 2 words that give it.
+    Number { number: u64, used: usize },
+    /// At most `MAX_INPUTS` values.
     List(Vec<i64>),
 }
 
-/// What the words of a replay gave so far.
+/// What the words gave so far.
 #[derive(Drop)]
 struct Given {
+    /// Whether `--` was among them.
     dashed: bool,
-    fuel: Option<u64>,
+    /// From 1 to the option's `high`.
+    number: Option<u64>,
+    /// At most `MAX_INPUTS` values.
     list: Option<Vec<i64>>,
 }
 
@@ -96,7 +114,7 @@ fn is_numeral(text: &[u8]) -> bool
     }
 }
 
-/// The value with one more digit, or none where it is too high.
+/// The value with one more digit, or none where it is above `high`.
 fn with_digit(high: u64, value: u64, digit: u8) -> Option<u64>
     ensures some { IfSome result (λ n. (n ≡ 10 * value + (digit - 48)) × (n ≤ high)) }
     ensures none { IfNone result (high < 10 * value + (digit - 48)) }
@@ -107,7 +125,7 @@ fn with_digit(high: u64, value: u64, digit: u8) -> Option<u64>
     if sum <= high { Some(sum) } else { None }
 }
 
-/// The value of a numeral, or none where it is too high.
+/// The value of a numeral, or none where it is above `high`.
 fn numeral(text: &[u8], high: u64) -> Option<u64>
     ensures some { IfSome result (λ n. (spec.is_numeral text.now ≡ true)
         × (n ≡ value_from 0 text.now)
@@ -124,7 +142,7 @@ fn numeral(text: &[u8], high: u64) -> Option<u64>
     Some(value)
 }
 
-/// A number of at most `MAX_DIGITS` digits.
+/// A number from `low` to `high`, of at most `MAX_DIGITS` digits.
 fn number(text: &[u8], low: u64, high: u64) -> Option<u64>
     ensures some { IfSome result (λ n. IsNumber low high text.now n) }
     ensures none { IfNone result ((n : ℕ) → IsNumber low high text.now n → ⊥) }
@@ -136,7 +154,7 @@ fn number(text: &[u8], low: u64, high: u64) -> Option<u64>
     if low <= value { Some(value) } else { None }
 }
 
-/// The value of the digits behind a `-`.
+/// The value of the digits behind a `-`, from -2^63 to -1.
 fn negative(digits: &[u8]) -> Option<i64>
     ensures some { IfSome result (λ z. IsNegative digits.now z) }
     ensures none { IfNone result ((z : ℤ) → IsNegative digits.now z → ⊥) }
@@ -152,7 +170,7 @@ fn negative(digits: &[u8]) -> Option<i64>
     }
 }
 
-/// The value of a text in the 64-bit range.
+/// The value of a text, from -2^63 to 2^63 - 1.
 fn value(text: &[u8]) -> Option<i64>
     ensures some { IfSome result (λ z. IsValue text.now z) }
     ensures none { IfNone result ((z : ℤ) → IsValue text.now z → ⊥) }
@@ -187,8 +205,8 @@ fn piece(text: &[u8]) -> Option<i64>
     }
 }
 
-/// The values of pieces that are parted by commas, or none where one is no value or there are too
-/// many.
+/// The values of pieces that are parted by commas, or none where one is no value or there are more
+/// than `MAX_INPUTS`.
 fn pieces(alloc: Global, text: &[u8]) -> Result<Option<Vec<i64>>, AllocError>
     ensures some { IfOk result
         (λ o. IfSome o (λ v. ArePieces text.now v.items × (length v.items ≤ max_inputs))) }
@@ -219,7 +237,7 @@ fn enclosed(text: &[u8]) -> Option<&[u8]>
     text.strip_prefix(b"[")?.strip_suffix(b"]")
 }
 
-/// The values of a list.
+/// The values of a list, at most `MAX_INPUTS`.
 fn list(alloc: Global, text: &[u8]) -> Result<Option<Vec<i64>>, AllocError>
     ensures some { IfOk result (λ o. IfSome o (λ v. IsList text.now v.items)) }
     ensures none { IfOk result (λ o. IfNone o ((zs : List ℤ) → IsList text.now zs → ⊥)) }
@@ -234,43 +252,82 @@ fn list(alloc: Global, text: &[u8]) -> Result<Option<Vec<i64>>, AllocError>
     }
 }
 
-/// The fuel in the word behind `--fuel`.
-fn fuel_word(words: &[String]) -> Option<Item>
-    ensures some { IfSome result (λ i. IsOption (codes "--fuel" ∷ map string_bytes words.now)
-        (gives_of i)) }
-    ensures none { IfNone result ((n : ℕ) → IsFuelWord (codes "--fuel" ∷ map string_bytes words.now)
-        n → ⊥) }
+impl Setting {
+    fn name(self) -> &'static str
+        ensures { result.now ≡ name_of self }
+    {
+        match self {
+            Setting::Fuel => "--fuel",
+            Setting::Budget => "--budget",
+        }
+    }
+
+    /// The highest number.
+    fn high(self) -> u64
+        ensures { result ≡ high_of self }
+    {
+        match self {
+            Setting::Fuel => MAX_FUEL,
+            Setting::Budget => MAX_BUDGET,
+        }
+    }
+
+    /// The number that a text gives, from 1 to `high`.
+    fn number(self, text: &[u8]) -> Option<u64>
+        ensures some { IfSome result (λ n. Sets self text.now n) }
+        ensures none { IfNone result ((n : ℕ) → Sets self text.now n → ⊥) }
+    {
+        number(text, 1, self.high())
+    }
+
+    /// The text behind the name and `=`.
+    fn text_in(self, word: &[u8]) -> Option<&[u8]>
+        ensures some { IfSome result (λ text. IsNamed self word.now text.now) }
+        ensures none { IfNone result ((text : List ℕ) → IsNamed self word.now text → ⊥) }
+    {
+        word.strip_prefix(self.name().as_bytes())?
+            .strip_prefix(b"=")
+    }
+}
+
+/// The number in the word behind the name of an option.
+fn number_word(setting: Setting, words: &[String]) -> Option<Item>
+    ensures some { IfSome result
+        (λ i. IsOption setting (name_of setting ∷ map string_bytes words.now) (gives_of i)) }
+    ensures none { IfNone result ((n : ℕ) →
+        IsNumberWord setting (name_of setting ∷ map string_bytes words.now) n → ⊥) }
 {
     let [word, ..] = words else { return None };
-    let fuel = number(word.as_bytes(), 1, MAX_FUEL)?;
-    Some(Item::Fuel { fuel, used: 2 })
+    let number = setting.number(word.as_bytes())?;
+    Some(Item::Number { number, used: 2 })
 }
 
 /// The option that words begin with.
-fn option(words: &[String]) -> Option<Item>
+fn option(setting: Setting, words: &[String]) -> Option<Item>
     requires { 1 ≤ length words.now }
-    ensures some { IfSome result (λ i. IsOption (map string_bytes words.now) (gives_of i)) }
-    ensures none { IfNone result ((i : Gives) → IsOption (map string_bytes words.now) i → ⊥) }
+    ensures some { IfSome result (λ i. IsOption setting (map string_bytes words.now) (gives_of i)) }
+    ensures none { IfNone result ((i : Gives) → IsOption setting (map string_bytes words.now) i →
+        ⊥) }
 {
     let word = words[0].as_str();
     if word == "--" {
         return Some(Item::Dashes);
     }
-    if word == "--fuel" {
-        return fuel_word(&words[1..]);
+    if word == setting.name() {
+        return number_word(setting, &words[1..]);
     }
-    let text = word.as_bytes().strip_prefix(b"--fuel=")?;
-    let fuel = number(text, 1, MAX_FUEL)?;
-    Some(Item::Fuel { fuel, used: 1 })
+    let text = setting.text_in(word.as_bytes())?;
+    let number = setting.number(text)?;
+    Some(Item::Number { number, used: 1 })
 }
 
 /// The list that words begin with.
-fn list_item(alloc: Global, words: &[String]) -> Result<Option<Item>, AllocError>
+fn list_item(alloc: Global, setting: Setting, words: &[String]) -> Result<Option<Item>, AllocError>
     requires { 1 ≤ length words.now }
     ensures some { IfOk result
-        (λ o. IfSome o (λ i. IsItem true (map string_bytes words.now) (gives_of i))) }
+        (λ o. IfSome o (λ i. IsItem setting true (map string_bytes words.now) (gives_of i))) }
     ensures none { IfOk result
-        (λ o. IfNone o ((i : Gives) → IsItem true (map string_bytes words.now) i → ⊥)) }
+        (λ o. IfNone o ((i : Gives) → IsItem setting true (map string_bytes words.now) i → ⊥)) }
 {
     let Some(values) = list(alloc, words[0].as_bytes())? else {
         return Ok(None)
@@ -279,29 +336,34 @@ fn list_item(alloc: Global, words: &[String]) -> Result<Option<Item>, AllocError
 }
 
 /// What words begin with.
-fn read_item(alloc: Global, dashed: bool, words: &[String]) -> Result<Option<Item>, AllocError>
+fn read_item(
+    alloc: Global,
+    setting: Setting,
+    dashed: bool,
+    words: &[String],
+) -> Result<Option<Item>, AllocError>
     requires { 1 ≤ length words.now }
     ensures some { IfOk result
-        (λ o. IfSome o (λ i. IsItem dashed (map string_bytes words.now) (gives_of i))) }
+        (λ o. IfSome o (λ i. IsItem setting dashed (map string_bytes words.now) (gives_of i))) }
     ensures none { IfOk result
-        (λ o. IfNone o ((i : Gives) → IsItem dashed (map string_bytes words.now) i → ⊥)) }
+        (λ o. IfNone o ((i : Gives) → IsItem setting dashed (map string_bytes words.now) i → ⊥)) }
 {
     if dashed {
-        return list_item(alloc, words);
+        return list_item(alloc, setting, words);
     }
-    match option(words) {
+    match option(setting, words) {
         Some(item) => Ok(Some(item)),
-        None => list_item(alloc, words),
+        None => list_item(alloc, setting, words),
     }
 }
 
 impl Item {
-    /// How many words it stands in.
+    /// How many words it stands in, 1 or 2.
     fn used(&self) -> usize
         ensures { result ≡ used_of (gives_of self.now) }
     {
         match self {
-            Item::Fuel { used, .. } => *used,
+            Item::Number { used, .. } => *used,
             _ => 1,
         }
     }
@@ -312,21 +374,25 @@ impl Given {
     fn with(self, item: Item) -> Option<Given>
         ensures { option_map state_of result ≡ with_item (gives_of item) (state_of self) }
     {
-        let Given { dashed, fuel, list } = self;
+        let Given {
+            dashed,
+            number,
+            list,
+        } = self;
         match item {
             Item::Dashes => Some(Given {
                 dashed: true,
-                fuel,
+                number,
                 list,
             }),
-            Item::Fuel { fuel: n, .. } if fuel.is_none() => Some(Given {
+            Item::Number { number: n, .. } if number.is_none() => Some(Given {
                 dashed,
-                fuel: Some(n),
+                number: Some(n),
                 list,
             }),
             Item::List(values) if list.is_none() => Some(Given {
                 dashed,
-                fuel,
+                number,
                 list: Some(values),
             }),
             _ => None,
@@ -334,23 +400,27 @@ impl Given {
     }
 }
 
-/// What the words behind `replay` give.
-fn read_given(alloc: Global, words: &[String]) -> Result<Option<Given>, AllocError>
+/// What the words behind a command's name give.
+fn read_given(
+    alloc: Global,
+    setting: Setting,
+    words: &[String],
+) -> Result<Option<Given>, AllocError>
     ensures some { IfOk result
-        (λ o. IfSome o (λ g. IsReplayRest false (map string_bytes words.now) g.fuel
+        (λ o. IfSome o (λ g. IsRest setting false (map string_bytes words.now) g.number
         (option_map (λ v. v.items) g.list))) }
     ensures none { IfOk result
-        (λ o. IfNone o ((fuel : Option ℕ) (list : Option (List ℤ)) →
-        IsReplayRest false (map string_bytes words.now) fuel list → ⊥)) }
+        (λ o. IfNone o ((number : Option ℕ) (list : Option (List ℤ)) →
+        IsRest setting false (map string_bytes words.now) number list → ⊥)) }
 {
     let mut given = Given {
         dashed: false,
-        fuel: None,
+        number: None,
         list: None,
     };
     let mut rest = words;
     while !rest.is_empty() {
-        let Some(item) = read_item(alloc, given.dashed, rest)? else {
+        let Some(item) = read_item(alloc, setting, given.dashed, rest)? else {
             return Ok(None)
         };
         rest = &rest[item.used()..];
@@ -362,7 +432,7 @@ fn read_given(alloc: Global, words: &[String]) -> Result<Option<Given>, AllocErr
     Ok(Some(given))
 }
 
-/// The replay that the words behind `replay` ask for.
+/// The replay that the words behind `replay` ask for, with `DEFAULT_FUEL` where they give no fuel.
 fn replay(alloc: Global, words: &[String]) -> Result<Option<Command>, AllocError>
     ensures some { IfOk result
         (λ o. IfSome o (λ c. AreWords (codes "replay" ∷ map string_bytes words.now)
@@ -372,29 +442,39 @@ fn replay(alloc: Global, words: &[String]) -> Result<Option<Command>, AllocError
         c →
         ⊥)) }
 {
-    let Some(given) = read_given(alloc, words)? else {
+    let Some(given) = read_given(alloc, Setting::Fuel, words)? else {
         return Ok(None)
     };
     let Given {
         dashed: _,
-        fuel,
+        number,
         list,
     } = given;
     let Some(list) = list else { return Ok(None) };
-    let fuel = fuel.unwrap_or(DEFAULT_FUEL);
+    let fuel = number.unwrap_or(DEFAULT_FUEL);
     Ok(Some(Command::Replay { fuel, list }))
 }
 
-/// Whether words are none or `--`.
-fn is_bare(words: &[String]) -> bool
-    ensures yes { OnTrue result (IsBare (map string_bytes words.now)) }
-    ensures no { OnFalse result (IsBare (map string_bytes words.now) → ⊥) }
+/// The check that the words behind `check` ask for, with `DEFAULT_BUDGET` where they give none.
+fn check(alloc: Global, words: &[String]) -> Result<Option<Command>, AllocError>
+    ensures some { IfOk result
+        (λ o. IfSome o (λ c. AreWords (codes "check" ∷ map string_bytes words.now)
+        (command_of c))) }
+    ensures none { IfOk result
+        (λ o. IfNone o ((c : PureCommand) → AreWords (codes "check" ∷ map string_bytes words.now)
+        c →
+        ⊥)) }
 {
-    match words {
-        [] => true,
-        [word] => word.as_str() == "--",
-        _ => false,
+    let Some(given) = read_given(alloc, Setting::Budget, words)? else {
+        return Ok(None)
+    };
+    if given.list.is_some() {
+        return Ok(None);
     }
+    let budget = given.number.unwrap_or(DEFAULT_BUDGET);
+    Ok(Some(Command::Check {
+        budget: budget as u32,
+    }))
 }
 
 /// The command that words are, if they are one.
@@ -407,11 +487,7 @@ pub fn command_from(alloc: Global, words: &[String]) -> Result<Option<Command>, 
         return Ok(None)
     };
     if word.as_str() == "check" {
-        Ok(if is_bare(rest) {
-            Some(Command::Check)
-        } else {
-            None
-        })
+        check(alloc, rest)
     } else if word.as_str() == "replay" {
         replay(alloc, rest)
     } else {

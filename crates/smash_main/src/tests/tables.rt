@@ -43,17 +43,17 @@ pub const CHECKS: [Row; 18] = [
     (
         "check",
         "int main(){ assert(input()); }",
-        "3 refused: not built yet\n",
+        "1 1:13: found [0]\nsummary: 0 proved, 1 found, 0 unknown\n",
     ),
     (
         "check",
         "int main(){ while (0) ; }",
-        "3 refused: not built yet\n",
+        "0 summary: 0 proved, 0 found, 0 unknown\n",
     ),
     (
         "check",
         "void f(){} int main(){}",
-        "3 refused: not built yet\n",
+        "0 summary: 0 proved, 0 found, 0 unknown\n",
     ),
     (
         "check",
@@ -102,6 +102,125 @@ pub const CHECKS: [Row; 18] = [
         "3 refused 1:13: break or continue outside a loop\n",
     ),
     ("check", "int f(){}", "3 refused 1:1: no main\n"),
+];
+
+/// A lock that is let go where a number changes.
+pub const LOCK_LOOP: &str = "\
+int main() {
+  int lock = 0; int n = input(); int old = 0;
+  do {
+    assert(lock == 0);
+    lock = 1;
+    old = n;
+    if (input() > 0) { lock = 0; n = n + 1; }
+  } while (n != old);
+  assert(lock == 1);
+  return 0;
+}
+";
+
+pub const ANALYSES: [Row; 17] = [
+    // one value of an input
+    (
+        "check",
+        "int main(){ int x = input(); assert(x != 5); return 0; }",
+        "1 1:30: found [5]\nsummary: 0 proved, 1 found, 0 unknown\n",
+    ),
+    // a value below zero
+    (
+        "check",
+        "int main(){ int x = input(); assert(x != -5); return 0; }",
+        "1 1:30: found [-5]\nsummary: 0 proved, 1 found, 0 unknown\n",
+    ),
+    // the greatest value
+    (
+        "check",
+        "int main(){ int x = input(); assert(x != 9223372036854775807); return 0; }",
+        "1 1:30: found [9223372036854775807]\nsummary: 0 proved, 1 found, 0 unknown\n",
+    ),
+    // the least value
+    (
+        "check",
+        "int main(){ int x = input(); assert(x > -9223372036854775807 - 1); return 0; }",
+        "1 1:30: found [-9223372036854775808]\nsummary: 0 proved, 1 found, 0 unknown\n",
+    ),
+    // two inputs, in the order in which they are consumed
+    (
+        "check",
+        "int main(){ int x = input(); int y = input(); if (x == 3) assert(y != 4); return 0; }",
+        "1 1:59: found [3, 4]\nsummary: 0 proved, 1 found, 0 unknown\n",
+    ),
+    // an input that doesn't matter
+    (
+        "check",
+        "int main(){ input(); int x = input(); assert(x != 5); return 0; }",
+        "1 1:39: found [0, 5]\nsummary: 0 proved, 1 found, 0 unknown\n",
+    ),
+    // one more than an input
+    (
+        "check",
+        "int main(){ int x = input(); int y = x + 1; assert(y > x); return 0; }",
+        "0 1:45: proved\nsummary: 1 proved, 0 found, 0 unknown\n",
+    ),
+    // an odd number
+    (
+        "check",
+        "int main(){ int x = input(); assert(2 * x != 7); return 0; }",
+        "0 1:30: proved\nsummary: 1 proved, 0 found, 0 unknown\n",
+    ),
+    // a sum of threes and fives
+    (
+        "check",
+        "int main(){ int x = input(); int y = input(); assume(x >= 0 && y >= 0); assert(3 * x + 5 * y != 7); return 0; }",
+        "0 1:73: proved\nsummary: 1 proved, 0 found, 0 unknown\n",
+    ),
+    // a loop that keeps a value between two bounds
+    (
+        "check",
+        "int main(){ int i = 0; while (input() > 0) { i = 0; } assert(i == 0); return 0; }",
+        "0 1:55: proved\nsummary: 1 proved, 0 found, 0 unknown\n",
+    ),
+    (
+        "check|--budget|20000",
+        LOCK_LOOP,
+        "0 4:5: proved\n9:3: proved\nsummary: 2 proved, 0 found, 0 unknown\n",
+    ),
+    // a loop without an end of its states
+    (
+        "check|--budget|50",
+        "int main(){ int x = 0; while (input() > 0) x = x + 2; assert(x != 1000001); return 0; }",
+        "2 1:55: unknown (budget 50 spent)\nsummary: 0 proved, 0 found, 1 unknown\n",
+    ),
+    // a coefficient that is too wide
+    (
+        "check",
+        "int main(){ int x = input(); assert(2199023255552 * x != 2199023255552); return 0; }",
+        "2 1:30: unknown (solver limit: wide)\nsummary: 0 proved, 0 found, 1 unknown\n",
+    ),
+    // what is found counts before what is unknown
+    (
+        "check",
+        "int main(){ int x = input(); assert(x != 5); assert(2199023255552 * x != 2199023255552); return 0; }",
+        "1 1:30: found [5]\n1:46: unknown (solver limit: wide)\nsummary: 0 proved, 1 found, 1 unknown\n",
+    ),
+    // an assertion in a procedure that isn't called
+    (
+        "check",
+        "int f(int a){ assert(a == 0); return a; } int main(){ return input(); }",
+        "0 1:15: proved\nsummary: 1 proved, 0 found, 0 unknown\n",
+    ),
+    // no assertion
+    (
+        "check",
+        "int main(){ int x = input(); while (x > 0) x -= 1; return x; }",
+        "0 summary: 0 proved, 0 found, 0 unknown\n",
+    ),
+    // a call of a defined procedure
+    (
+        "check",
+        "int f(int a){ return a; } int main(){ return f(1); }",
+        "3 refused: not built yet\n",
+    ),
 ];
 
 pub const REPLAYS: [Row; 10] = [
@@ -423,7 +542,7 @@ pub const REFUSALS: [Row; 44] = [
     ),
 ];
 
-pub const NO_COMMANDS: [Row; 7] = [
+pub const NO_COMMANDS: [Row; 13] = [
     ("", SUM, USAGE),
     ("check|x", SUM, USAGE),
     ("Check", SUM, USAGE),
@@ -431,6 +550,12 @@ pub const NO_COMMANDS: [Row; 7] = [
     ("replay", SUM, USAGE),
     ("replay|[1", SUM, USAGE),
     ("--help", SUM, USAGE),
+    ("check|--budget", SUM, USAGE),
+    ("check|--budget|0", SUM, USAGE),
+    ("check|--budget|20001", SUM, USAGE),
+    ("check|--budget|x", SUM, USAGE),
+    ("check|--budget|5|--budget|5", SUM, USAGE),
+    ("check|--|--budget=50", SUM, USAGE),
 ];
 
 /// The call that fails of a source that gives 4 bytes a call, the room of the sink, and what is
@@ -680,12 +805,32 @@ pub const LIMITS: [Limit; 20] = [
     ),
 ];
 
-/// Words, parted by `|`, and the command that they are: `check`, or the fuel and the list of a
-/// replay.
-pub const COMMANDS: [(&str, &str); 44] = [
+/// Words, parted by `|`, and the command that they are: `check` and the budget, or the fuel and the
+/// list of a replay.
+pub const COMMANDS: [(&str, &str); 65] = [
     ("", "none"),
-    ("check", "check"),
-    ("check|--", "check"),
+    ("check", "check 2000"),
+    ("check|--", "check 2000"),
+    ("check|--budget|50", "check 50"),
+    ("check|--budget=50", "check 50"),
+    ("check|--budget|50|--", "check 50"),
+    ("check|--|--budget|5", "none"),
+    ("check|--budget", "none"),
+    ("check|--budget|0", "none"),
+    ("check|--budget|1", "check 1"),
+    ("check|--budget|20000", "check 20000"),
+    ("check|--budget|20001", "none"),
+    ("check|--budget|x", "none"),
+    ("check|--budget|05", "none"),
+    ("check|--budget|5|--budget=5", "none"),
+    ("check|--budget= 5", "none"),
+    ("check|--budget=10000000000", "none"),
+    ("check|--budget=", "none"),
+    ("check|--budget=0", "none"),
+    ("check|--budget=20001", "none"),
+    ("check|--budget|--", "none"),
+    ("check|--budget|5|[1]", "none"),
+    ("check|--fuel|5", "none"),
     ("check|--|--", "none"),
     ("check|[1]", "none"),
     ("Check", "none"),
@@ -733,6 +878,7 @@ pub const COMMANDS: [(&str, &str); 44] = [
     ("replay|--fuel|1000000001|[1]", "none"),
     ("replay|--fuel=+5|[1]", "none"),
     ("replay|--fuel=00000000005|[1]", "none"),
+    ("replay|--budget|5|[1]", "none"),
 ];
 
 /// How many blanks a source has, and what is told of it.

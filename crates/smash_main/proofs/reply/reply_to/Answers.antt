@@ -1,13 +1,14 @@
 use Rattle.std.proofs.Common.{subst, string_bytes}
 use Rattle.std.proofs.lemmas.Result.{IfOk-weaker}
 use Rattle.smash_main.specs.Asked.{Answers}
+use Rattle.smash_main.specs.steps.Handing.{handed_in}
 use Rattle.smash_main.specs.steps.WordsView.{command_of}
 use Rattle.smash_main.proofs.reply.reply_to.Goals as goal
 
 pub returns-in-Ok-clause-settled : goal.returns-in-Ok-clause-settled
 returns-in-Ok-clause-settled c =
     IfOk-weaker c.answer.result _ _
-    (λ a h P accepted. subst (λ z. Answers (command_of c.args.command.now) z a.status (string_bytes a.text))
+    (λ a h P accepted. subst (λ z. Answers (command_of c.args.command.now) z a.status (string_bytes a.text) (handed_in a))
     (c.in-Ok.ensures.only P accepted)
     h)
     c.answer.ensures
