@@ -1,0 +1,174 @@
+"""Checks the programs of a folder, says what that takes, and holds the answers to what is wanted.
+
+usage: check.py [--limit SECONDS] PROGRAM FOLDER [TABLE]
+
+A table has rows of a file, the words behind the program's name, the status, and the verdicts parted by `; `, in which
+`found` stands for any list; its files are checked, and those alone. Without a table each file below the folder whose name
+ends in .c is checked, and the verdicts are compared with truth.tsv of the folder where that is there. Either way each line
+has to be that of its assertion, the summary and the status those of the verdicts, and each list is replayed.
+
+For each program it prints the seconds, the memory in KB, and the instructions under valgrind of a run that takes less than
+a second, or -, and then the text. The status is 1 where something isn't as wanted.
+"""
+import collections
+import os
+import re
+import shutil
+import subprocess
+import sys
+import tempfile
+import time
+
+VERDICT = re.compile(r"proved|found \[[-\d, ]*\]|unknown \(.*\)")
+Ended = collections.namedtuple("Ended", "text status seconds memory")
+
+
+def run(command, path, limit):
+    """One run on a file. The status is None where it took more seconds than the limit."""
+    with open(path, "rb") as source, tempfile.TemporaryFile() as sink:
+        begin = time.monotonic()
+        child = subprocess.Popen(["timeout", "-s", "KILL", str(limit), *command], stdin=source, stdout=sink, stderr=subprocess.DEVNULL)
+        _, status, used = os.wait4(child.pid, 0)
+        child.returncode = os.waitstatus_to_exitcode(status)
+        seconds = time.monotonic() - begin
+        sink.seek(0)
+        text = sink.read().decode(errors="replace")
+    is_killed = child.returncode < 0 or child.returncode == 137
+    return Ended(text, None if is_killed else child.returncode, seconds, used.ru_maxrss)
+
+
+def counted(command, path, ended):
+    """The instructions of a short run."""
+    if ended.status is None or ended.seconds >= 1 or not shutil.which("valgrind"):
+        return "-"
+    with tempfile.TemporaryDirectory() as room, open(path, "rb") as source:
+        file = f"{room}/counts"
+        words = ["valgrind", "--tool=callgrind", f"--callgrind-out-file={file}", *command]
+        subprocess.run(words, stdin=source, stdout=subprocess.DEVNULL, stderr=subprocess.DEVNULL)
+        with open(file, encoding="utf-8", errors="replace") as it:
+            said = re.search(r"(?m)^(?:summary|totals): (\d+)", it.read())
+        return said[1] if said else "-"
+
+
+def places(path):
+    """The line and the column of each assertion, in source order."""
+    with open(path, encoding="utf-8") as it:
+        source = it.read()
+    gaps = re.compile(r"/\*.*?\*/|//[^\n]*", re.S)
+    source = gaps.sub(lambda gap: re.sub(r"[^\n]", " ", gap[0]), source)
+    starts = [it.start() for it in re.finditer(r"\bassert\s*\(", source)]
+    return [(source.count("\n", 0, at) + 1, at - source.rfind("\n", 0, at)) for at in starts]
+
+
+def summary_of(verdicts):
+    """The last line of a report, and its status."""
+    kinds = collections.Counter(it.split()[0] for it in verdicts)
+    line = f"summary: {kinds['proved']} proved, {kinds['found']} found, {kinds['unknown']} unknown"
+    return line, 1 if kinds["found"] else 2 if kinds["unknown"] else 0
+
+
+def faults_of_form(program, path, ended, limit):
+    """The verdicts of a report, and what is wrong with its form, its status and its lists."""
+    if ended.status is None:
+        return None, [f"more than {limit} seconds"]
+    owed = places(path)
+    lines = ended.text.split("\n")
+    split = [re.fullmatch(r"(\d+):(\d+): (.*)", line) for line in lines[: len(owed)]]
+    if len(lines) != len(owed) + 2 or lines[-1] != "" or not all(it and VERDICT.fullmatch(it[3]) for it in split):
+        return None, [f"no report of {len(owed)} assertions, status {ended.status}"]
+    verdicts = [it[3] for it in split]
+    faults = []
+    if [(int(it[1]), int(it[2])) for it in split] != owed:
+        faults.append(f"not the places {owed}")
+    if (lines[len(owed)], ended.status) != summary_of(verdicts):
+        faults.append(f"not the summary and the status {summary_of(verdicts)}, but {ended.status}")
+    for (line, column), verdict in zip(owed, verdicts):
+        if verdict.startswith("found"):
+            again = run([program, "replay", "--fuel", "1000000000", verdict.removeprefix("found ")], path, limit)
+            if again.status != 1 or not again.text.startswith(f"failed {line}:{column},"):
+                faults.append(f"{line}:{column}: the list replays as '{again.text.strip()}'")
+    return verdicts, faults
+
+
+def faults_of_answer(verdicts, wanted):
+    """Where the verdicts aren't those wanted. `found` alone wants no list of its own."""
+    are = len(verdicts) == len(wanted) and all(it == want or (want == "found" and it.startswith("found")) for it, want in zip(verdicts, wanted))
+    return [] if are else [f"wanted is {'; '.join(wanted)}"]
+
+
+def faults_of_truth(verdicts, truth):
+    told = [it.split()[0] for it in verdicts]
+    return [f"assertion {n + 1} is {true} in truth" for n, true in truth.items() if told[n] not in (true, "unknown")]
+
+
+def rows(path):
+    with open(path, encoding="utf-8") as it:
+        return [line.rstrip("\n").split("\t") for line in it.readlines()[1:]]
+
+
+def below(folder):
+    """The programs below a folder, and what is true of the assertions of each."""
+    truths = collections.defaultdict(dict)
+    if os.path.exists(f"{folder}/truth.tsv"):
+        for name, number, truth, *_ in rows(f"{folder}/truth.tsv"):
+            truths[name][int(number) - 1] = truth
+    found = [os.path.relpath(f"{at}/{name}", folder) for at, _, names in os.walk(folder) for name in names if name.endswith(".c")]
+    return [(name, truths[name]) for name in sorted(found)]
+
+
+def shown(name, command, path, ended, faults):
+    print(f"{name:30} {ended.seconds:9.3f} s {ended.memory:9} KB {counted(command, path, ended):>12}")
+    lines = ended.text.split("\n")
+    for line in lines[:-2] or lines[:1]:
+        print(f"    {line}" if line else "    no text")
+    for fault in faults:
+        print(f"    WRONG {fault}")
+    sys.stdout.flush()
+    return bool(faults)
+
+
+def by_table(program, folder, table, limit):
+    wrong = 0
+    for name, words, status, verdicts in rows(table):
+        path, command, wanted = f"{folder}/{name}", [program, *words.split()], verdicts.split("; ")
+        ended = run(command, path, limit)
+        told, faults = faults_of_form(program, path, ended, limit)
+        if told:
+            faults += faults_of_answer(told, wanted)
+        if ended.status is not None and ended.status != int(status):
+            faults.append(f"status {ended.status}, where {status} is wanted")
+        wrong += shown(name, command, path, ended, faults)
+    return len(rows(table)), wrong
+
+
+def by_truth(program, folder, limit):
+    """A program that is refused, or takes too long, has no verdict, and isn't wrong."""
+    wrong, silent = 0, 0
+    command = [program, "check"]
+    for name, truth in below(folder):
+        path = f"{folder}/{name}"
+        ended = run(command, path, limit)
+        if ended.status in (None, 3):
+            silent += 1
+            shown(name, command, path, ended, [])
+            continue
+        told, faults = faults_of_form(program, path, ended, limit)
+        wrong += shown(name, command, path, ended, faults + (faults_of_truth(told, truth) if told else []))
+    print(f"{silent} without a verdict")
+    return len(below(folder)), wrong
+
+
+def main(words):
+    limit = 120.0
+    if words[:1] == ["--limit"]:
+        limit, words = float(words[1]), words[2:]
+    if len(words) not in (2, 3):
+        sys.exit(__doc__)
+    program, folder, *table = words
+    many, wrong = by_table(program, folder, table[0], limit) if table else by_truth(program, folder, limit)
+    print(f"{many} programs, {wrong} wrong")
+    return 1 if wrong else 0
+
+
+if __name__ == "__main__":
+    sys.exit(main(sys.argv[1:]))
