@@ -1,0 +1,4 @@
+pub mod Questions
+pub mod Musts
+pub mod SoFar
+pub mod Fronts

@@ -1,0 +1,10 @@
+//! What is known of procedures' runs, in the order in which it was found, and which of it answers
+//! a query.
+#![tactic(auto)]
+
+pub mod answer;
+mod asking;
+pub mod table;
+
+pub use answer::{Answer, AnswerProof};
+pub use table::Table;

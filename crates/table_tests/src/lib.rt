@@ -1,0 +1,9 @@
+//! Tests of tables of summaries, and nothing else.
+#![tactic(auto)]
+
+#[cfg(test)]
+mod answers;
+#[cfg(test)]
+mod listed;
+#[cfg(test)]
+mod made;
