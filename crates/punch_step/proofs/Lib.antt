@@ -12,3 +12,6 @@ mod Standing
 mod OwnColumns
 mod MovingOn
 mod Ending
+mod Entailed
+mod Held
+mod Musts

@@ -173,7 +173,7 @@ refused_sum sums (Some s) next kept e n h =
     let k : wide_sum s ≡ kept = cc in
     (s, contains_wide sums s e, ap (λ (x : Kept). x.question) (sym k))
 
-refused_first : (sums : List Sum) (o : Option Sum) (next : Projected) (kept : Kept) → first_wide sums ≡ o → unless_wide o next
+pub refused_first : (sums : List Sum) (o : Option Sum) (next : Projected) (kept : Kept) → first_wide sums ≡ o → unless_wide o next
     ≡ refuses kept →
     ((s : Sum) × Contains sums s × (kept.question ≡ sum_question s)) ⊎ (next ≡ refuses kept)
 refused_first sums None next kept e h = inr h
@@ -181,7 +181,7 @@ refused_first sums (Some s) next kept e h =
     let k : wide_sum s ≡ kept = cc in
     inl (s, contains_wide sums s e, ap (λ (x : Kept). x.question) (sym k))
 
-refused_elimination : (columns : List ℕ) (atoms : List Atom) (kept : Kept) → projected columns atoms ≡ refuses kept →
+pub refused_elimination : (columns : List ℕ) (atoms : List Atom) (kept : Kept) → projected columns atoms ≡ refuses kept →
     kept.question ≡ asks.Eliminate (cube_of atoms) columns
 refused_elimination columns atoms kept h = by_left (elimination columns (listed_rows atoms columns)) h where
   by_left : (r : Remainder) → left_by columns atoms r ≡ refuses kept → kept.question ≡ asks.Eliminate (cube_of atoms) columns

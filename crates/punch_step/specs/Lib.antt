@@ -1,3 +1,5 @@
+pub mod ByMusts
+pub mod Entailing
 pub mod Sights
 pub mod Cuts
 pub mod Plain

@@ -1,2 +1,4 @@
 pub mod Reaching
 pub mod Going
+pub mod Holding
+pub mod Musts

@@ -44,7 +44,7 @@ fn arrived(alloc: Global, rows: Cube, point: &Assignment) -> Result<Carried, Out
 
 /// Whether the trail comes into the target at its end. Its own point is tried first, with 0 for
 /// symbols that it doesn't list, and then the solver is asked.
-fn arrive(
+pub(crate) fn arrive(
     alloc: Global,
     query: &Query,
     trail: &Trail,

@@ -2,8 +2,10 @@
 #![tactic(auto)]
 
 pub mod at_turn;
+pub mod by_must;
 pub mod carried;
 pub mod cut;
+pub mod entailing;
 mod guess;
 pub mod outlook;
 pub mod plain;

@@ -108,7 +108,7 @@ fn negation_limit(alloc: Global, atom: &Atom) -> Result<Kept, OutOfMemory>
 }
 
 /// The limit of the first of the atoms whose negation is too wide.
-fn first_unnegatable(alloc: Global, atoms: &[Atom]) -> Result<Option<Kept>, OutOfMemory>
+pub(crate) fn first_unnegatable(alloc: Global, atoms: &[Atom]) -> Result<Option<Kept>, OutOfMemory>
     ensures { IfOk result (IfUnnegatable atoms.now) }
 {
     for atom in atoms {
