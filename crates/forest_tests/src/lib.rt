@@ -3,3 +3,11 @@
 
 #[cfg(test)]
 mod calls;
+#[cfg(test)]
+mod model;
+#[cfg(test)]
+mod play;
+#[cfg(test)]
+mod random;
+#[cfg(test)]
+mod schedules;

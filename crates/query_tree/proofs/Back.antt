@@ -3,13 +3,14 @@ use Rattle.std.proofs.Common.{◌≡◌, ℕ, ◌+◌, ◌-◌, ◌≤◌, List,
 use Rattle.std.specs.Prelude.{slice_get, ◌==◌, ◌&&◌}
 use Rattle.std.proofs.lemmas.Bool.{cond_both, and_from, both_ways, cases_Bool, eq-eqb, ne_eqb}
 use Rattle.query_tree.specs.declared.Status.{Status}
-use Rattle.query_tree.specs.declared.Status.TheVariants.{Running}
+use Rattle.query_tree.specs.declared.Status.TheVariants.{Running, Dropped}
 use Rattle.query_tree.specs.declared.Rest.{Rest}
 use Rattle.query_tree.specs.declared.Entry.{Entry}
 use Rattle.query_tree.specs.Forest.{changed, tally, is_open, is_live, is_starved, is_none, is_place, woken, at_rest, back_as, stir, rest_at, less_at, part, child_of, after_back, after_ask}
-use Rattle.query_tree.specs.Kept.{leans, Holds, Held, worth, IsFine, Rooted, LiveChild, IsTree, IsShut, IsLeaning, AreFine, IsKept}
+use Rattle.query_tree.specs.Kept.{leans, Ended, HasEnded, Holds, Held, worth, IsFine, Rooted, LiveChild, IsTree, IsShut, IsLeaning, AreFine, IsKept}
 use Rattle.query_tree.proofs.Lists.{tally_changed, tally_same, tally_plus, tally_one, tally_pushed, to_changed, within, length_changed}
 use Rattle.query_tree.proofs.Keeps.{SameFrame, Roots, tree_changed, shut_changed, lean_changed, fine_changed, roots_changed, roots_pushed, roots_then, granted_same, tree_pushed, shut_pushed, lean_pushed, fine_pushed}
+use Rattle.query_tree.proofs.Ended.{dropped_shut, woken_dropped, woken_ended, rest_dropped, ended_changed, ended_pushed}
 use Rattle.query_tree.proofs.Tests.{cond_eq, is_place_at, one_at, live_woken, open_woken, leans_stirred, holds_woken, open_rest, leans_rest, live_rest, holds_rest, open_back, live_back, holds_back, held_woken, held_rest, held_back, MayRest, leans_back}
 
 pub cond_sum : (b : Bool) (x y z : ℕ) → x ≡ y + z → cond b x 0 ≡ cond b y 0 + cond b z 0
@@ -119,6 +120,23 @@ module _ {T : Type 0} where
     pub rest_fine : AreFine es → AreFine (changed (rest_at own i st left s p) es)
     rest_fine = fine_changed es _ (rest_frame own i st left s p) fine
 
+    drops : (k : ℕ) (e : Entry T) (n : ℕ) → slice_get es k ≡ Some e → (rest_at own i st left s p k e).status ≡ Dropped n → e.status
+        ≡ Dropped n
+    drops k e n a = cond_eq (λ (x : Entry T). x.status ≡ Dropped n → e.status ≡ Dropped n) k i _ _
+        (λ _ h. absurd (dropped_shut n st ok.opened h))
+        (λ _. cond_both (is_place own.parent k && is_starved st) (stir e) e (λ (x : Entry T). x.status ≡ Dropped n → e.status ≡ Dropped n)
+        (λ _ h. woken_dropped n e.status h) (λ _ h. h))
+
+    ends : (n k : ℕ) (e : Entry T) → slice_get es k ≡ Some e → Ended n e.status → Ended n (rest_at own i st left s p k e).status
+    ends n k e a h = cond_eq (λ (x : Entry T). Ended n x.status) k i _ _
+        (λ d. let z : Ended n own.status = subst (λ (x : Entry T). Ended n x.status) (one_at es i k own e at a d) h in
+        absurd (rw runs at z))
+        (λ _. cond_both (is_place own.parent k && is_starved st) (stir e) e (λ (x : Entry T). Ended n x.status)
+        (λ _. woken_ended n e.status h) (λ _. h))
+
+    pub rest_ended : HasEnded es → HasEnded (changed (rest_at own i st left s p) es)
+    rest_ended = ended_changed es _ (rest_frame own i st left s p) drops ends
+
     pub rest_roots : Roots es (changed (rest_at own i st left s p) es)
     rest_roots = roots_changed es _ (rest_frame own i st left s p)
 
@@ -148,6 +166,7 @@ module _ {T : Type 0} where
               let e = ap (λ n. cond (sel own.root) n 0) same in
               omega (arith, rest_sum es own i at runs st (own.left - s) s p back_ok sel, e)) h.granted;
           each = rest_fine es own i at runs st (own.left - s) s p back_ok h.each;
+          ended = rest_ended es own i at runs st (own.left - s) s p back_ok h.ended;
         }
 
   -- A job is given back, and n of what is left goes elsewhere
@@ -204,4 +223,5 @@ module _ {T : Type 0} where
               )) h.granted;
           each = fine_pushed fs x (record { holds = holds_rest n 0 false; held = held_rest n false refl })
               (rest_fine es own i at runs (at_rest m) m s p ok h.each);
+          ended = ended_pushed fs x tree (λ v. rest_dropped v n) (rest_ended es own i at runs (at_rest m) m s p ok h.ended);
         }

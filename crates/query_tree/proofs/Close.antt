@@ -5,9 +5,10 @@ use Rattle.std.proofs.lemmas.Bool.{cond_both, and_parts, and_from, or_cases, or_
 use Rattle.query_tree.specs.declared.Status.TheVariants.{Running, Closed, Dropped}
 use Rattle.query_tree.specs.declared.Entry.{Entry}
 use Rattle.query_tree.specs.Forest.{tally, is_open, is_live, is_none, is_place, woken, fed, given, is_above, parent_of, is_under, is_lost, lost_left, purse, paid, close_at, after_close}
-use Rattle.query_tree.specs.Kept.{leans, worth, IsFine, Rooted, OpenAbove, IsTree, IsShut, IsLeaning, AreFine, IsKept}
+use Rattle.query_tree.specs.Kept.{leans, Ended, EndedAbove, HasEnded, worth, IsFine, Rooted, OpenAbove, IsTree, IsShut, IsLeaning, AreFine, IsKept}
 use Rattle.query_tree.proofs.Lists.{from_changed, tally_changed, tally_same, tally_plus, tally_one}
 use Rattle.query_tree.proofs.Keeps.{SameFrame, tree_changed, lean_changed, fine_changed, roots_changed, granted_same}
+use Rattle.query_tree.proofs.Ended.{ended_shut, dropped_shut, woken_dropped, fed_dropped, above_changed, ended_each}
 use Rattle.query_tree.proofs.Tests.{cond_eq, place_is, is_place_at, one_at, leans_open, live_woken, open_woken, leans_paid, holds_woken, open_fed, live_fed, holds_fed, held_fed, held_woken}
 
 above_more : (f g : ℕ → Bool) (i : ℕ) (o : Option ℕ) → ((p : ℕ) → f p ≡ true → g p ≡ true) → is_above f i o ≡ true → is_above g i o ≡ true
@@ -201,10 +202,54 @@ module _ {T : Type 0} where
         (λ k e a l. h.leaning k e a (still_leans k e l).0) (lives t)
 
     -- the parent of i is open
-    parent_open : IsShut es → (q : ℕ) (x : Entry T) → slice_get es q ≡ Some x → is_place own.parent q ≡ true → is_open x.status ≡ true
+    pub parent_open : IsShut es → (q : ℕ) (x : Entry T) → slice_get es q ≡ Some x → is_place own.parent q ≡ true → is_open x.status ≡ true
     parent_open h q x b u =
         let o : OpenAbove es (Some q) = subst (OpenAbove es) (place_is own.parent q u) (h.above i own at (rw runs refl)) in
         o x b
+
+    -- what ended before the close stays so
+    close_ends : IsShut es → (n k : ℕ) (e : Entry T) → slice_get es k ≡ Some e → Ended n e.status →
+        Ended n (close_at es own i s p stamp k e).status
+    close_ends h n k e a d = close_cases (λ (y : Entry T). Ended n y.status) es own i s p stamp k e
+        (λ _. tt)
+        (λ _ l. absurd (ended_shut n e.status (and_parts (is_open e.status) (is_under es k i k) l).0 d))
+        (λ _ _ u. absurd (ended_shut n e.status (parent_open h k e a u) d))
+        (λ _ _ _. d)
+
+    -- the parent of what is lost has ended after the close
+    lost_above : IsTree es → IsShut es → (k : ℕ) (e : Entry T) → slice_get es k ≡ Some e → is_lost es i k e ≡ true → (o : Option ℕ) →
+        e.parent ≡ o → EndedAbove (after_close es own i s p stamp) stamp o
+    lost_above t h k e a l None m =
+        let u = (and_parts (is_open e.status) (is_under es k i k) l).1 in
+        absurd (under_none k u (ap parent_of a ∙ m))
+      where
+        under_none : (k : ℕ) → is_under es k i k ≡ true → parent_of (slice_get es k) ≡ None → ⊥
+        under_none zero u z = absurd (cc)
+        under_none (suc m) u z = let w : is_above (is_under es m i) i None ≡ true = rw z at u in absurd (cc)
+    lost_above t h k e a l (Some q) m = λ y b.
+        let parts = and_parts (is_open e.status) (is_under es k i k) l in
+        let r = from_changed (close_at es own i s p stamp) es q y b in
+        let up = under_parent es t i k e q a m parts.1 in
+        let above : OpenAbove es (Some q) = subst (OpenAbove es) m (h.above k e a parts.0) in
+        let x : Entry T = r.0 in
+        let lost : (q ≡ i → ⊥) → is_lost es i q x ≡ true = λ d.
+        ⊎_elim (λ z. absurd (d z)) (λ z. and_from (is_open x.status) (is_under es q i q) (above x r.1) z) up in
+        subst (λ (z : Entry T). Ended stamp z.status) (sym r.2) (close_cases (λ (z : Entry T). Ended stamp z.status) es own i s p stamp q x
+        (λ _. tt)
+        (λ _ _. refl)
+        (λ d f _. absurd (both_ways (is_lost es i q x) f (lost d)))
+        (λ d f _. absurd (both_ways (is_lost es i q x) f (lost d))))
+
+    close_ended : IsTree es → IsShut es → HasEnded es → HasEnded (after_close es own i s p stamp)
+    close_ended t h d = ended_each es (close_at es own i s p stamp) (close_frame es own i s p stamp) (λ k e n a.
+        close_cases (λ (y : Entry T). y.status ≡ Dropped n → EndedAbove (after_close es own i s p stamp) n e.parent) es own i s p stamp k e
+        (λ _ z. absurd (cc))
+        (λ _ l z. let same : stamp ≡ n = let w : Dropped stamp ≡ Dropped n = z in cc in
+        subst (λ m. EndedAbove (after_close es own i s p stamp) m e.parent) same (lost_above t h k e a l e.parent refl))
+        (λ _ _ u z. absurd (dropped_shut n e.status (parent_open h k e a u)
+        (woken_dropped n e.status (fed_dropped n (e.left + purse es own i s) (woken e.status) z))))
+        (λ _ _ _ z. above_changed es (close_at es own i s p stamp) (close_frame es own i s p stamp) n (close_ends h n) e.parent
+        (d.ended k e n a z)))
 
     close_fine : IsShut es → AreFine es → AreFine (after_close es own i s p stamp)
     close_fine h = fine_changed es (close_at es own i s p stamp) (close_frame es own i s p stamp) (λ k e a fine.
@@ -324,4 +369,5 @@ module _ {T : Type 0} where
           leaning = close_leaning h.tree h.leaning;
           granted = granted_same es _ (roots_changed es _ (close_frame es own i s p stamp)) (close_sum h.tree (omega arith)) h.granted;
           each = close_fine h.shut h.each;
+          ended = close_ended h.tree h.shut h.ended;
         }

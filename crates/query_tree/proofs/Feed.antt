@@ -2,14 +2,15 @@
 use Rattle.std.proofs.Common.{◌≡◌, ℕ, ◌+◌, ◌-◌, ◌^◌, ◌<◌, ◌≤◌, List, length, Bool, true, false, cond, Some, refl, sym, ap, ◌∙◌, ⊎_elim, arith}
 use Rattle.std.specs.Prelude.{slice_get, ◌==◌}
 use Rattle.std.proofs.lemmas.Bool.{cond_both, and_left, cases_eq, eq-eqb, ne_eqb, false_from_ne_true}
-use Rattle.query_tree.specs.declared.Status.TheVariants.{Running}
+use Rattle.query_tree.specs.declared.Status.TheVariants.{Running, Dropped}
 use Rattle.query_tree.specs.declared.Entry.{Entry}
 use Rattle.query_tree.specs.Forest.{fed, changed, tally, is_open, is_live, is_starved, is_none, is_place, at_rest, less_at, part, share, fed_at, root_of, after_feed, after_root}
-use Rattle.query_tree.specs.Kept.{leans, worth, grant_of, of_root, of_all, IsFine, Rooted, LiveChild, IsTree, IsShut, IsLeaning, AreFine, IsKept}
+use Rattle.query_tree.specs.Kept.{leans, Ended, HasEnded, worth, grant_of, of_root, of_all, IsFine, Rooted, LiveChild, IsTree, IsShut, IsLeaning, AreFine, IsKept}
 use Rattle.query_tree.proofs.Lists.{tally_changed, tally_same, tally_plus, tally_one, tally_le, tally_pushed, tally_zero, to_changed, from_pushed, within}
 use Rattle.query_tree.proofs.Keeps.{SameFrame, tree_changed, shut_changed, lean_changed, fine_changed, roots_changed, roots_then, granted_same, tree_pushed, shut_pushed, lean_pushed, fine_pushed, root_below}
+use Rattle.query_tree.proofs.Ended.{fed_dropped, fed_ended, ended_changed, ended_pushed}
 use Rattle.query_tree.proofs.Tests.{cond_eq, place_is, one_at, open_fed, live_fed, leans_fed, holds_fed, held_fed}
-use Rattle.query_tree.proofs.Back.{less_ok, less_sum, rest_tree, rest_shut, rest_leaning, rest_fine, rest_roots}
+use Rattle.query_tree.proofs.Back.{less_ok, less_sum, rest_tree, rest_shut, rest_leaning, rest_fine, rest_ended, rest_roots}
 
 module _ {T : Type 0} where
   -- what is left of a query and what it spent is within its tree's sum
@@ -71,6 +72,12 @@ module _ {T : Type 0} where
         cond_more true l s n = omega arith
         cond_more false l s n = refl
 
+    pub fed_ended_all : HasEnded es → HasEnded (changed (fed_at c n) es)
+    fed_ended_all = ended_changed es _ (fed_frame c n)
+        (λ k e v a. cond_eq (λ (x : Entry T). x.status ≡ Dropped v → e.status ≡ Dropped v) k c _ e
+        (λ _ h. fed_dropped v (e.left + n) e.status h) (λ _ h. h))
+        (λ v k e a h. cond_eq (λ (x : Entry T). Ended v x.status) k c _ e (λ _. fed_ended v (e.left + n) e.status h) (λ _. h))
+
     pub fed_kept : IsTree es → IsShut es → IsLeaning es → AreFine es → IsTree (changed (fed_at c n) es) × IsShut (changed (fed_at c n) es)
         × IsLeaning (changed (fed_at c n) es) × AreFine (changed (fed_at c n) es)
     fed_kept t s l f = (
@@ -91,7 +98,7 @@ module _ {T : Type 0} where
   share_less : (child : Entry T) (m : ℕ) → share child m ≤ m
   share_less child m = cond_both (is_open child.status) (part m) 0 (λ n. n ≤ m) (λ _. omega arith) (λ _. omega arith)
 
-  share_none : (child : Entry T) (m : ℕ) → is_open child.status ≡ false → share child m ≡ 0
+  pub share_none : (child : Entry T) (m : ℕ) → is_open child.status ≡ false → share child m ≡ 0
   share_none child m h = rw h refl
 
   module _ (es : List (Entry T)) (own : Entry T) (i : ℕ) (at : slice_get es i ≡ Some own) (runs : own.status ≡ Running) (s : ℕ) (p : T)
@@ -125,6 +132,8 @@ module _ {T : Type 0} where
                 ap (λ (x : ℕ). cond (sel x) n 0) root,
               )) h.granted;
           each = kept.3;
+          ended = fed_ended_all fs c child at' n (share_none child (own.left - s))
+              (rest_ended es own i at runs (at_rest m) m s p ok h.ended);
         }
 
     -- the child is as before, once the job was given back
@@ -177,4 +186,5 @@ module _ {T : Type 0} where
           all = omega (arith, tally_pushed (worth of_all) es x, tally_pushed grant_of es x, h.granted.all);
         };
         each = fine_pushed es x (record { holds = tt; held = refl }) h.each;
+        ended = ended_pushed es x h.tree (λ n d. absurd (cc)) h.ended;
       }

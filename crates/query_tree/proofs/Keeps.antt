@@ -1,9 +1,7 @@
 -- What a change of each entry, and a new entry, keep.
-use Rattle.std.proofs.Common.{◌≡◌, ℕ, zero, suc, ◌+◌, ◌≤◌, List, [], ◌∷◌, ◌++◌, length, Bool, true, false, Option, Some, None, refl, sym, ap, ◌∙◌, subst, ◌⊎◌, inl, inr, ⊎_elim, arith}
+use Rattle.std.proofs.Common.{◌≡◌, ℕ, zero, suc, ◌≤◌, List, [], ◌∷◌, ◌++◌, length, Bool, true, false, Option, Some, None, refl, sym, ap, ◌∙◌, subst, ⊎_elim, arith}
 use Rattle.std.specs.Prelude.{slice_get}
 use Rattle.std.proofs.lemmas.Bool.{both_ways}
-use Rattle.query_tree.specs.declared.Status.{Status}
-use Rattle.query_tree.specs.declared.Status.TheVariants.{Ready, Running, Blocked, Starved, Closed, Dropped}
 use Rattle.query_tree.specs.declared.Entry.{Entry}
 use Rattle.query_tree.specs.Forest.{changed, tally, is_open, is_live}
 use Rattle.query_tree.specs.Kept.{leans, worth, grant_of, of_root, of_all, IsFine, Rooted, OpenAbove, LiveChild, IsTree, IsShut, IsLeaning, IsGranted, AreFine}
@@ -182,27 +180,3 @@ module _ {T : Type 0} where
     fine_pushed h s = record {
       fine = λ i e a. ⊎_elim (λ b. s.fine i e b) (λ b. subst IsFine (sym b.1) h) (from_pushed es x i e a);
     }
-
-  -- While something is live, some query is Ready or Running.
-  pub record Work (es : List (Entry T)) : Type 0 where
-    pub place : ℕ
-    pub entry : Entry T
-    pub at : slice_get es place ≡ Some entry
-    pub ready : (entry.status ≡ Ready) ⊎ (entry.status ≡ Running)
-
-  pub some_work : (es : List (Entry T)) → IsTree es → IsLeaning es → (n i : ℕ) (e : Entry T) → length es ≤ i + n → slice_get es i ≡ Some e →
-      is_live e.status ≡ true → Work es
-  some_work es t l n i e le a live = by_status es t l n i e e.status le a live refl
-    where
-      by_status : (es : List (Entry T)) → IsTree es → IsLeaning es → (n i : ℕ) (e : Entry T) (s : Status) → length es ≤ i + n →
-          slice_get es i ≡ Some e → is_live s ≡ true → e.status ≡ s → Work es
-      by_status es t l n i e Ready le a live is = record { place = i; entry = e; at = a; ready = inl is }
-      by_status es t l n i e Running le a live is = record { place = i; entry = e; at = a; ready = inr is }
-      by_status es t l zero i e Blocked le a live is = absurd (omega (arith, within es i e a))
-      by_status es t l (suc n) i e Blocked le a live is =
-          let c = l.leaning i e a (rw is refl) in
-          let r : Rooted es c.place (Some i) c.child.root = rw c.parent at (t.rooted c.place c.child c.at) in
-          by_status es t l n c.place c.child c.child.status (omega (arith, r.0)) c.at c.live refl
-      by_status es t l n i e Starved le a live is = absurd (cc)
-      by_status es t l n i e Closed le a live is = absurd (cc)
-      by_status es t l n i e (Dropped k) le a live is = absurd (cc)

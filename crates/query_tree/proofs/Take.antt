@@ -2,12 +2,13 @@
 use Rattle.std.proofs.Common.{◌≡◌, ℕ, List, Bool, true, Some, refl, sym, ◌∙◌, subst, arith}
 use Rattle.std.specs.Prelude.{slice_get}
 use Rattle.std.proofs.lemmas.Bool.{and_parts}
-use Rattle.query_tree.specs.declared.Status.TheVariants.{Ready}
+use Rattle.query_tree.specs.declared.Status.TheVariants.{Ready, Dropped}
 use Rattle.query_tree.specs.declared.Entry.{Entry}
 use Rattle.query_tree.specs.Forest.{tally, is_open, is_live, is_live_child, has_live_child, is_place, take_at, after_take}
-use Rattle.query_tree.specs.Kept.{leans, worth, IsFine, LiveChild, IsLeaning, IsKept}
+use Rattle.query_tree.specs.Kept.{leans, Ended, worth, IsFine, LiveChild, IsLeaning, IsKept}
 use Rattle.query_tree.proofs.Lists.{any_at, tally_changed, tally_same}
 use Rattle.query_tree.proofs.Keeps.{SameFrame, tree_changed, shut_changed, lean_changed, fine_changed, roots_changed, granted_same}
+use Rattle.query_tree.proofs.Ended.{ended_changed}
 use Rattle.query_tree.proofs.Tests.{cond_eq, place_is, one_at}
 
 module _ {T : Type 0} where
@@ -40,6 +41,16 @@ module _ {T : Type 0} where
     fine : (k : ℕ) (e : Entry T) → IsFine e → IsFine (take_at i (has_live_child es i) k e)
     fine k e h = cond_eq IsFine k i _ e (λ _. record { holds = omega arith; held = refl }) (λ _. h)
 
+    drops : (k : ℕ) (e : Entry T) (n : ℕ) → slice_get es k ≡ Some e → (take_at i (has_live_child es i) k e).status ≡ Dropped n → e.status
+        ≡ Dropped n
+    drops k e n a = cond_eq (λ (x : Entry T). x.status ≡ Dropped n → e.status ≡ Dropped n) k i _ e (λ _ h. absurd (cc)) (λ _ h. h)
+
+    ends : (n k : ℕ) (e : Entry T) → slice_get es k ≡ Some e → Ended n e.status → Ended n (take_at i (has_live_child es i) k e).status
+    ends n k e a h = cond_eq (λ (x : Entry T). Ended n x.status) k i _ e
+        (λ s. let z : Ended n own.status = subst (λ (x : Entry T). Ended n x.status) (one_at es i k own e at a s) h in
+        absurd (rw ready at z))
+        (λ _. h)
+
     sums : (sel : ℕ → Bool) → tally (worth sel) (after_take es i) ≡ tally (worth sel) es
     sums sel = tally_changed (worth sel) _ 0 es ∙ tally_same _ _ es (λ k e a. cond_eq (λ (x : Entry T). worth sel k x ≡ worth sel k e) k i _
         e (λ _. refl) (λ _. refl))
@@ -51,4 +62,5 @@ module _ {T : Type 0} where
       leaning = lean_changed es _ (take_frame i (has_live_child es i)) (each h.leaning) (λ c p e q a b n live l. lives c e live);
       granted = granted_same es _ (roots_changed es _ (take_frame i (has_live_child es i))) sums h.granted;
       each = fine_changed es _ (take_frame i (has_live_child es i)) (λ k e a f. fine k e f) h.each;
+      ended = ended_changed es _ (take_frame i (has_live_child es i)) drops ends h.ended;
     }

@@ -1,5 +1,5 @@
 -- What is true of every forest.
-use Rattle.std.specs.Prelude.{◌≡◌, ℕ, ◌+◌, ◌^◌, ◌<◌, ◌≤◌, List, Bool, true, false, cond, ◌&&◌, not, ◌==◌, Option, Some, None, slice_get}
+use Rattle.std.specs.Prelude.{◌≡◌, ℕ, ◌+◌, ◌^◌, ◌<◌, ◌≤◌, List, Bool, true, false, cond, ◌&&◌, not, ◌==◌, ◌⊎◌, Option, Some, None, slice_get}
 use Rattle.query_tree.specs.declared.Status.{Status}
 use Rattle.query_tree.specs.declared.Status.TheVariants.{Ready, Running, Blocked, Starved, Closed, Dropped}
 use Rattle.query_tree.specs.declared.Entry.{Entry}
@@ -33,6 +33,15 @@ Held Starved none = none ≡ false
 Held Closed none = none ≡ false
 Held (Dropped n) none = Unit {0}
 
+-- closed, or dropped with this stamp
+abbrev pub Ended : ℕ → Status → Type 0
+Ended n Ready = ⊥
+Ended n Running = ⊥
+Ended n Blocked = ⊥
+Ended n Starved = ⊥
+Ended n Closed = Unit {0}
+Ended n (Dropped m) = m ≡ n
+
 abbrev pub of_root : ℕ → ℕ → Bool
 of_root r x = x == r
 
@@ -60,6 +69,16 @@ module _ {T : Type 0} where
   abbrev pub OpenAbove : List (Entry T) → Option ℕ → Type 0
   OpenAbove es None = Unit {0}
   OpenAbove es (Some p) = (q : Entry T) → slice_get es p ≡ Some q → is_open q.status ≡ true
+
+  -- the parent is there, and closed or was dropped with this stamp
+  abbrev pub EndedAbove : List (Entry T) → ℕ → Option ℕ → Type 0
+  EndedAbove es n None = ⊥
+  EndedAbove es n (Some p) = (q : Entry T) → slice_get es p ≡ Some q → Ended n q.status
+
+  -- what was dropped stands under what closed or was dropped with the same stamp
+  pub record HasEnded (es : List (Entry T)) : Type 0 where
+    pub ended : (i : ℕ) (e : Entry T) (n : ℕ) → slice_get es i ≡ Some e → e.status ≡ Dropped n →
+        EndedAbove es n e.parent
 
   pub record LiveChild (es : List (Entry T)) (i : ℕ) : Type 0 where
     pub place : ℕ
@@ -98,9 +117,32 @@ module _ {T : Type 0} where
   pub record HoldsPayloads (es : List (Entry T)) : Type 0 where
     pub held : (i : ℕ) (e : Entry T) → slice_get es i ≡ Some e → Held e.status (is_none e.payload)
 
+  -- nothing is left of what is Starved, of what was dropped, and of what closed under a parent
+  pub record HoldsLefts (es : List (Entry T)) : Type 0 where
+    pub lefts : (i : ℕ) (e : Entry T) → slice_get es i ≡ Some e →
+        Holds e.status e.left e.lent (is_none e.parent)
+
+  -- all that is open in the tree of this root is Starved
+  pub record IsOver (es : List (Entry T)) (r : ℕ) : Type 0 where
+    pub starved : (i : ℕ) (e : Entry T) → slice_get es i ≡ Some e → e.root ≡ r →
+        is_open e.status ≡ true → e.status ≡ Starved
+
+  -- some query in the tree of this root is Ready or Running
+  pub record IsWorking (es : List (Entry T)) (r : ℕ) : Type 0 where
+    pub place : ℕ
+    pub entry : Entry T
+    pub at : slice_get es place ≡ Some entry
+    pub root : entry.root ≡ r
+    pub ready : (entry.status ≡ Ready) ⊎ (entry.status ≡ Running)
+
+  -- each tree is over, or some query of it is Ready or Running
+  pub record HasWork (es : List (Entry T)) : Type 0 where
+    pub works : (r : ℕ) → IsOver es r ⊎ IsWorking es r
+
   pub record IsKept (es : List (Entry T)) : Type 0 where
     pub tree : IsTree es
     pub shut : IsShut es
     pub leaning : IsLeaning es
     pub granted : IsGranted es
     pub each : AreFine es
+    pub ended : HasEnded es

@@ -2,6 +2,7 @@
 pub mod Forest
 pub mod Takes
 pub mod Woods
+pub mod Frame
 -- the invariant of a forest
 pub mod Kept
 pub mod Sound

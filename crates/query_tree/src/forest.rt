@@ -25,11 +25,12 @@ impl<T> Model for Forest<T> {
 }
 
 impl<T: Drop> Forest<T> {
-    ghost use Rattle.std.specs.Prelude.{◌≡◌, ◌-◌, ◌<◌, ◌≤◌, [], length, IfOk, MatchOption, MatchResult};
+    ghost use Rattle.std.specs.Prelude.{◌≡◌, ◌-◌, ◌<◌, ◌≤◌, [], length, IfOk, IfSome, MatchOption, MatchResult};
     ghost use Rattle.std.specs.Option.{option_copied};
     ghost use Rattle.query_tree.specs.Forest.{after_ask, after_back, after_close, after_feed, after_root, has_live};
-    ghost use Rattle.query_tree.specs.Kept.{IsGranted, IsShut, HasCause, HoldsPayloads};
+    ghost use Rattle.query_tree.specs.Kept.{IsGranted, IsShut, IsTree, HasCause, HasEnded, HasWork, HoldsLefts, HoldsPayloads};
     ghost use Rattle.query_tree.specs.Takes.{HasNoReady, Took};
+    ghost use Rattle.query_tree.specs.Frame.{OthersStay};
     ghost use Rattle.query_tree.specs.Woods.{Woods, IsLent, Went, WasDropped, MayGive, IsChild, Fed, Reads};
 
     /// An empty forest.
@@ -48,6 +49,7 @@ impl<T: Drop> Forest<T> {
         ensures room { self.new.room ≡ self.old.room }
         ensures id { result ≡ length self.old.entries }
         ensures added { self.new.entries ≡ after_root self.old.entries grant payload }
+        ensures others { OthersStay self.old.entries self.new.entries result }
     {
         let id = self.entries.len() as u32;
         self.entries.push_reserved(Entry {
@@ -70,6 +72,10 @@ impl<T: Drop> Forest<T> {
         ensures room { self.new.room ≡ self.old.room }
         ensures taken { MatchOption result ((self.new.entries ≡ self.old.entries)
             × HasNoReady self.old.entries) (λ lent. Took self.old.entries self.new.entries lent) }
+        ensures out { IfSome result (λ lent. IsLent self.new.entries lent.id lent.left
+            lent.waiting) }
+        ensures others { IfSome result
+            (λ lent. OthersStay self.old.entries self.new.entries lent.id) }
     {
         let id = edits::find_ready(&self.entries)?;
         Some(edits::lend(&mut self.entries, id))
@@ -86,6 +92,7 @@ impl<T: Drop> Forest<T> {
             self.old.entries self.new.entries lent.id)
             (λ gone. (self.new.entries ≡ self.old.entries) × (gone.lent ≡ lent)
             × WasDropped self.old.entries lent.id gone.stamp) }
+        ensures others { OthersStay self.old.entries self.new.entries lent.id }
     {
         let id = lent.id as usize;
         if let Status::Dropped { stamp } = self.entries[id].status {
@@ -120,6 +127,7 @@ impl<T: Drop> Forest<T> {
             self.old.entries self.new.entries lent.id)
             (λ gone. (self.new.entries ≡ self.old.entries) × (gone.lent ≡ lent)
             × WasDropped self.old.entries lent.id gone.stamp) }
+        ensures others { OthersStay self.old.entries self.new.entries lent.id }
     {
         let id = lent.id as usize;
         if let Status::Dropped { stamp } = self.entries[id].status {
@@ -165,6 +173,7 @@ impl<T: Drop> Forest<T> {
             self.old.entries self.new.entries lent.id)
             (λ gone. (self.new.entries ≡ self.old.entries) × (gone.lent ≡ lent)
             × WasDropped self.old.entries lent.id gone.stamp) }
+        ensures others { OthersStay self.old.entries self.new.entries lent.id }
     {
         if let Status::Dropped { stamp } = self.entries[lent.id as usize].status {
             return Err(Gone { stamp, lent });
@@ -187,6 +196,7 @@ impl<T: Drop> Forest<T> {
             entry) self.old.entries self.new.entries lent.id child)
             (λ gone. (self.new.entries ≡ self.old.entries) × (gone.lent ≡ lent)
             × WasDropped self.old.entries lent.id gone.stamp) }
+        ensures others { OthersStay self.old.entries self.new.entries lent.id }
     {
         let id = lent.id as usize;
         if let Status::Dropped { stamp } = self.entries[id].status {
@@ -208,16 +218,22 @@ impl<T: Drop> Forest<T> {
         Ok(())
     }
 
-    /// How many queries there are. The further clauses hold of every forest: budgets add up, what
-    /// is
-    /// Blocked waits for a child, payloads are in place, and what is open stands under what is
-    /// open.
+    /// How many queries there are. The further clauses hold of every forest: there is room for its
+    /// queries, a child stands in the tree of its parent, budgets add up, nothing is left of what
+    /// is Starved or ended under a parent, what is Blocked waits for a child, a tree that is not
+    /// over has a query that is Ready or Running, payloads are in place, and what is open stands
+    /// under what is open, and what was dropped under what closed or was dropped with its stamp.
     pub fn count(&self) -> u32
         ensures count { result ≡ length self.now.entries }
+        ensures within { length self.now.entries ≤ self.now.room }
+        ensures tree { IsTree self.now.entries }
         ensures budgets { IsGranted self.now.entries }
+        ensures lefts { HoldsLefts self.now.entries }
         ensures waits { HasCause self.now.entries }
+        ensures works { HasWork self.now.entries }
         ensures payloads { HoldsPayloads self.now.entries }
         ensures above { IsShut self.now.entries }
+        ensures ended { HasEnded self.now.entries }
     {
         self.entries.len() as u32
     }

@@ -4,6 +4,7 @@ use Rattle.query_tree.specs.Forest.{after_root, root_of}
 use Rattle.query_tree.specs.Kept.{IsKept}
 use Rattle.query_tree.specs.Woods.{Woods}
 use Rattle.query_tree.proofs.Feed.{root_kept}
+use Rattle.query_tree.proofs.Frame.{stay_at, root_stay}
 use Rattle.query_tree.proofs.forest.Forest.add_root.Goals as goal
 
 pub invariant_of-self : goal.invariant_of-self
@@ -25,3 +26,13 @@ invariant_of-self g c =
       reserved = omega (arith, c.push_reserved.ensures.capacity, c.self.invariant.reserved);
       small = c.self.invariant.small;
     }
+
+pub returns-clause-others : goal.returns-clause-others
+returns-clause-others g c =
+    let es = c.self.inside.entries.items in
+    let len : length es ≡ c.self.inside.entries.len = sym c.self.inside.entries.ok.0 in
+    let number : c.len-id.result ≡ length es = c.len-id.ensures ∙ sym len in
+    let pushed : c.push_reserved.new.self.items ≡ after_root es c.args.grant c.args.payload = c.push_reserved.ensures.items
+    ∙ ap (λ n. es ++ root_of n c.args.grant c.args.payload ∷ []) number in
+    let is = ap (λ (w : Woods g.row.T.Denot). w.entries) c.self.view_is in
+    stay_at _ _ _ _ _ _ is pushed number (root_stay es c.args.grant c.args.payload)

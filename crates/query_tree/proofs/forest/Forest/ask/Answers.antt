@@ -9,6 +9,7 @@ use Rattle.query_tree.proofs.Lists.{length_changed}
 use Rattle.query_tree.proofs.Tests.{one_at}
 use Rattle.query_tree.proofs.Calls.{at_work}
 use Rattle.query_tree.proofs.Back.{ask_kept}
+use Rattle.query_tree.proofs.Frame.{stay_seen, ask_stay}
 use Rattle.query_tree.proofs.forest.Forest.ask.Goals as goal
 
 pub overflow_sub-left : goal.overflow_sub-left
@@ -98,4 +99,5 @@ returns g c =
           becomes = pushed ∙ ap (λ (xs : List (Entry g.row.T.Denot)). after_ask xs own l.id c.args.steps l.payload c.args.child) is;
         },
       );
+      others = stay_seen _ _ _ _ l.id is pushed (ask_stay es own l.id c.args.steps l.payload c.args.child);
     }

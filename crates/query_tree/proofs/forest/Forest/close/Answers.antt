@@ -6,6 +6,7 @@ use Rattle.query_tree.specs.Woods.{Woods}
 use Rattle.query_tree.proofs.Lists.{length_changed}
 use Rattle.query_tree.proofs.Calls.{at_work}
 use Rattle.query_tree.proofs.Close.{close_kept}
+use Rattle.query_tree.proofs.Frame.{stay_seen, close_stay}
 use Rattle.query_tree.proofs.forest.Forest.close.Goals as goal
 
 pub invariant_of-self : goal.invariant_of-self
@@ -45,4 +46,6 @@ returns g c =
         running = a.running;
         becomes = taken ∙ (new ∙ ap (λ (xs : List (Entry g.row.T.Denot)). after_close xs own l.id c.args.steps l.payload c.args.stamp) is);
       };
+      others = stay_seen _ _ _ _ l.id is (taken ∙ new)
+          (close_stay es own l.id a.at a.running c.args.steps l.payload c.args.stamp c.self.invariant.kept);
     }

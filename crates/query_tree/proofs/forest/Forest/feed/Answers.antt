@@ -9,6 +9,7 @@ use Rattle.query_tree.proofs.Lists.{length_changed, within}
 use Rattle.query_tree.proofs.Tests.{one_at}
 use Rattle.query_tree.proofs.Calls.{at_work}
 use Rattle.query_tree.proofs.Feed.{feed_kept, child_there, feed_fits}
+use Rattle.query_tree.proofs.Frame.{stay_seen, feed_stay}
 use Rattle.query_tree.proofs.forest.Forest.feed.Goals as goal
 
 pub overflow_sub-left : goal.overflow_sub-left
@@ -164,4 +165,7 @@ returns g c =
         becomes = taken2 ∙ (done ∙ ap (λ (xs : List (Entry g.row.T.Denot)). after_feed xs own l.id c.args.steps l.payload c.args.child ch)
             is);
       };
+      others = stay_seen _ _ _ _ l.id is (taken2 ∙ done)
+          (feed_stay es own l.id a.at a.running c.args.steps l.payload a.le c.args.child ch at_c c.requires.child.parent
+          c.self.invariant.kept);
     }

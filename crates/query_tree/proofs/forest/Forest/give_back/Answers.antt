@@ -10,6 +10,7 @@ use Rattle.query_tree.proofs.Lists.{length_changed}
 use Rattle.query_tree.proofs.Tests.{MayRest, one_at}
 use Rattle.query_tree.proofs.Calls.{at_work}
 use Rattle.query_tree.proofs.Back.{back_kept}
+use Rattle.query_tree.proofs.Frame.{stay_seen, back_stay}
 use Rattle.query_tree.proofs.forest.Forest.give_back.Goals as goal
 
 may : (r : Rest) (steps left : ℕ) (w v : Bool) → v ≡ w → MayGive r steps left w → MayRest r v
@@ -81,4 +82,5 @@ returns g c =
         running = a.running;
         becomes = taken ∙ (new ∙ ap (λ (xs : List (Entry g.row.T.Denot)). after_back xs own l.id c.args.steps c.args.rest l.payload) is);
       };
+      others = stay_seen _ _ _ _ l.id is (taken ∙ new) (back_stay es own l.id c.args.steps c.args.rest l.payload);
     }

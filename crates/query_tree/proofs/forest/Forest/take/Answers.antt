@@ -1,13 +1,15 @@
-use Rattle.std.proofs.Common.{◌≡◌, List, Some, length, drop, refl, sym, ap, ◌∙◌, arith}
+use Rattle.std.proofs.Common.{◌≡◌, ℕ, Bool, List, Some, length, drop, refl, sym, ap, ◌∙◌, arith}
 use Rattle.std.specs.Prelude.{slice_get}
 use Rattle.std.proofs.lemmas.List.{take_at}
 use Rattle.query_tree.specs.declared.Status.TheVariants.{Ready}
 use Rattle.query_tree.specs.declared.Entry.{Entry}
 use Rattle.query_tree.specs.Forest.{after_take, take_at as taken_at, has_live_child, is_none}
 use Rattle.query_tree.specs.Kept.{Held}
+use Rattle.query_tree.specs.Woods.{Woods, IsLent}
 use Rattle.query_tree.proofs.Lists.{length_changed}
 use Rattle.query_tree.proofs.Tests.{one_at}
 use Rattle.query_tree.proofs.Take.{take_kept}
+use Rattle.query_tree.proofs.Frame.{stay_at, take_stay, taken_out}
 use Rattle.query_tree.proofs.forest.Forest.take.Goals as goal
 
 pub lend-requires-clause-held : goal.lend-requires-clause-held
@@ -39,3 +41,37 @@ invariant_of-self g c =
       reserved = c.self.invariant.reserved;
       small = c.self.invariant.small;
     })
+
+-- what is lent is that of one entry
+lent_same : {T : Type 0} (fs gs : List (Entry T)) (i j l m : ℕ) (w v : Bool) → fs ≡ gs → i ≡ j → l ≡ m → w ≡ v → IsLent gs j m v →
+    IsLent fs i l w
+lent_same fs gs i j l m w v a b d e h = rw (a, b, d, e) h
+
+pub returns-clause-out : goal.returns-clause-out
+returns-clause-out g c =
+    let es = c.self.inside.entries.items in
+    let id = c.in_ok-id.id in
+    let r = c.in_ok-id.ensures in
+    let first : slice_get es id ≡ Some r.own = ap (λ (xs : List (Entry g.row.T.Denot)). slice_get xs id) (sym c.deref.ensures.value)
+    ∙ r.at in
+    let new : c.lend.new.entries ≡ after_take es id = c.lend.ensures.entries
+    ∙ ap (λ (xs : List (Entry g.row.T.Denot)). after_take xs id) c.deref_mut.ensures.value in
+    let taken = take_at c.lend.new.entries (drop (length c.lend.new.entries) es) c.self.inside.entries.len (omega arith) in
+    let says = rw c.deref_mut.ensures.value at c.lend.ensures.lent in
+    let e = says r.own first in
+    lent_same _ _ _ _ _ _ _ _ (taken ∙ new) e.0 e.1 e.2 (taken_out es id r.own first)
+
+pub returns-clause-others : goal.returns-clause-others
+returns-clause-others g c =
+    let es = c.self.inside.entries.items in
+    let id = c.in_ok-id.id in
+    let r = c.in_ok-id.ensures in
+    let first : slice_get es id ≡ Some r.own = ap (λ (xs : List (Entry g.row.T.Denot)). slice_get xs id) (sym c.deref.ensures.value)
+    ∙ r.at in
+    let new : c.lend.new.entries ≡ after_take es id = c.lend.ensures.entries
+    ∙ ap (λ (xs : List (Entry g.row.T.Denot)). after_take xs id) c.deref_mut.ensures.value in
+    let taken = take_at c.lend.new.entries (drop (length c.lend.new.entries) es) c.self.inside.entries.len (omega arith) in
+    let says = rw c.deref_mut.ensures.value at c.lend.ensures.lent in
+    let e = says r.own first in
+    let is = ap (λ (w : Woods g.row.T.Denot). w.entries) c.self.view_is in
+    stay_at _ _ _ _ _ _ is (taken ∙ new) e.0 (take_stay es id)
