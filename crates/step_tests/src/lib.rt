@@ -1,0 +1,15 @@
+//! Tests of slices and of what tables say, and nothing else.
+#![tactic(auto)]
+
+#[cfg(test)]
+mod holders;
+#[cfg(test)]
+mod made;
+#[cfg(test)]
+mod musts;
+#[cfg(test)]
+mod outlooks;
+#[cfg(test)]
+mod slices;
+#[cfg(test)]
+mod states;
