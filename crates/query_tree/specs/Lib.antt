@@ -5,4 +5,5 @@ pub mod Woods
 pub mod Frame
 -- the invariant of a forest
 pub mod Kept
+pub mod Ready
 pub mod Sound

@@ -5,7 +5,9 @@ ghost use Rattle.query_tree.specs.Forest.{after_take, fed_at, is_none, back_as, 
 ghost use Rattle.query_tree.specs.Forest.{changed, tally, is_open, is_live, is_starved, is_place, woken, fed, at_rest, stir, given, paid as paid_to, rest_at, after_close, has_live_child, has_live, lost_left, dropped_upto, is_cut};
 ghost use Rattle.query_tree.specs.declared.Entry.{Entry};
 ghost use Rattle.query_tree.specs.Kept.{IsTree, IsShut, IsKept};
+ghost use Rattle.query_tree.specs.Ready.{Covers, CoversOthers};
 
+use crate::ready::ReadyList;
 use crate::{Entry, Lent, Rest, Status};
 
 /// Whether a query is neither closed nor dropped.
@@ -222,14 +224,18 @@ pub fn close<T: Drop>(entries: &mut [Entry<T>], id: u32, steps: u32, payload: T,
     }
 }
 
-/// The first Ready query.
-pub fn find_ready<T>(entries: &[Entry<T>]) -> Option<u32>
-    requires { length entries.now < 2 ^ 32 }
-    ensures { MatchOption result (HasNoReady entries.now) (λ id. IsReadyAt entries.now id) }
+/// A Ready query, which the list no longer need hold. Each number that is taken off the list was
+/// put
+/// there by a call, so calls pay for this loop.
+pub fn next_ready<T>(entries: &[Entry<T>], ready: &mut ReadyList) -> Option<u32>
+    requires { Covers entries.now ready.old }
+    ensures found { MatchOption result (HasNoReady entries.now × Covers entries.now ready.new)
+        (λ id. IsReadyAt entries.now id × CoversOthers entries.now ready.new id) }
+    ensures room { ready.new.room ≡ ready.old.room }
 {
-    for k in 0..entries.len() {
-        if is_ready(entries[k].status) {
-            return Some(k as u32);
+    while let Some(id) = ready.pop() {
+        if is_ready(entries[id as usize].status) {
+            return Some(id);
         }
     }
     None

@@ -1,6 +1,7 @@
 //! A forest of queries with payloads.
 ghost use Rattle.std.specs.Prelude.{◌≡◌, ◌-◌, ◌<◌, ◌≤◌, length, Some, None, IfOk, MatchResult};
 
+use crate::ready::ReadyList;
 use crate::{Entry, Gone, Lent, OutOfMemory, QueryId, Rest, Status, edits};
 use std::alloc::Global;
 use std::marker::Model;
@@ -10,6 +11,7 @@ use std::marker::Model;
 pub struct Forest<T> {
     entries: Vec<Entry<T>>,
     room: usize,
+    ready: ReadyList,
 }
 
 impl<T> Model for Forest<T> {
@@ -21,7 +23,7 @@ impl<T> Model for Forest<T> {
 
     ghost view = { λ f. record { room = f.room; entries = f.entries.items } };
 
-    ghost invariant = { λ f. IsSound f.entries.items f.room (vec_capacity f.entries) };
+    ghost invariant = { λ f. IsSound f.entries.items f.room (vec_capacity f.entries) f.ready };
 }
 
 impl<T: Drop> Forest<T> {
@@ -40,6 +42,7 @@ impl<T: Drop> Forest<T> {
         Ok(Forest {
             entries: Vec::with_capacity(alloc, room as usize)?,
             room: room as usize,
+            ready: ReadyList::with_room(alloc, room)?,
         })
     }
 
@@ -64,6 +67,7 @@ impl<T: Drop> Forest<T> {
             stirred: false,
             payload: Some(payload),
         });
+        self.ready.add(id);
         id
     }
 
@@ -77,7 +81,7 @@ impl<T: Drop> Forest<T> {
         ensures others { IfSome result
             (λ lent. OthersStay self.old.entries self.new.entries lent.id) }
     {
-        let id = edits::find_ready(&self.entries)?;
+        let id = edits::next_ready(&self.entries, &mut self.ready)?;
         Some(edits::lend(&mut self.entries, id))
     }
 
@@ -99,6 +103,7 @@ impl<T: Drop> Forest<T> {
             return Err(Gone { stamp, lent });
         }
         let own = &self.entries[id];
+        let parent = own.parent;
         let left = own.left - steps;
         let status = edits::back_as(rest, own.stirred, left);
         edits::rest(
@@ -109,6 +114,7 @@ impl<T: Drop> Forest<T> {
             steps,
             lent.payload,
         );
+        self.ready.note_job(lent.id, parent);
         Ok(())
     }
 
@@ -134,6 +140,7 @@ impl<T: Drop> Forest<T> {
             return Err(Gone { stamp, lent });
         }
         let own = &self.entries[id];
+        let parent = own.parent;
         let root = own.root;
         let left = own.left - steps;
         let part = left / 2;
@@ -146,6 +153,7 @@ impl<T: Drop> Forest<T> {
             steps,
             lent.payload,
         );
+        self.ready.note_job(lent.id, parent);
         let number = self.entries.len() as u32;
         self.entries.push_reserved(Entry {
             parent: Some(lent.id),
@@ -159,6 +167,7 @@ impl<T: Drop> Forest<T> {
             stirred: false,
             payload: Some(child),
         });
+        self.ready.add(number);
         Ok(number)
     }
 
@@ -178,7 +187,9 @@ impl<T: Drop> Forest<T> {
         if let Status::Dropped { stamp } = self.entries[lent.id as usize].status {
             return Err(Gone { stamp, lent });
         }
+        let parent = self.entries[lent.id as usize].parent;
         edits::close(&mut self.entries, lent.id, steps, lent.payload, stamp);
+        self.ready.note_above(parent);
         Ok(())
     }
 
@@ -203,6 +214,7 @@ impl<T: Drop> Forest<T> {
             return Err(Gone { stamp, lent });
         }
         let own = &self.entries[id];
+        let parent = own.parent;
         let left = own.left - steps;
         let part = edits::share(self.entries[child as usize].status, left);
         let keep = left - part;
@@ -215,6 +227,8 @@ impl<T: Drop> Forest<T> {
             lent.payload,
         );
         edits::feed(&mut self.entries, child, part);
+        self.ready.note_job(lent.id, parent);
+        self.ready.note(child);
         Ok(())
     }
 

@@ -3,6 +3,7 @@
 
 mod edits;
 mod forest;
+mod ready;
 
 pub use forest::Forest;
 use std::alloc::AllocError;

@@ -2,7 +2,9 @@ use Rattle.std.proofs.Common.{◌≡◌, ◌<◌, [], ◌∷◌, ◌++◌, lengt
 use Rattle.std.proofs.lemmas.List.{length_push}
 use Rattle.query_tree.specs.Forest.{after_root, root_of}
 use Rattle.query_tree.specs.Kept.{IsKept}
+use Rattle.query_tree.specs.Ready.{Covers}
 use Rattle.query_tree.specs.Woods.{Woods}
+use Rattle.query_tree.proofs.Covers.{pushed_covers}
 use Rattle.query_tree.proofs.Feed.{root_kept}
 use Rattle.query_tree.proofs.Frame.{stay_at, root_stay}
 use Rattle.query_tree.proofs.forest.Forest.add_root.Goals as goal
@@ -25,6 +27,10 @@ invariant_of-self g c =
       within = omega (arith, ap length pushed, length_push es (root_of (length es) c.args.grant c.args.payload), room);
       reserved = omega (arith, c.push_reserved.ensures.capacity, c.self.invariant.reserved);
       small = c.self.invariant.small;
+      list_room = c.add.ensures.room ∙ c.self.invariant.list_room;
+      covers = subst (λ xs. Covers xs c.add.new.self) (sym pushed)
+          (pushed_covers es (root_of (length es) c.args.grant c.args.payload) c.self.inside.ready c.add.new.self c.len-id.result number
+          c.add.ensures c.self.invariant.covers);
     }
 
 pub returns-clause-others : goal.returns-clause-others
@@ -36,3 +42,19 @@ returns-clause-others g c =
     ∙ ap (λ n. es ++ root_of n c.args.grant c.args.payload ∷ []) number in
     let is = ap (λ (w : Woods g.row.T.Denot). w.entries) c.self.view_is in
     stay_at _ _ _ _ _ _ is pushed number (root_stay es c.args.grant c.args.payload)
+
+pub add-requires : goal.add-requires
+add-requires g c =
+    let es = c.self.inside.entries.items in
+    let len : length es ≡ c.self.inside.entries.len = sym c.self.inside.entries.ok.0 in
+    let i = c.self.invariant in
+    let room : length es < c.self.inside.room = omega (
+      arith,
+      c.requires,
+      ap (λ (w : Woods g.row.T.Denot). length w.entries) c.self.view_is,
+      ap (λ (w : Woods g.row.T.Denot). w.room) c.self.view_is,
+    ) in
+    record {
+      room = omega (arith, room, i.list_room, i.covers.size);
+      next = omega (arith, c.len-id.ensures, len, i.covers.size);
+    }

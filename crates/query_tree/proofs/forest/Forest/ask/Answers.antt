@@ -2,14 +2,16 @@ use Rattle.std.proofs.Common.{◌≡◌, ◌-◌, ◌<◌, List, length, drop, r
 use Rattle.std.proofs.lemmas.List.{take_at, length_push}
 use Rattle.std.proofs.lemmas.Option.{get_or_from_slice_get}
 use Rattle.query_tree.specs.declared.Entry.{Entry}
-use Rattle.query_tree.specs.Forest.{after_ask, less_at, part, changed, child_of}
+use Rattle.query_tree.specs.Forest.{after_ask, less_at, part, changed, child_of, at_rest}
 use Rattle.query_tree.specs.Kept.{IsKept}
+use Rattle.query_tree.specs.Ready.{NotesJob, Covers}
 use Rattle.query_tree.specs.Woods.{Woods}
 use Rattle.query_tree.proofs.Lists.{length_changed}
 use Rattle.query_tree.proofs.Tests.{one_at}
 use Rattle.query_tree.proofs.Calls.{at_work}
 use Rattle.query_tree.proofs.Back.{ask_kept}
 use Rattle.query_tree.proofs.Frame.{stay_seen, ask_stay}
+use Rattle.query_tree.proofs.Covers.{rest_covers, pushed_covers}
 use Rattle.query_tree.proofs.forest.Forest.ask.Goals as goal
 
 pub overflow_sub-left : goal.overflow_sub-left
@@ -60,11 +62,23 @@ invariant_of-self g c =
           c.self.view_is,
       ap (λ (w : Woods g.row.T.Denot). w.room) c.self.view_is,
     ) in
+    let notes : NotesJob c.self.inside.ready c.note_job.new.self l.id own.parent =
+    subst (λ (x : Entry g.row.T.Denot). NotesJob c.self.inside.ready c.note_job.new.self l.id x.parent) same c.note_job.ensures in
+    let mid : Covers (changed (less_at own l.id c.args.steps l.payload (part (own.left - c.args.steps))) es) c.note_job.new.self =
+    rest_covers es own l.id (at_rest ((own.left - c.args.steps) - part (own.left - c.args.steps)))
+    ((own.left - c.args.steps) - part (own.left - c.args.steps)) c.args.steps l.payload c.self.inside.ready c.note_job.new.self notes
+    c.self.invariant.covers in
+    let number : c.len-number.result ≡ length (changed (less_at own l.id c.args.steps l.payload (part (own.left - c.args.steps))) es) =
+    omega (arith, c.len-number.ensures, ap length new, ap length taken) in
     record {
       kept = subst IsKept (sym pushed) (ask_kept es own l.id a.at a.running c.args.steps l.payload a.le c.args.child c.self.invariant.kept);
       within = omega (arith, ap length pushed, n, m, room);
       reserved = omega (arith, c.push_reserved.ensures.capacity, c.self.invariant.reserved);
       small = c.self.invariant.small;
+      list_room = c.add.ensures.room ∙ (notes.room ∙ c.self.invariant.list_room);
+      covers = subst (λ (xs : List (Entry g.row.T.Denot)). Covers xs c.add.new.self) (sym pushed)
+          (pushed_covers _ (child_of own l.id c.args.steps c.args.child) c.note_job.new.self c.add.new.self c.len-number.result number
+          c.add.ensures mid);
     }
 
 pub returns : goal.returns
@@ -100,4 +114,37 @@ returns g c =
         },
       );
       others = stay_seen _ _ _ _ l.id is pushed (ask_stay es own l.id c.args.steps l.payload c.args.child);
+    }
+
+pub note_job-requires : goal.note_job-requires
+note_job-requires g c =
+    let es = c.self.inside.entries.items in
+    let is = ap (λ (w : Woods g.row.T.Denot). w.entries) c.self.view_is in
+    let l = c.args.lent in
+    let a = at_work es c.args.self.now.entries l.id l.left c.args.steps l.waiting is c.self.invariant.kept c.requires.lent c.requires.steps
+    c.index.result.now c.index.ensures c.in_default.not-Dropped in
+    let own = c.requires.lent.own in
+    let same = c.index-own.ensures ∙ get_or_from_slice_get es l.id own c.index-own.result.now a.at in
+    let size = c.self.invariant.covers.size in
+    record {
+      own = omega (arith, a.here, size);
+      above = λ p n. omega (arith, a.here, size, a.above p (ap (λ (x : Entry g.row.T.Denot). x.parent) (sym same) ∙ n));
+    }
+
+pub add-requires : goal.add-requires
+add-requires g c =
+    let es = c.self.inside.entries.items in
+    let i = c.self.invariant in
+    let room : length es < c.self.inside.room = omega (
+      arith,
+      c.requires.room,
+      ap (λ (w : Woods g.row.T.Denot). length w.entries) c.self.view_is,
+      ap (λ (w : Woods g.row.T.Denot). w.room) c.self.view_is,
+    ) in
+    let taken = take_at c.rest.new.entries (drop (length c.rest.new.entries) es) c.self.inside.entries.len (omega arith) in
+    let same : length c.rest.new.entries ≡ length es = omega (arith, c.rest.auto.entries, c.deref_mut.ensures.len) in
+    let size : length c.note_job.new.self.marks ≡ length es = c.note_job.ensures.size ∙ i.covers.size in
+    record {
+      room = omega (arith, room, size, c.note_job.ensures.room, i.list_room);
+      next = omega (arith, c.len-number.ensures, ap length taken, same, size);
     }

@@ -1,15 +1,17 @@
-use Rattle.std.proofs.Common.{◌≡◌, ◌-◌, List, Some, length, take, drop, ◌++◌, refl, sym, ap, ◌∙◌, arith}
+use Rattle.std.proofs.Common.{◌≡◌, ◌-◌, List, Some, length, take, drop, ◌++◌, refl, sym, ap, ◌∙◌, subst, arith}
 use Rattle.std.specs.Prelude.{slice_get}
 use Rattle.std.proofs.lemmas.List.{take_at}
 use Rattle.std.proofs.lemmas.Option.{get_or_from_slice_get}
 use Rattle.query_tree.specs.declared.Entry.{Entry}
-use Rattle.query_tree.specs.Forest.{after_feed, less_at, share, changed}
+use Rattle.query_tree.specs.Forest.{after_feed, less_at, share, changed, at_rest}
+use Rattle.query_tree.specs.Ready.{NotesJob, Covers}
 use Rattle.query_tree.specs.Woods.{Woods}
 use Rattle.query_tree.proofs.Lists.{length_changed, within}
 use Rattle.query_tree.proofs.Tests.{one_at}
 use Rattle.query_tree.proofs.Calls.{at_work}
 use Rattle.query_tree.proofs.Feed.{feed_kept, child_there, feed_fits}
 use Rattle.query_tree.proofs.Frame.{stay_seen, feed_stay}
+use Rattle.query_tree.proofs.Covers.{rest_covers, fed_covers}
 use Rattle.query_tree.proofs.forest.Forest.feed.Goals as goal
 
 pub overflow_sub-left : goal.overflow_sub-left
@@ -121,12 +123,20 @@ invariant_of-self g c =
     let taken2 = take_at c.feed.new.entries
     (drop (length c.feed.new.entries) (take c.self.inside.entries.len (c.rest.new.entries ++ drop (length c.rest.new.entries) es)))
     c.self.inside.entries.len (omega (arith, ap length mid2)) in
+    let notes : NotesJob c.self.inside.ready c.note_job.new.self l.id own.parent =
+    subst (λ (x : Entry g.row.T.Denot). NotesJob c.self.inside.ready c.note_job.new.self l.id x.parent) same c.note_job.ensures in
+    let first : Covers (changed (less_at own l.id c.args.steps l.payload (share ch (own.left - c.args.steps))) es) c.note_job.new.self =
+    rest_covers es own l.id (at_rest ((own.left - c.args.steps) - share ch (own.left - c.args.steps)))
+    ((own.left - c.args.steps) - share ch (own.left - c.args.steps)) c.args.steps l.payload c.self.inside.ready c.note_job.new.self notes
+    c.self.invariant.covers in
     rw (taken2, done) (record {
       kept = feed_kept es own l.id a.at a.running c.args.steps l.payload a.le c.args.child ch at_c c.requires.child.parent
           c.self.invariant.kept;
       within = omega (arith, c.self.invariant.within, ap length done, c.feed.auto.entries, ap length mid2, len);
       reserved = c.self.invariant.reserved;
       small = c.self.invariant.small;
+      list_room = c.note.ensures.room ∙ (notes.room ∙ c.self.invariant.list_room);
+      covers = fed_covers _ c.args.child (share ch (own.left - c.args.steps)) c.note_job.new.self c.note.new.self c.note.ensures first;
     })
 
 pub returns : goal.returns
@@ -169,3 +179,28 @@ returns g c =
           (feed_stay es own l.id a.at a.running c.args.steps l.payload a.le c.args.child ch at_c c.requires.child.parent
           c.self.invariant.kept);
     }
+
+pub note_job-requires : goal.note_job-requires
+note_job-requires g c =
+    let es = c.self.inside.entries.items in
+    let is = ap (λ (w : Woods g.row.T.Denot). w.entries) c.self.view_is in
+    let l = c.args.lent in
+    let a = at_work es c.args.self.now.entries l.id l.left c.args.steps l.waiting is c.self.invariant.kept c.requires.lent c.requires.steps
+    c.index.result.now c.index.ensures c.in_default.not-Dropped in
+    let own = c.requires.lent.own in
+    let same = c.index-own.ensures ∙ get_or_from_slice_get es l.id own c.index-own.result.now a.at in
+    let size = c.self.invariant.covers.size in
+    record {
+      own = omega (arith, a.here, size);
+      above = λ p n. omega (arith, a.here, size, a.above p (ap (λ (x : Entry g.row.T.Denot). x.parent) (sym same) ∙ n));
+    }
+
+pub note-requires : goal.note-requires
+note-requires g c =
+    let es = c.self.inside.entries.items in
+    let is = ap (λ (w : Woods g.row.T.Denot). w.entries) c.self.view_is in
+    let ch = c.requires.child.entry in
+    let at_c : slice_get es c.args.child ≡ Some ch = ap (λ (xs : List (Entry g.row.T.Denot)). slice_get xs c.args.child) is
+    ∙ c.requires.child.at in
+    let size : length c.note_job.new.self.marks ≡ length es = c.note_job.ensures.size ∙ c.self.invariant.covers.size in
+    omega (arith, within es c.args.child ch at_c, size)

@@ -1,4 +1,4 @@
-use Rattle.std.proofs.Common.{◌≡◌, ℕ, Bool, List, Some, length, drop, refl, sym, ap, ◌∙◌, arith}
+use Rattle.std.proofs.Common.{◌≡◌, ℕ, Bool, List, Some, length, drop, refl, sym, ap, ◌∙◌, subst, arith}
 use Rattle.std.specs.Prelude.{slice_get}
 use Rattle.std.proofs.lemmas.List.{take_at}
 use Rattle.query_tree.specs.declared.Status.TheVariants.{Ready}
@@ -8,14 +8,16 @@ use Rattle.query_tree.specs.Kept.{Held}
 use Rattle.query_tree.specs.Woods.{Woods, IsLent}
 use Rattle.query_tree.proofs.Lists.{length_changed}
 use Rattle.query_tree.proofs.Tests.{one_at}
+use Rattle.query_tree.specs.Ready.{Covers, CoversOthers}
 use Rattle.query_tree.proofs.Take.{take_kept}
+use Rattle.query_tree.proofs.Covers.{take_covers}
 use Rattle.query_tree.proofs.Frame.{stay_at, take_stay, taken_out}
 use Rattle.query_tree.proofs.forest.Forest.take.Goals as goal
 
 pub lend-requires-clause-held : goal.lend-requires-clause-held
 lend-requires-clause-held g c own at =
     let es = c.self.inside.entries.items in
-    let r = c.in_ok-id.ensures in
+    let r = c.in_ok-id.ensures.found.0 in
     let there : slice_get es c.in_ok-id.id ≡ Some own = ap (λ (xs : List (Entry g.row.T.Denot)). slice_get xs c.in_ok-id.id)
     (sym c.deref_mut.ensures.value) ∙ at in
     let first : slice_get es c.in_ok-id.id ≡ Some r.own = ap (λ (xs : List (Entry g.row.T.Denot)). slice_get xs c.in_ok-id.id)
@@ -29,7 +31,21 @@ lend-requires-clause-held g c own at =
 pub invariant_of-self : goal.invariant_of-self
 invariant_of-self g c =
     let es = c.self.inside.entries.items in
-    let r = c.in_ok-id.ensures in
+    let i = c.self.invariant in
+    record {
+      kept = i.kept;
+      within = i.within;
+      reserved = i.reserved;
+      small = i.small;
+      list_room = c.in_err-id.ensures.room ∙ i.list_room;
+      covers = subst (λ (xs : List (Entry g.row.T.Denot)). Covers xs c.next_ready.new.ready) c.deref.ensures.value
+          c.in_err-id.ensures.found.1;
+    }
+
+pub invariant_of-self-2 : goal.invariant_of-self-2
+invariant_of-self-2 g c =
+    let es = c.self.inside.entries.items in
+    let r = c.in_ok-id.ensures.found.0 in
     let first : slice_get es c.in_ok-id.id ≡ Some r.own = ap (λ (xs : List (Entry g.row.T.Denot)). slice_get xs c.in_ok-id.id)
     (sym c.deref.ensures.value) ∙ r.at in
     let new : c.lend.new.entries ≡ after_take es c.in_ok-id.id = c.lend.ensures.entries
@@ -40,6 +56,10 @@ invariant_of-self g c =
       within = omega (arith, c.self.invariant.within, length_changed (taken_at c.in_ok-id.id (has_live_child es c.in_ok-id.id)) 0 es);
       reserved = c.self.invariant.reserved;
       small = c.self.invariant.small;
+      list_room = c.in_ok-id.ensures.room ∙ c.self.invariant.list_room;
+      covers = take_covers es c.in_ok-id.id c.next_ready.new.ready
+          (subst (λ (xs : List (Entry g.row.T.Denot)). CoversOthers xs c.next_ready.new.ready c.in_ok-id.id) c.deref.ensures.value
+          c.in_ok-id.ensures.found.1);
     })
 
 -- what is lent is that of one entry
@@ -51,7 +71,7 @@ pub returns-clause-out : goal.returns-clause-out
 returns-clause-out g c =
     let es = c.self.inside.entries.items in
     let id = c.in_ok-id.id in
-    let r = c.in_ok-id.ensures in
+    let r = c.in_ok-id.ensures.found.0 in
     let first : slice_get es id ≡ Some r.own = ap (λ (xs : List (Entry g.row.T.Denot)). slice_get xs id) (sym c.deref.ensures.value)
     ∙ r.at in
     let new : c.lend.new.entries ≡ after_take es id = c.lend.ensures.entries
@@ -65,7 +85,7 @@ pub returns-clause-others : goal.returns-clause-others
 returns-clause-others g c =
     let es = c.self.inside.entries.items in
     let id = c.in_ok-id.id in
-    let r = c.in_ok-id.ensures in
+    let r = c.in_ok-id.ensures.found.0 in
     let first : slice_get es id ≡ Some r.own = ap (λ (xs : List (Entry g.row.T.Denot)). slice_get xs id) (sym c.deref.ensures.value)
     ∙ r.at in
     let new : c.lend.new.entries ≡ after_take es id = c.lend.ensures.entries
