@@ -7,8 +7,9 @@ A table has rows of a file, the words behind the program's name, the status, and
 ends in .c is checked, and the verdicts are compared with truth.tsv of the folder where that is there. Either way each line
 has to be that of its assertion, the summary and the status those of the verdicts, and each list is replayed.
 
-For each program it prints the seconds, the memory in KB, and the instructions under valgrind of a run that takes less than
-a second, or -, and then the text. The status is 1 where something isn't as wanted.
+For each program it prints the seconds, the memory in KB, and of a run that takes less than a second the most steps that an
+assertion took (the least budget that gives the same text), the questions to the solver and the instructions (both under
+valgrind), or -, and then the text. The status is 1 where something isn't as wanted.
 """
 import collections
 import os
@@ -37,17 +38,46 @@ def run(command, path, limit):
     return Ended(text, None if is_killed else child.returncode, seconds, used.ru_maxrss)
 
 
+# The function that is called once for each question to the solver; its own calls of itself have another name.
+QUESTION = "lia_solver::search::Search::branch"
+
+
+def is_short(ended):
+    return ended.status is not None and ended.seconds < 1
+
+
+def calls_of(name, counts):
+    """How often a function was called, by the counts of callgrind, which names each function once and then by its number."""
+    number = re.search(rf"(?m)^c?fn=\((\d+)\) {re.escape(name)}$", counts)
+    return sum(int(it) for it in re.findall(rf"(?m)^cfn=\({number[1]}\)[^\n]*\ncalls=(\d+)", counts)) if number else 0
+
+
 def counted(command, path, ended):
-    """The instructions of a short run."""
-    if ended.status is None or ended.seconds >= 1 or not shutil.which("valgrind"):
-        return "-"
+    """The questions to the solver and the instructions of a short run."""
+    if not is_short(ended) or not shutil.which("valgrind"):
+        return "-", "-"
     with tempfile.TemporaryDirectory() as room, open(path, "rb") as source:
         file = f"{room}/counts"
         words = ["valgrind", "--tool=callgrind", f"--callgrind-out-file={file}", *command]
         subprocess.run(words, stdin=source, stdout=subprocess.DEVNULL, stderr=subprocess.DEVNULL)
         with open(file, encoding="utf-8", errors="replace") as it:
-            said = re.search(r"(?m)^(?:summary|totals): (\d+)", it.read())
-        return said[1] if said else "-"
+            counts = it.read()
+        said = re.search(r"(?m)^(?:summary|totals): (\d+)", counts)
+        return str(calls_of(QUESTION, counts)), said[1] if said else "-"
+
+
+def steps_of(command, path, ended):
+    """The least budget with which a short run says the same."""
+    if not is_short(ended) or ended.status == 3 or "budget" in ended.text or "--budget" in command:
+        return "-"
+    low, high = 1, 2000
+    while low < high:
+        middle = (low + high) // 2
+        if run([*command, "--budget", str(middle)], path, 10).text == ended.text:
+            high = middle
+        else:
+            low = middle + 1
+    return str(low)
 
 
 def places(path):
@@ -117,7 +147,9 @@ def below(folder):
 
 
 def shown(name, command, path, ended, faults):
-    print(f"{name:30} {ended.seconds:9.3f} s {ended.memory:9} KB {counted(command, path, ended):>12}")
+    questions, instructions = counted(command, path, ended)
+    steps = steps_of(command, path, ended)
+    print(f"{name:30} {ended.seconds:9.3f} s {ended.memory:9} KB {steps:>5} steps {questions:>6} questions {instructions:>12} instructions")
     lines = ended.text.split("\n")
     for line in lines[:-2] or lines[:1]:
         print(f"    {line}" if line else "    no text")

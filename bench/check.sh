@@ -1,6 +1,7 @@
 #!/bin/sh
 # Checks: what the program says of each assertion of the programs of bench/check, and of a `main` of 500 statements in a row
-# that is made here, with the time, the instructions where valgrind is there, and the memory that it takes.
+# that is made here, with the time, the memory, the steps, and, where valgrind is there, the questions to the solver and the
+# instructions that it takes.
 # It fails where a status or a text isn't the one that bench/check.tsv wants, where a `found` doesn't replay to its assertion,
 # and where a run takes more than SECONDS (120).
 # With a FOLDER it goes on with the programs below it, and also fails where a verdict isn't that of the folder's truth.tsv, if
