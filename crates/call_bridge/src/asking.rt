@@ -116,7 +116,7 @@ fn push_places(
 }
 
 /// The sums of the query's rows, in order.
-fn call_sums(
+pub(crate) fn call_sums(
     alloc: Global,
     exit: ExitKind,
     args: &[Slot],
@@ -142,6 +142,14 @@ fn call_sums(
     Ok(sums)
 }
 
+/// The caller's columns that the rows name.
+pub(crate) fn caller_columns(alloc: Global, rows: &Cube) -> Result<Vec<u32>, OutOfMemory>
+    ensures { IfOk result (λ v. v.items ≡ caller_columns rows.now.atoms) }
+{
+    let named = named_columns(alloc, rows.atoms.as_slice())?;
+    below(alloc, &named, FIRST_EXIT)
+}
+
 /// The rows without the caller's columns.
 fn without_caller(alloc: Global, rows: &Cube) -> Result<Pre, BridgeError>
     ensures rows { IfOk result
@@ -152,8 +160,7 @@ fn without_caller(alloc: Global, rows: &Cube) -> Result<Pre, BridgeError>
         ≡ refuses kept)) }
     ensures right { IfErr result (λ e. IfRefused e IsRight) }
 {
-    let named = named_columns(alloc, rows.atoms.as_slice())?;
-    let columns = below(alloc, &named, FIRST_EXIT)?;
+    let columns = caller_columns(alloc, rows)?;
     project(alloc, rows, &columns)
 }
 

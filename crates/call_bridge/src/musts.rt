@@ -12,7 +12,7 @@ ghost use Rattle.shadow_elim.specs.Sums.{equal_sums, row_sums, renaming};
 ghost use Rattle.summary_form.specs.Symbols.{all_name_only};
 ghost use Rattle.call_bridge.specs.Calls.{arguments, result_slot};
 ghost use Rattle.call_bridge.specs.Laws.{IsRegion};
-ghost use Rattle.call_bridge.specs.Musts.{single, is_new, with_symbol, replacing, other_sums, exit_reading, symbol_columns, slotted, must_preimage, is_number, NamesNumbers, FitsTarget, HoldsMust, HoldsNoOtherMust};
+ghost use Rattle.call_bridge.specs.Musts.{single, is_new, with_symbol, replacing, other_sums, exit_reading, symbol_columns, must_sums, slotted, must_preimage, is_number, NamesNumbers, FitsTarget, HoldsMust, HoldsNoOtherMust};
 
 use crate::columns::{NewNumbers, OneColumn, from_on, is_listed};
 use crate::error::BridgeError;
@@ -48,9 +48,9 @@ fn single(term: &Term) -> Option<u32>
 
 /// The symbols that are replaced by slots, and the rows of the other arguments.
 #[derive(Drop)]
-struct Matching {
-    columns: Vec<(u32, u32)>,
-    sums: Vec<Sum>,
+pub(crate) struct Matching {
+    pub columns: Vec<(u32, u32)>,
+    pub sums: Vec<Sum>,
 }
 
 fn match_argument(
@@ -91,6 +91,14 @@ fn match_arguments(alloc: Global, args: &[Slot], entry: &[Term]) -> Result<Match
     Ok(matching)
 }
 
+/// The symbols that the rows name.
+pub(crate) fn symbol_columns(alloc: Global, rows: &Cube) -> Result<Vec<u32>, OutOfMemory>
+    ensures { IfOk result (λ v. v.items ≡ symbol_columns rows.now.atoms) }
+{
+    let named = named_columns(alloc, rows.atoms.as_slice())?;
+    from_on(alloc, &named, FIRST_SYMBOL)
+}
+
 /// The rows without symbols.
 fn without_symbols(alloc: Global, rows: &Cube) -> Result<Pre, BridgeError>
     ensures rows { IfOk result
@@ -101,8 +109,7 @@ fn without_symbols(alloc: Global, rows: &Cube) -> Result<Pre, BridgeError>
         ≡ refuses kept)) }
     ensures right { IfErr result (λ e. IfRefused e IsRight) }
 {
-    let named = named_columns(alloc, rows.atoms.as_slice())?;
-    let columns = from_on(alloc, &named, FIRST_SYMBOL)?;
+    let columns = symbol_columns(alloc, rows)?;
     project(alloc, rows, &columns)
 }
 
@@ -144,7 +151,8 @@ fn push_behind(
     }
 }
 
-fn replaced_sums(
+/// The rows' sums by new columns.
+pub(crate) fn replaced_sums(
     alloc: Global,
     columns: Vec<(u32, u32)>,
     rows: &Cube,
@@ -174,6 +182,24 @@ fn slotted(alloc: Global, columns: Vec<(u32, u32)>, plain: &Cube) -> Result<Pre,
     without_symbols(alloc, &rows)
 }
 
+/// The symbols that are replaced, and the sums of the rows beside the guard.
+pub(crate) fn must_sums(
+    alloc: Global,
+    must: &Path,
+    args: &[Slot],
+    slot: Slot,
+    target: &Cube,
+) -> Result<Matching, OutOfMemory>
+    ensures columns { IfOk result
+        (λ m. m.columns.items ≡ replacing [] args.now must.now.entry) }
+    ensures sums { IfOk result
+        (λ m. m.sums.items ≡ must_sums must.now args.now slot target.now.atoms) }
+{
+    let mut matching = match_arguments(alloc, args, must.entry.as_slice())?;
+    push_behind(alloc, &mut matching.sums, must, slot, target)?;
+    Ok(matching)
+}
+
 /// The rows of the preimage, or the first limit.
 fn must_preimage(
     alloc: Global,
@@ -190,8 +216,7 @@ fn must_preimage(
         ≡ refuses kept)) }
     ensures right { IfErr result (λ e. IfRefused e IsRight) }
 {
-    let Matching { columns, mut sums } = match_arguments(alloc, args, must.entry.as_slice())?;
-    push_behind(alloc, &mut sums, must, slot, target)?;
+    let Matching { columns, sums } = must_sums(alloc, must, args, slot, target)?;
     let others = total_rows(alloc, &sums)?;
     let plain = must.guard.and(alloc, &others)?;
     slotted(alloc, columns, &plain)
@@ -217,7 +242,8 @@ fn rows_before(alloc: Global, must: &Path, call: &Edge, target: &Cube) -> Result
     }
 }
 
-fn are_numbers(terms: &[Term])
+/// What the types keep: the terms name columns of 32 bits.
+pub fn are_numbers(terms: &[Term])
     ensures { IsTrue (all_name_only is_number terms.now) }
 {
     for term in terms {

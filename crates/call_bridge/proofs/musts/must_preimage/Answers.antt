@@ -1,11 +1,8 @@
-use Rattle.std.proofs.Common.{◌≡◌, ◌∙◌, ◌++◌, [], List, ap}
+use Rattle.std.proofs.Common.{◌≡◌, ◌∙◌}
 use Rattle.std.proofs.lemmas.Result.{IfOk-weaker}
-use Rattle.linear_formula.specs.LinearSum.{LinearSum}
 use Rattle.shadow_elim.specs.Shadows.{pair_rows}
-use Rattle.shadow_elim.specs.declared.sum.Sum.{Sum}
-use Rattle.shadow_elim.specs.Sums.{row_sums}
 use Rattle.shadow_elim.specs.Projection.{gives, refuses}
-use Rattle.call_bridge.specs.Musts.{replacing, other_sums, exit_reading, must_sums, slotted, must_preimage}
+use Rattle.call_bridge.specs.Musts.{slotted, must_preimage}
 use Rattle.call_bridge.proofs.Coding.{must_stage}
 use Rattle.shadow_elim.proofs.Projecting.{refused-weaker}
 use Rattle.call_bridge.proofs.musts.must_preimage.Goals as goal
@@ -13,16 +10,9 @@ use Rattle.call_bridge.proofs.musts.must_preimage.Goals as goal
 same : (c : goal.After-drop-sums-2) → must_preimage c.args.must.now c.args.args.now c.args.slot c.args.target.now.atoms
     ≡ slotted c.in_ok-columns.field-0.columns.items c.in_ok-plain.plain.atoms
 same c =
-    let must = c.args.must.now in
-    let args = c.args.args.now in
-    let sums : c.deref.result.now ≡ must_sums must args c.args.slot c.args.target.now.atoms = c.deref.ensures.value
-    ∙ c.in_ok-push_behind.ensures ∙ ap (λ (l : List Sum). l ++ row_sums (exit_reading must.exit c.args.slot must.outcome)
-    c.args.target.now.atoms)
-    (c.in_ok-columns.ensures.sums ∙ ap (λ (ts : List LinearSum). other_sums [] args ts) c.as_slice.ensures) in
-    must_stage must args c.args.slot c.args.target.now.atoms c.deref.result.now c.in_ok-columns.field-0.columns.items
-    c.in_ok-others.others.atoms c.in_ok-plain.plain.atoms sums (c.in_ok-columns.ensures.columns
-    ∙ ap (λ (ts : List LinearSum). replacing [] args ts) c.as_slice.ensures) c.in_ok-others.ensures.decided c.in_ok-others.ensures.rows
-    c.in_ok-plain.ensures
+    must_stage c.args.must.now c.args.args.now c.args.slot c.args.target.now.atoms c.deref.result.now c.in_ok-columns.field-0.columns.items
+    c.in_ok-others.others.atoms c.in_ok-plain.plain.atoms (c.deref.ensures.value ∙ c.in_ok-columns.ensures.sums)
+    c.in_ok-columns.ensures.columns c.in_ok-others.ensures.decided c.in_ok-others.ensures.rows c.in_ok-plain.ensures
 
 pub returns-clause-rows : goal.returns-clause-rows
 returns-clause-rows c =
