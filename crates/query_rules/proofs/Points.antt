@@ -62,7 +62,7 @@ entry_read v slots entry count x few h =
     let high : x < first_exit = omega (arith, few, ltb-true x (first_entry + count) r.1) in
     rw (le-ltb x first_entry low, lt-ltb x first_exit high) (sym (term_value v entry (x - first_entry)))
 
-entry_stands : (s : State) (entry exit : List ℤ) (count x : ℕ) → count ≤ first_entry → IsTrue (is_entry_column count x) →
+pub entry_stands : (s : State) (entry exit : List ℤ) (count x : ℕ) → count ≤ first_entry → IsTrue (is_entry_column count x) →
     columns_of s entry exit x ≡ value_at entry (x - first_entry)
 entry_stands s entry exit count x few h =
     let r = both (nat_le first_entry x) (nat_lt x (first_entry + count)) h in
@@ -82,7 +82,7 @@ inner_read v slots entry x h = by_slot (nat_lt x first_entry) refl h where
       entry_stands (slots_at v slots) (values_of v entry) [] first_entry x few l ∙ sym (entry_read v slots entry first_entry x few l)
 
 -- behind a return
-value_read : (v : Valuation) (slots entry : List LinearSum) (x : ℕ) → IsTrue (is_value_column first_entry first_entry x) →
+pub value_read : (v : Valuation) (slots entry : List LinearSum) (x : ℕ) → IsTrue (is_value_column first_entry first_entry x) →
     valuation_of (values_of v entry) (values_of v slots) x ≡ replaced_valuation (reading slots entry) v x
 value_read v slots entry x h = by_entry (is_entry_column first_entry x) refl h where
   by_entry : (b : Bool) → is_entry_column first_entry x ≡ b → IsTrue (b || (nat_le first_exit x && nat_lt x (first_exit + first_entry))) →

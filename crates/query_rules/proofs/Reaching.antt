@@ -247,7 +247,7 @@ module _ (gs : List Graph) (linked : AreGraphs gs) (g : Graph) where
   few_entries None = omega arith
   few_entries (Some other) = let w = other.well_formed in omega (arith, w.params_in_slots, w.few_slots)
 
-  fits_call : (m : Model) → Good m → (k : RegionEdge) → IsTrue (m.parted.live k) → (c : CallAt g m k) →
+  pub fits_call : (m : Model) → Good m → (k : RegionEdge) → IsTrue (m.parted.live k) → (c : CallAt g m k) →
       FitsCall c.args c.slot c.between.source.cube.atoms c.between.target.cube.atoms
   fits_call m h k live c = record {
     are_slots = slots_below c.args (call_slots m k c).1;

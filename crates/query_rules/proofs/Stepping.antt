@@ -15,7 +15,6 @@ use Rattle.flow_graph.specs.declared.graph.Graph.{Graph}
 use Rattle.flow_graph.specs.declared.graph.Edge.{Edge}
 use Rattle.flow_graph.specs.declared.graph.Edge.TheVariants.{Entry, Assign, Guard, Input, Pick, Call, Assert, Return}
 use Rattle.flow_graph.specs.Linked.{AreGraphs}
-use Rattle.flow_graph.specs.Shapes.{target}
 use Rattle.flow_graph.specs.WellFormed.{IsGraph, first_node}
 use Rattle.flow_graph.specs.Runs.{inside, left, failing, halted, Called, Step, GraphRun}
 use Rattle.flow_graph.specs.Columns.{columns_of, rows_name_only, is_value_column, first_entry}

@@ -1,0 +1,61 @@
+-- A query that may be asked fits the called procedure.
+use Rattle.std.proofs.Common.{◌≡◌, ℕ, List, length, Option, Some, None, refl, sym, subst, ap, ◌∙◌}
+use Rattle.std.specs.Prelude.{slice_get, IsTrue}
+use borrow.Author.Tests.{eqb-true}
+use Rattle.linear_formula.specs.Formula.{are_terms}
+use Rattle.linear_formula.specs.declared.formula.Atom.{Atom}
+use Rattle.flow_graph.specs.declared.graph.Graph.{Graph}
+use Rattle.flow_graph.specs.Columns.{rows_name_only, is_entry_column}
+use Rattle.flow_graph.specs.Linked.{AreGraphs, takes}
+use Rattle.summary_form.specs.declared.query.Query.{Query}
+use Rattle.summary_form.specs.declared.query.ExitKind.{ExitKind}
+use Rattle.summary_form.specs.Instances.{arity_of, arity_in}
+use Rattle.summary_form.specs.NotMays.{Fits, is_end_column}
+use Rattle.summary_form.specs.Runs.{Arity}
+use Rattle.may_partition.specs.declared.region.RegionEdge.{RegionEdge}
+use Rattle.call_bridge.specs.Asked.{query_of, start_of, end_of}
+use Rattle.call_bridge.proofs.Queries.{asked_fits}
+use Rattle.query_rules.specs.Rows.{AsksAt}
+use Rattle.query_rules.specs.Steps.{Model}
+use Rattle.query_rules.proofs.Reaching.{Good, fits_call}
+
+abbrev with_entries : ℕ → Arity
+with_entries n = record { entries = n; exits = 1 }
+
+taken : (o : Option Graph) (n : ℕ) → IsTrue (takes o n) → (callee : Graph) × (o ≡ Some callee)
+taken None n t = absurd cc
+taken (Some callee) n t = (callee, refl)
+
+same_arity : (o : Option Graph) (n : ℕ) → IsTrue (takes o n) → with_entries n ≡ arity_of o
+same_arity None n t = absurd cc
+same_arity (Some callee) n t = ap with_entries (sym (eqb-true callee.params n t))
+
+-- a query with the procedure, the exit, the start and the end of one that fits
+same_fits : (p : ℕ) (a : Arity) (exit : ExitKind) (rows : List Atom) (q : Query) → q.exit ≡ exit → q.start.atoms ≡ start_of rows →
+    q.end.atoms ≡ end_of rows → Fits p a (query_of p exit rows) → Fits q.proc a q
+same_fits p a exit rows q x s e f = record {
+  of_procedure = refl;
+  start_names = subst (λ (atoms : List Atom). IsTrue (rows_name_only (is_entry_column a.entries) atoms)) (sym s) f.start_names;
+  end_names = subst (λ (atoms : List Atom). IsTrue (rows_name_only (is_end_column a q.exit) atoms)) (sym e)
+      (subst (λ (k : ExitKind). IsTrue (rows_name_only (is_end_column a k) (end_of rows))) (sym x) f.end_names);
+  start_terms = subst (λ (atoms : List Atom). IsTrue (are_terms atoms)) (sym s) f.start_terms;
+  end_terms = subst (λ (atoms : List Atom). IsTrue (are_terms atoms)) (sym e) f.end_terms;
+}
+
+pub asks_fitting : (gs : List Graph) (linked : AreGraphs gs) (g : Graph) (m : Model) → Good gs linked g m → (k : RegionEdge) →
+    IsTrue (m.parted.live k) → (q : Query) → AsksAt g m k q →
+    (callee : Graph) × (slice_get gs q.proc ≡ Some callee) × Fits q.proc (arity_in gs q.proc) q
+asks_fitting gs linked g m h k live q a =
+    let c = a.call in
+    let t : IsTrue (takes (slice_get gs c.proc) (length c.args)) = linked m.query.proc g h.at k.edge c.from c.to c.proc c.args c.slot
+    (c.between.at_edge ∙ ap Some c.is_call) in
+    let callee = taken (slice_get gs c.proc) (length c.args) t in
+    let arity : with_entries (length c.args) ≡ arity_in gs q.proc = same_arity (slice_get gs c.proc) (length c.args) t
+    ∙ ap (arity_in gs) (sym a.of_procedure) in (
+      callee.0,
+      ap (slice_get gs) a.of_procedure ∙ callee.1,
+      same_fits c.proc (arity_in gs q.proc) c.exit a.rows q a.of_exit a.start a.end
+          (subst (λ (n : Arity). Fits c.proc n (query_of c.proc c.exit a.rows)) arity
+          (asked_fits c.proc c.exit c.args c.slot c.between.source.cube.atoms c.between.target.cube.atoms a.rows a.pair
+          (fits_call gs linked g m h k live c) a.is_asked)),
+    )
