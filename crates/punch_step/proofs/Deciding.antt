@@ -107,8 +107,12 @@ pub arrival_of_found : (q : Query) (t : Trace) (atoms rows : List Atom) → rows
     IsRead t atoms → (s : Carried) → IsFound rows s → IsArrival q t atoms s
 arrival_of_found q t atoms rows e read (carried.Comes at) d = (read, d.0, subst (HoldsAll (valuation at)) e d.1)
 arrival_of_found q t atoms rows e read carried.Never d = (read, subst IsNever e d.0, subst HasNoPoint e d.1)
-arrival_of_found q t atoms rows e read (carried.Limit kept) d =
-    (d.0, inr (d.1 ∙ ap cube_question e), λ r m. d.2 (subst IsMet (sym e) m))
+arrival_of_found q t atoms rows e read (carried.Limit kept) d = (
+  d.0,
+  inr (d.1 ∙ ap cube_question e),
+  λ r m. d.2 (subst IsMet (sym e) m),
+  λ r m. d.3 (subst IsNever (sym e) m),
+)
 
 abbrev pub IsWideArrival : Query → Trace → List Atom → Kept → Type 0
 IsWideArrival q t atoms kept = IsArrival q t atoms (carried.Limit kept)
@@ -117,7 +121,7 @@ pub wide_arrival : (q : Query) (t : Trace) (atoms : List Atom) (kept : Kept) →
     IsFirstWide (read_sums t q.start.atoms atoms) kept → IsRight kept → IsWideArrival q t atoms kept
 wide_arrival q t atoms kept start wide right =
     let w = end_is_wide q t atoms kept start wide in
-    (right, w.0, λ r m. w.1 r)
+    (right, w.0, (λ r m. w.1 r), λ r m. w.1 r)
 
 -- Trails over an edge
 

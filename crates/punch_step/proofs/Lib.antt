@@ -9,9 +9,16 @@ mod Closings
 mod Marks
 mod Kept
 mod Standing
+mod MustColumns
 mod OwnColumns
 mod MovingOn
-mod Ending
+pub mod Ending
 mod Entailed
 mod Held
 mod Musts
+mod PlanPoints
+mod CallExits
+mod MustsServing
+mod Serving
+mod CallTurned
+mod CallReadOff

@@ -5,7 +5,7 @@ use Rattle.std.specs.List.{list_all}
 use Rattle.std.specs.Option.{option_or}
 use Rattle.std.proofs.lemmas.Option.{slice_get_within}
 use Rattle.infeasible_cert.specs.declared.certificate.Certificate.{Certificate}
-use Rattle.linear_formula.specs.LinearSum.{LinearSum}
+use Rattle.linear_formula.specs.LinearSum.{LinearSum, valuation}
 use Rattle.linear_formula.specs.declared.assignment.Assignment.{Assignment}
 use Rattle.linear_formula.specs.declared.formula.Atom.{Atom}
 use Rattle.linear_formula.specs.declared.formula.Cube.{Cube}
@@ -28,14 +28,14 @@ use Rattle.must_region.proofs.Starting.{wide_append}
 use Rattle.must_region.specs.Rules.{carried as carried_by, carried_sums}
 use Rattle.must_region.specs.Traces.{Trace}
 use Rattle.call_bridge.specs.Calls.{arguments, result_slot}
-use Rattle.call_bridge.specs.Musts.{must_preimage, must_sums, plain_rows, replacing, slot_sums, slotted, symbol_columns}
+use Rattle.call_bridge.specs.Musts.{NamesNumbers, must_preimage, must_sums, plain_rows, replacing, slot_sums, slotted, symbol_columns}
 use Rattle.query_rules.proofs.AppliedSteps.{front_fits}
-use Rattle.query_rules.specs.Questions.{IsMarkQuestion, IsTrailQuestion, cube_question, sum_question}
-use Rattle.query_rules.specs.Rows.{seen_at}
+use Rattle.query_rules.specs.Questions.{IsMarkQuestion, IsTrailQuestion, sum_question}
+use Rattle.query_rules.specs.Rows.{IsRefutedBy, seen_at}
 use Rattle.punch_step.proofs.Deciding.{contains_earlier, contains_later, contains_wide, wide_behind}
 use Rattle.punch_step.proofs.Plainly.{met_not_never, none_refused, refused_elimination, refused_first, same_pre}
 use Rattle.punch_step.specs.ByMusts.{ComesUnshown, IsAskedOf, IsByTable, IsLedWell, IsLimitedBy, IsMustOf, IsPreBy, IsSaid, IsUnshown, NeitherBy, Parts, PartsNot, PartsUnshown, ServesNeither, UnshownBy, marking, led_sums, of_elimination, of_mark, of_negation, of_pre_sum, of_source, of_trail}
-use Rattle.punch_step.specs.Frontiers.{first_of}
+use Rattle.punch_step.specs.Frontiers.{IfUnnegatable, IsPossible, first_of}
 use Rattle.punch_step.specs.Sights.{IsArrival, IsDecision, IsRead, IsSight, ReadsStart}
 use Rattle.punch_step.specs.declared.by_must.ByMust.{ByMust}
 use Rattle.punch_step.specs.declared.by_must.ByMust.TheVariants as by
@@ -45,32 +45,78 @@ use Rattle.punch_step.specs.declared.by_must.Parting.{Parting}
 use Rattle.punch_step.specs.declared.by_must.Parting.TheVariants as parting
 use Rattle.punch_step.specs.declared.carried.Carried.{Carried}
 use Rattle.punch_step.specs.declared.carried.Carried.TheVariants as carried
+use Rattle.punch_step.specs.declared.sight.Sight.{Sight}
 use Rattle.punch_step.specs.declared.sight.Sight.TheVariants as sight
 use Rattle.punch_step.specs.steps.Musts.{IsAskedOfPre, IsBySummary, IsLed, IsMissed, IsMustAs, IsPartedAs, IsPartedOver, IsSearched, IsWhole}
 
 -- What questions of the source and the preimage come to, by rows that are both
 
-module _ (q : Query) (t : Trace) (source pre rows : List Atom) (is : rows ≡ source ++ pre) where
+module _ (q : Query) (t : Trace) (source pre : List Atom) where
   abbrev pub IsLimitOf : Kept → Type 0
   IsLimitOf kept = IsPartedAs q t source pre (parting.Limit kept)
 
+  not_whole : pre ≢ [] → (¬ IsNever (source ++ pre)) → (IsRead t (source ++ pre) → ¬ IsMet (seen_at q t (source ++ pre))) →
+      ¬ IsWhole q t source pre
+  not_whole several some unseen (inl none) = several none
+  not_whole several some unseen (inr (inl never)) = some never
+  not_whole several some unseen (inr (inr seen)) = unseen seen.0 seen.1
+
+  -- the limit of an atom that has no negation
+  pub limit_of_negation : (kept : Kept) → pre ≢ [] → IsPossible (source ++ pre) → IsNever (seen_at q t (source ++ pre)) →
+      IfUnnegatable pre (Some kept) → IsLimitOf kept
+  limit_of_negation kept several possible never u = (
+    u.0,
+    inl (u.1.0, u.1.1, u.1.2),
+    (λ several negatable met read never. u.2 negatable),
+    not_whole several (met_not_never (source ++ pre) possible.shown) (λ r m. met_not_never (seen_at q t (source ++ pre)) m never),
+  )
+
+module _ (q : Query) (t : Trace) (source pre rows : List Atom) (is : rows ≡ source ++ pre) where
   pub never_within : (certificate : Certificate) → IsDecision rows (sight.Never certificate) → IsWhole q t source pre
   never_within certificate d = inr (inl (subst IsNever is d.0))
 
-  pub limit_within : (kept : Kept) → IsDecision rows (sight.Limit kept) → IsLimitOf kept
-  limit_within kept d = (
+  pub possible_within : (at : List (ℕ × ℤ)) → IsDecision rows (sight.Met at) → IsPossible (source ++ pre)
+  possible_within at d = subst IsPossible is (record { shown = d.0; point = valuation at; values = d.1; holds = d.2 })
+
+  pub limited_within : (kept : Kept) → IsDecision rows (sight.Limit kept) → IsDecision (source ++ pre) (sight.Limit kept)
+  limited_within kept d = subst (λ (xs : List Atom). IsDecision xs (sight.Limit kept)) is d
+
+  -- where the trail isn't shown to meet them
+  pub limit_within : (kept : Kept) → pre ≢ [] → IsDecision (source ++ pre) (sight.Limit kept) →
+      (IsRead t rows → ¬ IsMet (seen_at q t rows)) → IsLimitOf q t source pre kept
+  limit_within kept several d unseen = (
     d.0,
-    inr (inl (d.1 ∙ ap cube_question is)),
-    λ several negatable met read never. d.2 (subst IsMet (sym is) met),
+    inr (inl d.1),
+    (λ several negatable met read never. d.2 met),
+    not_whole q t source pre several d.3 (subst (λ (xs : List Atom). IsRead t xs → ¬ IsMet (seen_at q t xs)) is unseen),
   )
+
+  -- whatever else the trail's question came to
+  pub not_seen : (s : Sight) → IsSight q t rows s →
+      ((c : Certificate) × (s ≡ sight.Never c)) ⊎ ((k : Kept) × (s ≡ sight.Limit k)) → IsRead t rows → ¬ IsMet (seen_at q t rows)
+  not_seen s d (inl n) = λ read met. met_not_never (seen_at q t rows) met (subst (IsSight q t rows) n.1 d).1
+  not_seen s d (inr l) = (subst (IsSight q t rows) l.1 d).2
+
+  pub unseen : (certificate : Certificate) → IsSight q t rows (sight.Never certificate) →
+      IsRead t (source ++ pre) × IsNever (seen_at q t (source ++ pre))
+  unseen certificate d = subst (λ (xs : List Atom). IsRead t xs × IsNever (seen_at q t xs)) is (d.0, d.1)
+
+  pub refuted_seen : (certificate : Certificate) → IsSight q t rows (sight.Never certificate) →
+      IsRefutedBy (seen_at q t (source ++ pre)) certificate
+  refuted_seen certificate d = subst (λ (xs : List Atom). IsRefutedBy (seen_at q t xs) certificate) is d.2
 
   pub met_seen : (at : List (ℕ × ℤ)) → IsSight q t rows (sight.Met at) → IsWhole q t source pre
   met_seen at d = inr (inr (subst (λ (xs : List Atom). IsRead t xs × IsMet (seen_at q t xs)) is (d.0, d.1)))
 
-  pub limit_seen : (kept : Kept) → IsSight q t rows (sight.Limit kept) → IsLimitOf kept
-  limit_seen kept d =
-      let e = subst (λ (xs : List Atom). IsSight q t xs (sight.Limit kept)) is d in
-      (e.0, inr (inr e.1), λ several negatable met read never. e.3 read never)
+  pub limit_seen : (kept : Kept) → pre ≢ [] → IsPossible (source ++ pre) → IsSight q t rows (sight.Limit kept) →
+      IsLimitOf q t source pre kept
+  limit_seen kept several possible d =
+      let e = subst (λ (xs : List Atom). IsSight q t xs (sight.Limit kept)) is d in (
+        e.0,
+        inr (inr e.1),
+        (λ several negatable met read never. e.3 read never),
+        not_whole q t source pre several (met_not_never (source ++ pre) possible.shown) e.2,
+      )
 
 -- Trails over a call
 
@@ -123,7 +169,7 @@ module _ (q : Query) (t : Trace) (fail : ℕ) (call : Edge) (source target : Lis
       (wide_append (carried_sums t call path) end_sums well (end_read a.0), a.1)
   led_of_arrival u is well (carried.Limit kept) d =
       let a = subst (λ (x : Trace). IsArrival q x target (carried.Limit kept)) is d in
-      (a.0, asked_end kept.question a.1, λ r m. a.2 (well_end well r) m)
+      (a.0, asked_end kept.question a.1, (λ r m. a.2 (well_end well r) m), λ r m. a.3 (well_end well r) m)
 
   abbrev pub IsWideLed : Kept → Type 0
   IsWideLed kept = IsLed q t fail call source target path (carried.Limit kept)
@@ -137,8 +183,12 @@ module _ (q : Query) (t : Trace) (fail : ℕ) (call : Edge) (source target : Lis
       contains_earlier (carried_sums t call path) end_sums f.sum (contains_wide (carried_sums t call path) f.sum f.first),
       ap (λ (k : Kept). k.question) f.same,
     ),
-    λ r m. let no : None ≡ Some f.sum = sym (front_fits (carried_sums t call path) end_sums r) ∙ f.first in cc,
+    (λ r m. not_well r),
+    λ r m. not_well r,
   )
+    where
+      not_well : ¬ IsLedWell q t fail call source target path
+      not_well r = let no : None ≡ Some f.sum = sym (front_fits (carried_sums t call path) end_sums r) ∙ f.first in cc
 
   -- Preimages
 
@@ -183,7 +233,12 @@ module _ (q : Query) (t : Trace) (fail : ℕ) (call : Edge) (source target : Lis
   -- so nothing shows that the source is split
   pub refused_over : (kept : Kept) → must_preimage path (arguments call) (result_slot call) target ≡ refuses kept → IsRight kept →
       IsLimitOver kept
-  refused_over kept h right = (right, refused_must kept h, λ pre is s n m r. absurd (none_refused _ kept pre is.0 h is.1))
+  refused_over kept h right = (
+    right,
+    refused_must kept h,
+    (λ pre is s n m r. absurd (none_refused _ kept pre is.0 h is.1)),
+    λ n. none_refused _ kept n.pre n.is_pre.0 h n.is_pre.1,
+  )
 
   same : (pre other : List Atom) → IsPreBy q t fail call source target path pre → IsPreBy q t fail call source target path other →
       other ≡ pre
@@ -213,8 +268,9 @@ module _ (q : Query) (t : Trace) (fail : ℕ) (call : Edge) (source target : Lis
   parted_over pre is (parting.Limit kept) d = (
     d.0,
     asked_over pre is kept.question d.1,
-    λ other h. subst (λ (xs : List Atom). xs ≢ [] → IsTrue (list_all is_negatable xs) → IsMet (source ++ xs) → IsRead t (source ++ xs) →
-        ¬ IsNever (seen_at q t (source ++ xs))) (sym (same pre other is h)) d.2,
+    (λ other h. subst (λ (xs : List Atom). xs ≢ [] → IsTrue (list_all is_negatable xs) → IsMet (source ++ xs) → IsRead t (source ++ xs) →
+        ¬ IsNever (seen_at q t (source ++ xs))) (sym (same pre other is h)) d.2),
+    λ n. d.3 (subst (λ (xs : List Atom). IsWhole q t source xs) (same pre n.pre is n.is_pre) n.fails),
   )
 
   -- What neither serves nor met a limit shows no step
@@ -246,6 +302,7 @@ module _ (q : Query) (t : Trace) (fail : ℕ) (call : Edge) (source target : Lis
     right = d.0;
     asked = of_trail d.1;
     unshown = record { no_extend = d.2; no_split = split };
+    undecided = λ n. d.3 n.led_well n.never;
   }
 
   -- at the first of two limits
@@ -255,6 +312,7 @@ module _ (q : Query) (t : Trace) (fail : ℕ) (call : Edge) (source target : Lis
     right = l.0;
     asked = l.1;
     unshown = record { no_extend = never_unshown d; no_split = l.2 };
+    undecided = λ n. l.3 n.parts_not;
   }
   first_limited (Some first) kept d l = trail_limited first d l.2
 
@@ -267,7 +325,6 @@ must_as c table place s path at m = record {
   is = let e : Some s ≡ Some (Must path) = sym at ∙ m.there in cc;
   of_procedure = m.of_procedure;
   of_exit = m.of_exit;
-  numbers = m.numbers;
 }
 
 must_of : (c : Calling) (table : List Summary) (place : ℕ) (s : Summary) (path : Path) → slice_get table place ≡ Some s →
@@ -276,7 +333,6 @@ must_of c table place s path at m = record {
   there = at ∙ ap Some m.is;
   of_procedure = m.of_procedure;
   of_exit = m.of_exit;
-  numbers = m.numbers;
 }
 
 -- a summary is one must
@@ -284,17 +340,19 @@ same_must : (s : Summary) (call : Edge) (exit : ExitKind) (path other : Path) �
     path ≡ other
 same_must s call exit path other is h = let e : Must path ≡ Must other = sym is.is ∙ h.is in cc
 
-pub said_of_summary : (c : Calling) (s : Summary) (path : Path) → IsMustAs s c.call.now c.exit path → (answer : ByMust) →
-    IsSaid c path answer → IsBySummary c s answer
-said_of_summary c s path is (by.Comes point) d = (path, is, d)
-said_of_summary c s path is (by.Parts atoms proof) d = (path, is, d)
-said_of_summary c s path is by.Neither d = λ other h. subst (NeitherBy c) (same_must s c.call.now c.exit path other is h) d
-said_of_summary c s path is (by.Limit kept) d =
-    ((path, is, d.right, d.asked), λ other h. subst (UnshownBy c) (same_must s c.call.now c.exit path other is h) d.unshown)
+pub said_of_summary : (c : Calling) (s : Summary) (path : Path) → IsMustAs s c.call.now c.exit path → NamesNumbers path →
+    (answer : ByMust) → IsSaid c path answer → IsBySummary c s answer
+said_of_summary c s path is numbers (by.Comes point) d = (path, is, numbers, d)
+said_of_summary c s path is numbers (by.Parts atoms proof) d = (path, is, numbers, d)
+said_of_summary c s path is numbers by.Neither d = λ other h. subst (NeitherBy c) (same_must s c.call.now c.exit path other is h) d
+said_of_summary c s path is numbers (by.Limit kept) d = (
+  (path, is, numbers, d.right, d.asked, d.undecided),
+  λ other h. subst (UnshownBy c) (same_must s c.call.now c.exit path other is h) d.unshown,
+)
 
 -- so far, and at a summary that doesn't serve
 
-unshown_by : (c : Calling) (path : Path) → NeitherBy c path → UnshownBy c path
+pub unshown_by : (c : Calling) (path : Path) → NeitherBy c path → UnshownBy c path
 unshown_by c path n = neither_unshown c.query.now (marking c) c.graph.now.fail c.call.now c.source.now.atoms c.target.now.atoms path n
 
 module _ (c : Calling) (table : List Summary) (n : ℕ) (s : Summary) (at : slice_get table n ≡ Some s) where
@@ -311,7 +369,7 @@ module _ (c : Calling) (table : List Summary) (n : ℕ) (s : Summary) (at : slic
   pub searched_limit : (first : Option Kept) (kept : Kept) → IsSearched c table n first → IsBySummary c s (by.Limit kept) →
       IsSearched c table (n + 1) (option_or first (Some kept))
   searched_limit None kept before here = (
-    (n, here.0.0, must_of c table n s here.0.0 at here.0.1, here.0.2, here.0.3),
+    (n, here.0.0, must_of c table n s here.0.0 at here.0.1, here.0.2, here.0.3, here.0.4, here.0.5),
     below_more (λ place. (path : Path) → IsMustOf table c.call.now c.exit place path → UnshownBy c path) n
         (λ place low path is. unshown_by c path (before place low path is)) (λ path is. here.1 path (must_as c table n s path at is)),
   )
@@ -323,11 +381,11 @@ module _ (c : Calling) (table : List Summary) (n : ℕ) (s : Summary) (at : slic
 
   -- at a summary that serves
   pub searched_comes : (point : Assignment) → IsBySummary c s (by.Comes point) → IsByTable c table (from.Comes n point)
-  searched_comes point here = (here.0, must_of c table n s here.0 at here.1, here.2)
+  searched_comes point here = (here.0, must_of c table n s here.0 at here.1, here.2, here.3)
 
   pub searched_parts : (atoms : Cube) (proof : Certificate) → IsBySummary c s (by.Parts atoms proof) →
       IsByTable c table (from.Parts n atoms proof)
-  searched_parts atoms proof here = (here.0, must_of c table n s here.0 at here.1, here.2)
+  searched_parts atoms proof here = (here.0, must_of c table n s here.0 at here.1, here.2, here.3)
 
 -- at the end of the table
 module _ (c : Calling) (table : List Summary) (n : ℕ) (all : length table ≤ n) where

@@ -4,7 +4,8 @@ use Rattle.std.specs.Prelude.{IsTrue, slice_get, slice_set}
 use Rattle.std.specs.List.{list_all}
 use Rattle.std.proofs.lemmas.List.Elements.{All-nil, All-cons, All-head, All-tail}
 use Rattle.std.proofs.lemmas.Option.{same_Some, none-some}
-use borrow.Author.Tests.{eqb-true, eqb-false, eq-eqb, lt-ltb, ltb-true}
+use Rattle.std.proofs.lemmas.Bool.{le-leb}
+use borrow.Author.Tests.{eqb-true, eqb-false, eq-eqb, leb-true, lt-ltb, ltb-true}
 use Rattle.linear_formula.specs.LinearSum.{LinearSum, Valuation, listed_at, coefficient, is_term}
 use Rattle.linear_formula.specs.Formula.{HoldsAll, are_terms}
 use Rattle.linear_formula.specs.Replaced.{column_sum}
@@ -21,7 +22,7 @@ use Rattle.shadow_elim.proofs.Projecting.{unless-none, gives-rows, projections-t
 use Rattle.flow_graph.specs.declared.graph.Edge.{Edge}
 use Rattle.flow_graph.specs.declared.graph.Edge.TheVariants.{Entry, Assign, Guard, Input, Pick, Call, Assert, Return}
 use Rattle.flow_graph.specs.declared.graph.Graph.{Graph}
-use Rattle.flow_graph.specs.Columns.{first_entry, first_exit, is_among, is_slot_column, is_entry_column, is_value_column, names_only, rows_name_only}
+use Rattle.flow_graph.specs.Columns.{first_entry, first_exit, first_symbol, is_among, is_slot_column, is_entry_column, is_value_column, names_only, rows_name_only}
 use Rattle.flow_graph.specs.Linked.{AreGraphs}
 use Rattle.flow_graph.specs.Readings.{entry_reading, one_reading}
 use Rattle.flow_graph.specs.Shapes.{is_call}
@@ -31,9 +32,11 @@ use Rattle.weakest_pre.specs.Preimage.{preimage, lin_sum, range_sums, assigned_s
 use Rattle.summary_form.specs.declared.query.Query.{Query}
 use Rattle.summary_form.specs.declared.query.ExitKind.{ExitKind}
 use Rattle.summary_form.specs.declared.query.ExitKind.TheVariants as kind
+use Rattle.summary_form.specs.declared.path.Path.{Path}
 use Rattle.summary_form.specs.declared.summary.Summary.{Summary}
 use Rattle.summary_form.specs.Instances.{arity_of}
 use Rattle.summary_form.specs.NotMays.{Fits, is_end_column}
+use Rattle.summary_form.specs.Symbols.{all_name_only, is_symbol_column}
 use Rattle.may_partition.specs.declared.region.Region.{Region}
 use Rattle.may_partition.specs.Fitting.{node_column}
 use Rattle.may_partition.specs.Parted.{negation, region, pieces, split_region, begin_parted, beginning, end_node}
@@ -41,15 +44,17 @@ use Rattle.may_partition.proofs.Beginning.{region_there, region_node}
 use Rattle.may_partition.proofs.Fitting.{fit_terms}
 use Rattle.may_partition.proofs.Pieces.{lookup_append, lookup_set, holds_split}
 use Rattle.may_partition.proofs.Splitting.{or_left, or_right}
-use Rattle.call_bridge.proofs.Naming.{parts_name_only, summands_name_only, sums_name_only, rows_named, sums_named_append, rows_named_append, row_sums_named, column_named, rows_wider}
+use Rattle.call_bridge.specs.Musts.{FitsMust, must_preimage, must_rows, symbol_columns}
+use Rattle.call_bridge.proofs.Naming.{parts_name_only, parts_wider, summands_name_only, sums_name_only, rows_named, sums_named_append, rows_named_append, row_sums_named, column_named, rows_wider}
 use Rattle.query_rules.specs.declared.step.Step.{Step}
 use Rattle.query_rules.specs.declared.step.Step.TheVariants as step
 use Rattle.query_rules.specs.Legal.{IsLegal}
 use Rattle.query_rules.specs.Rows.{IsSome}
 use Rattle.query_rules.specs.States.{Happening, made, heard, after, Happens, AllHappen, after_all, IsStateOf, AllHold}
 use Rattle.query_rules.specs.Steps.{Model, stepped, begin_model}
-use Rattle.query_rules.proofs.Reaching.{Good, happening_good, begin_good}
-use Rattle.punch_step.specs.Analysed.{HasNoCalls}
+use Rattle.query_rules.proofs.Closing.{turn_live}
+use Rattle.query_rules.proofs.Reaching.{Good, fits_must, happening_good, begin_good, take_get}
+use Rattle.punch_step.proofs.MustColumns.{all_named, must_answer}
 
 clash : true ≡ false → ⊥
 clash k = cc
@@ -80,6 +85,18 @@ value_own params exits x h = ⊎_elim (λ k. entry_own params x k)
 end_own : (g : Graph) (exit : ExitKind) (x : ℕ) → IsTrue (is_end_column (arity_of (Some g)) exit x) → IsTrue (own g.params x)
 end_own g kind.Return x h = value_own g.params 1 x h
 end_own g (kind.Fail id) x h = entry_own g.params x h
+
+symbol_own : (params symbols x : ℕ) → IsTrue (is_symbol_column symbols x) → IsTrue (own params x)
+symbol_own params symbols x h =
+    let l = leb-true first_symbol x (both (nat_le first_symbol x) (nat_lt x (first_symbol + symbols)) h).0 in
+    or_right (nat_lt x (first_entry + params)) (nat_le first_exit x) (le-leb first_exit x (omega (arith, l)))
+
+terms_wider : (p q : ℕ → Bool) → ((x : ℕ) → IsTrue (p x) → IsTrue (q x)) → (ts : List LinearSum) → IsTrue (all_name_only p ts) →
+    IsTrue (all_name_only q ts)
+terms_wider p q w [] h = refl
+terms_wider p q w (t ∷ ts) h =
+    let k = both (names_only p t) (all_name_only p ts) h in
+    both_in (names_only q t) (all_name_only q ts) (parts_wider p q w t.parts k.0) (terms_wider p q w ts k.1)
 
 -- Rows that are left
 
@@ -230,6 +247,19 @@ module _ (params : ℕ) where
       (row_sums_named (own params) (own params) (one_reading first_exit (column_sum slot))
       (read_named first_exit (column_sum slot) (column_named (own params) slot (slot_own params slot s))) target n)
 
+  -- nor does one over a must, of a call
+  must_own : (must : Path) (args : List ℕ) (slot : ℕ) (target : List Atom) → FitsMust must args slot target → Named params target →
+      (rows : List Atom) (pair : Pair) → must_preimage must args slot target ≡ gives rows pair → Named params rows
+  must_own must args slot target f n rows pair e =
+      let a = must_answer must args slot target f rows pair e in
+      let own_names = must.well_formed in
+      left_own (symbol_columns (must_rows must args slot target)) (must_rows must args slot target) rows pair a.fits
+      (all_named (own params) (λ x l. slot_own params x (lt-ltb x first_entry l)) must args slot target f.behind.are_slots
+      (rows_wider (is_symbol_column must.symbols) (own params) (symbol_own params must.symbols) must.guard.atoms own_names.guard_names)
+      (terms_wider (is_symbol_column must.symbols) (own params) (symbol_own params must.symbols) must.entry own_names.entry_names)
+      (terms_wider (is_symbol_column must.symbols) (own params) (symbol_own params must.symbols) must.outcome own_names.outcome_names) n)
+      a.was
+
   some_own : (atoms all : List Atom) → IsSome atoms all → Named params all → Named params atoms
   some_own [] all s h = refl
   some_own (a ∷ atoms) [] s h = absurd s
@@ -335,7 +365,7 @@ module _ (g : Graph) (q : Query) where
 
 -- States
 
-module _ (gs : List Graph) (linked : AreGraphs gs) (g : Graph) (none : HasNoCalls g) where
+module _ (gs : List Graph) (linked : AreGraphs gs) (g : Graph) where
   few_params : (i : ℕ) (e : Edge) → slice_get g.edges i ≡ Some e → (to count : ℕ) → e ≡ Entry to count → count ≤ g.params
   few_params i e at to count same = by_place i (at ∙ ap Some same) where
     by_place : (i : ℕ) → slice_get g.edges i ≡ Some (Entry to count) → count ≤ g.params
@@ -361,10 +391,10 @@ module _ (gs : List Graph) (linked : AreGraphs gs) (g : Graph) (none : HasNoCall
           same_count k = ap count_of k
     by_place (suc j) h = absurd (clash (g.well_formed.one_entry (suc j) (Entry to count) (omega arith) h))
 
-  step_own : (table : List Summary) (m : Model) (s : Step) → Good gs linked g m → AreOwn g m.query m.parted.regions → IsLegal g table m s →
-      AreOwn g m.query (stepped g table s m).parted.regions
-  step_own table m (step.Extend k n point) h o l = o
-  step_own table m (step.Split k atoms proofs) h o l =
+  step_own : (table : List Summary) → AllHold gs table → (m : Model) (s : Step) → Good gs linked g m → AreOwn g m.query m.parted.regions →
+      IsLegal g table m s → AreOwn g m.query (stepped g table s m).parted.regions
+  step_own table holds m (step.Extend k n point) h o l = o
+  step_own table holds m (step.Split k atoms proofs) h o l =
       let b = l.1.at.between in
       let edge_ok = g.well_formed.are_edges k.edge b.edge b.at_edge in
       region_own g m.query m.parted.regions k.from atoms (slice_get m.parted.regions k.from) refl
@@ -373,15 +403,18 @@ module _ (gs : List Graph) (linked : AreGraphs gs) (g : Graph) (none : HasNoCall
       edge_ok.terms
       (fit_terms (node_column g.exit b.target.node) b.target.cube.atoms (h.keeps.fit k.to b.target b.at_target))
       (o k.to b.target b.at_target).names (few_params k.edge b.edge b.at_edge) l.1.is_pre.1)) o
-  step_own table m (step.Kill k by) h o l = o
-  step_own table m (step.CallExtend k n place point) h o l = o
-  step_own table m (step.CallSplit k place atoms proofs) h o l =
+  step_own table holds m (step.Kill k by) h o l = o
+  step_own table holds m (step.CallExtend k n place point) h o l = o
+  step_own table holds m (step.CallSplit k place atoms proofs) h o l =
       let c = l.1.call in
-      let is : is_call c.between.edge ≡ true = ap is_call c.is_call in
-      absurd (clash (sym is ∙ none k.edge c.between.edge c.between.at_edge))
-  step_own table m (step.Ask k q seen) h o l = o
-  step_own table m (step.Feed i) h o l = o
-  step_own table m (step.Stuck k why seen) h o l = o
+      let target = c.between.target.cube.atoms in
+      region_own g m.query m.parted.regions k.from atoms (slice_get m.parted.regions k.from) refl
+      (must_own g.params l.1.path c.args c.slot target
+      (fits_must gs linked g table holds m h k (turn_live g m k l.0) c place l.1.path l.1.must_at)
+      (o k.to c.between.target c.between.at_target).names atoms l.1.is_pre.0 l.1.is_pre.1) o
+  step_own table holds m (step.Ask k q seen) h o l = o
+  step_own table holds m (step.Feed i) h o l = o
+  step_own table holds m (step.Stuck k why seen) h o l = o
 
   module _ (table : List Summary) (holds : AllHold gs table) (q : Query) where
     abbrev Kept : Model → Type 0
@@ -389,7 +422,10 @@ module _ (gs : List Graph) (linked : AreGraphs gs) (g : Graph) (none : HasNoCall
 
     happening_own : (e : Happening) (m : Model) → Kept m → Happens gs g table e m → AreOwn g (after gs g table e m).query
         (after gs g table e m).parted.regions
-    happening_own (made s n) m h l = query_kept s (step_own (take n table) m s h.0 h.1 l.1) where
+    happening_own (made s n) m h l = query_kept s (step_own (take n table) some m s h.0 h.1 l.1) where
+      some : AllHold gs (take n table)
+      some place x e = holds place x (take_get n table place x e)
+
       query_kept : (s : Step) → AreOwn g m.query (stepped g (take n table) s m).parted.regions →
           AreOwn g (stepped g (take n table) s m).query (stepped g (take n table) s m).parted.regions
       query_kept (step.Extend k i point) o = o

@@ -241,7 +241,7 @@ held_up f pre first kept h p held l =
     (met_not_never (f.source.now.atoms ++ pre.cube.atoms) held.0.shown)
     (λ i s m n r. held.1 i s r)
 
-pub given_step : (f : Frontier) (kept : Kept) (s : Step) → s ≡ step.Stuck f.at (why.Own kept) 0 → GivenUpAt f kept → StepAt f s
+pub given_step : (f : Frontier) (kept : Kept) (s : Step) → s ≡ step.Stuck f.at (why.Own kept) f.seen → GivenUpAt f kept → StepAt f s
 given_step f kept s e g = subst (StepAt f) (sym e) (refl, refl, g)
 
 -- where the preimage is exact and the trail doesn't come, no point of the trail meets the source and the preimage

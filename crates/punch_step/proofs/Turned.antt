@@ -1,5 +1,5 @@
 -- The step at a frontier is legal.
-use Rattle.std.proofs.Common.{arith, ◌≡◌, ◌⊎◌, inl, inr, ℕ, zero, suc, List, [], ◌∷◌, ◌++◌, Some, false, true, refl, sym, ap, subst, ◌∙◌}
+use Rattle.std.proofs.Common.{arith, ◌≡◌, ◌⊎◌, inl, inr, ℕ, zero, suc, List, [], ◌∷◌, ◌++◌, take, length, Some, false, true, refl, sym, ap, subst, ◌∙◌}
 use Rattle.std.specs.Prelude.{slice_get, map, IsTrue, Contains, Bool, ◌==◌}
 use Rattle.std.specs.List.{list_all}
 use Rattle.std.proofs.lemmas.Option.{same_Some, none-some}
@@ -44,7 +44,7 @@ use Rattle.query_rules.proofs.Closing.{turn_from}
 use Rattle.query_rules.proofs.Finding.{any_at}
 use Rattle.query_rules.proofs.Marked.{state_marked}
 use Rattle.query_rules.proofs.Reaching.{state_good}
-use Rattle.punch_step.specs.Analysed.{HasNoCalls, IsAnalysed}
+use Rattle.punch_step.specs.Analysed.{IsAnalysed}
 use Rattle.punch_step.specs.Frontiers.{CanGo, CanCarry, MadeAt, StepAt, trail_at}
 use Rattle.punch_step.specs.Plain as here
 use Rattle.punch_step.specs.Plain.{IsAskedHere, IsGivenUp, IsPlainStep, MovesOn}
@@ -52,6 +52,7 @@ use Rattle.punch_step.proofs.Choosing.{some_of_all}
 use Rattle.query_rules.proofs.Turning.{splits_parted, turn_stands}
 use Rattle.linear_formula.specs.declared.question.Question.{Question}
 use Rattle.summary_form.specs.declared.query.Query.{Query}
+use Rattle.summary_form.specs.declared.summary.Summary.{Summary}
 use Rattle.punch_step.specs.Sights.{IsCarriedWell, IsRead, ReadsStart}
 use Rattle.punch_step.specs.Slices.{SeesAll}
 use Rattle.punch_step.specs.declared.plain.Frontier.{Frontier}
@@ -74,8 +75,12 @@ some_all p (a ∷ some) (b ∷ all) (inl s) h =
     both_in (p a) (list_all p some) (subst (λ (x : Atom). IsTrue (p x)) (sym s.0) w.0) (some_all p some all s.1 w.1)
 some_all p (a ∷ some) (b ∷ all) (inr s) h = some_all p (a ∷ some) all s (both (p b) (list_all p all) h).1
 
-module _ (gs : List Graph) (g : Graph) (m : Model) (k : RegionEdge) (turn : IsTurn g m k) (st : StandsAt gs g m k) (none : HasNoCalls g)
-    (unasked : (i : ℕ) (a : Asked) → slice_get m.asked i ≡ Some a → a.edge ≡ k → ⊥) where
+-- the region edge's graph edge is no call
+abbrev pub IsPlain : Graph → RegionEdge → Type 0
+IsPlain g k = (e : Edge) → slice_get g.edges k.edge ≡ Some e → is_call e ≡ false
+
+module _ (gs : List Graph) (g : Graph) (table : List Summary) (m : Model) (k : RegionEdge) (turn : IsTurn g m k) (st : StandsAt gs g m k)
+    (plain : IsPlain g k) (unasked : (i : ℕ) (a : Asked) → slice_get m.asked i ≡ Some a → a.edge ≡ k → ⊥) where
   abbrev edge : Edge
   edge = st.between.edge
 
@@ -89,17 +94,17 @@ module _ (gs : List Graph) (g : Graph) (m : Model) (k : RegionEdge) (turn : IsTu
   target = st.between.target.cube.atoms
 
   no_call : (b : Between g m k) → is_call b.edge ≡ false
-  no_call b = none k.edge b.edge b.at_edge
+  no_call b = plain b.edge b.at_edge
 
   abbrev at : PlainEdge g m k
-  at = record { between = st.between; plain = none k.edge st.between.edge st.between.at_edge }
+  at = record { between = st.between; plain = plain st.between.edge st.between.at_edge }
 
   not_called : CallAt g m k → ⊥
   not_called c = let e : is_call c.between.edge ≡ true = ap is_call c.is_call in let f = no_call c.between in cc
 
   -- each question here is one of the edge
-  question_is : (q : Question) → IsAskedHere m.query t edge source target q → IsQuestion g [] m k q
-  question_is q h = of_plain at (by_case h) where
+  question_is : (seen : List Summary) (q : Question) → IsAskedHere m.query t edge source target q → IsQuestion g seen m k q
+  question_is seen q h = of_plain at (by_case h) where
     by_case : IsAskedHere m.query t edge source target q → IsPlainQuestion g m k at q
     by_case (here.of_pre_sum s c e) = of_pre_sum s c e
     by_case (here.of_elimination x c e) = of_elimination x c e
@@ -137,10 +142,10 @@ module _ (gs : List Graph) (g : Graph) (m : Model) (k : RegionEdge) (turn : IsTu
       rows_are : (xs : List Atom) → mark_rows m.query m.trails xs st.mark ≡ seen_at m.query t xs
       rows_are xs = rw (st.one.there, mark_rows) refl
 
-  hopeless : (kept : Kept) → IsGivenUp m.query t edge source target k.from kept → IsHopeless g [] m k kept
-  hopeless kept u = record {
+  hopeless : (seen : List Summary) (kept : Kept) → IsGivenUp m.query t edge source target k.from kept → IsHopeless g seen m k kept
+  hopeless seen kept u = record {
     right = u.right;
-    of_edge = question_is kept.question u.asked;
+    of_edge = question_is seen kept.question u.asked;
     no_extend = λ s. let h = shows_extend s in u.no_extend h.0 h.1;
     no_split = λ s.
         let b = s.at.between in let from = here_source b in
@@ -163,27 +168,27 @@ module _ (gs : List Graph) (g : Graph) (m : Model) (k : RegionEdge) (turn : IsTu
       (from : f.source.now.atoms ≡ source)
       (to : f.target.now.atoms ≡ target) (same : f.at ≡ k) where
     abbrev IsLegalHere : Step → Type 0
-    IsLegalHere s = IsLegal g [] m s × SeesAll 0 s
+    IsLegalHere s = IsLegal g table m s × SeesAll (length table) s
 
     -- the same words of the state
-    step_here : (s : Step) → StepAt f s → IsPlainStep m.query t edge source target k s
+    step_here : (s : Step) → StepAt f s → IsPlainStep m.query t edge source target k f.seen s
     step_here s h =
-        subst (λ (x : RegionEdge). IsPlainStep m.query t edge source target x s) same
-        (subst (λ (x : List Atom). IsPlainStep m.query t edge source x f.at s) to
-        (subst (λ (x : List Atom). IsPlainStep m.query t edge x f.target.now.atoms f.at s) from
-        (subst (λ (x : Edge). IsPlainStep m.query t x f.source.now.atoms f.target.now.atoms f.at s) over
-        (subst (λ (x : Trace). IsPlainStep m.query x f.edge.now f.source.now.atoms f.target.now.atoms f.at s) trail
-        (subst (λ (x : Query). IsPlainStep x (trail_at f) f.edge.now f.source.now.atoms f.target.now.atoms f.at s) query h)))))
+        subst (λ (x : RegionEdge). IsPlainStep m.query t edge source target x f.seen s) same
+        (subst (λ (x : List Atom). IsPlainStep m.query t edge source x f.at f.seen s) to
+        (subst (λ (x : List Atom). IsPlainStep m.query t edge x f.target.now.atoms f.at f.seen s) from
+        (subst (λ (x : Edge). IsPlainStep m.query t x f.source.now.atoms f.target.now.atoms f.at f.seen s) over
+        (subst (λ (x : Trace). IsPlainStep m.query x f.edge.now f.source.now.atoms f.target.now.atoms f.at f.seen s) trail
+        (subst (λ (x : Query). IsPlainStep x (trail_at f) f.edge.now f.source.now.atoms f.target.now.atoms f.at f.seen s) query h)))))
 
-    plain_legal : (s : Step) → IsPlainStep m.query t edge source target k s → IsLegalHere s
+    plain_legal : (s : Step) → IsPlainStep m.query t edge source target k (length table) s → IsLegalHere s
     plain_legal (step.Kill over' (killer.Certificate proof)) h =
-        subst (λ (x : RegionEdge). IsLegal g [] m (step.Kill x (killer.Certificate proof)) × Unit {0}) (sym h.0)
+        subst (λ (x : RegionEdge). IsLegal g table m (step.Kill x (killer.Certificate proof)) × Unit {0}) (sym h.0)
         ((turn, record { at = at; pre = h.1.0; is_pre = h.1.1; refuted = h.1.2 }), tt)
     plain_legal (step.Split over' atoms proofs) h =
         let d = h.1 in
-        subst (λ (x : RegionEdge). IsLegal g [] m (step.Split x atoms proofs) × Unit {0}) (sym h.0)
-        (subst (λ (ps : List Certificate). IsLegal g [] m (step.Split k atoms ps) × Unit {0}) (sym d.one) (
-          splits_parted g [] m k turn d.inner st.mark t st.one atoms d.proof (record {
+        subst (λ (x : RegionEdge). IsLegal g table m (step.Split x atoms proofs) × Unit {0}) (sym h.0)
+        (subst (λ (ps : List Certificate). IsLegal g table m (step.Split k atoms ps) × Unit {0}) (sym d.one) (
+          splits_parted g table m k turn d.inner st.mark t st.one atoms d.proof (record {
             at = at;
             pre = d.pre;
             is_pre = d.is_pre;
@@ -196,9 +201,8 @@ module _ (gs : List Graph) (g : Graph) (m : Model) (k : RegionEdge) (turn : IsTu
           tt,
         ))
     plain_legal (step.Stuck over' (why.Own kept) seen) h =
-        subst (λ (n : ℕ). IsLegal g [] m (step.Stuck over' (why.Own kept) n) × (n ≡ 0)) (sym h.1)
-        (subst (λ (x : RegionEdge). IsLegal g [] m (step.Stuck x (why.Own kept) 0) × SeesAll 0 (step.Stuck x (why.Own kept) 0)) (sym h.0)
-        ((turn, (omega arith, hopeless kept h.2)), refl))
+        subst (λ (x : RegionEdge). IsLegal g table m (step.Stuck x (why.Own kept) seen) × (seen ≡ length table)) (sym h.0)
+        ((turn, (omega (arith, h.1), hopeless (take seen table) kept h.2)), h.1)
     plain_legal (step.Ask _ _ _) h = absurd h
     plain_legal (step.CallExtend _ _ _ _) h = absurd h
     plain_legal (step.CallSplit _ _ _ _) h = absurd h
@@ -209,9 +213,12 @@ module _ (gs : List Graph) (g : Graph) (m : Model) (k : RegionEdge) (turn : IsTu
     plain_legal (step.Kill over' (killer.Table _ _)) h = absurd h
     plain_legal (step.Stuck over' (why.Child _) seen) h = absurd h
 
+    seen_all : f.seen ≡ length table → (s : Step) → StepAt f s → IsLegalHere s
+    seen_all count s h = plain_legal s (subst (λ (n : ℕ). IsPlainStep m.query t edge source target k n s) count (step_here s h))
+
     -- the made step is legal
-    pub made_legal : (s : Step) → MadeAt f st.mark.trail s → IsLegalHere s
-    made_legal (step.Extend over' n point) h =
+    pub made_legal : f.seen ≡ length table → (s : Step) → MadeAt f st.mark.trail s → IsLegalHere s
+    made_legal count (step.Extend over' n point) h =
         let well = subst (λ (x : Trace). IsCarriedWell x edge target) trail
         (subst (λ (x : Edge). IsCarriedWell (trail_at f) x target) over (subst (λ (x : List Atom). IsCarriedWell (trail_at f) f.edge.now x)
         to h.2))
@@ -220,21 +227,21 @@ module _ (gs : List Graph) (g : Graph) (m : Model) (k : RegionEdge) (turn : IsTu
         (subst (λ (x : Trace). HoldsAll (valuation point) (seen_at f.query.now (extended x edge) target)) trail
         (subst (λ (x : Edge). HoldsAll (valuation point) (seen_at f.query.now (extended (trail_at f) x) target)) over
         (subst (λ (x : List Atom). HoldsAll (valuation point) (seen_at f.query.now (extended (trail_at f) f.edge.now) x)) to h.4))) in
-        subst (λ (x : RegionEdge). IsLegal g [] m (step.Extend x n point) × Unit {0}) (sym (h.0 ∙ same))
-        (subst (λ (x : ℕ). IsLegal g [] m (step.Extend k x point) × Unit {0}) (sym h.1)
+        subst (λ (x : RegionEdge). IsLegal g table m (step.Extend x n point) × Unit {0}) (sym (h.0 ∙ same))
+        (subst (λ (x : ℕ). IsLegal g table m (step.Extend k x point) × Unit {0}) (sym h.1)
         ((turn, record { at = at; trail = t; marks = st.one.marks; decided = well; values = h.3; met = met }), tt))
-    made_legal (step.Split over' atoms proofs) h = plain_legal (step.Split over' atoms proofs) (step_here (step.Split over' atoms proofs) h)
-    made_legal (step.Kill over' by) h = plain_legal (step.Kill over' by) (step_here (step.Kill over' by) h)
-    made_legal (step.Stuck over' why' seen) h = plain_legal (step.Stuck over' why' seen) (step_here (step.Stuck over' why' seen) h)
-    made_legal (step.CallExtend over' n place point) h = absurd h
-    made_legal (step.CallSplit over' place atoms proofs) h = absurd h
-    made_legal (step.Ask over' q seen) h = absurd h
-    made_legal (step.Feed i) h = absurd h
+    made_legal count (step.Split over' atoms proofs) h = seen_all count (step.Split over' atoms proofs) h
+    made_legal count (step.Kill over' by) h = seen_all count (step.Kill over' by) h
+    made_legal count (step.Stuck over' why' seen) h = seen_all count (step.Stuck over' why' seen) h
+    made_legal count (step.CallExtend over' n place point) h = absurd h
+    made_legal count (step.CallSplit over' place atoms proofs) h = absurd h
+    made_legal count (step.Ask over' q seen) h = absurd h
+    made_legal count (step.Feed i) h = absurd h
 
     -- Where the region moves on, the frontier can be answered.
     pub can_go : MovesOn m.query t edge source target k.from → CanGo f
     can_go moves = record {
-      no_call = ap is_call over ∙ none k.edge st.between.edge st.between.at_edge;
+      no_call = ap is_call over ∙ plain st.between.edge st.between.at_edge;
       start = subst (λ (x : Trace). ReadsStart f.query.now x) (sym trail) (subst (λ (x : Query). ReadsStart x t) (sym query) st.starts);
       moves = subst (λ (x : RegionEdge). MovesOn f.query.now (trail_at f) f.edge.now f.source.now.atoms f.target.now.atoms x.from)
           (sym same)
@@ -288,17 +295,20 @@ the_one marks n k one r alone at e = let a = among marks n k r at e in
       by_place zero h = sym (same_Some one k h)
       by_place (suc j) h = absurd (none-some k h)
 
-module _ (gs : List Graph) (g : Graph) (s : Seen) (m : Model) (h : IsAnalysed gs [] g s m) (k : RegionEdge) (turn : IsTurn g m k) where
+module _ (gs : List Graph) (table : List Summary) (g : Graph) (s : Seen) (m : Model) (h : IsAnalysed gs table g s m) (k : RegionEdge)
+    (turn : IsTurn g m k) where
   pub stands : StandsAt gs g m k
-  stands = turn_stands gs h.grounded.graphs g m (state_marked gs h.grounded.graphs g [] h.grounded.table_holds m.query m.ancestors m
+  stands = turn_stands gs h.grounded.graphs g m (state_marked gs h.grounded.graphs g table h.grounded.table_holds m.query m.ancestors m
       h.grounded.state) k turn
 
-  -- without calls nothing is asked
-  pub not_asked : HasNoCalls g → (i : ℕ) (a : Asked) → slice_get m.asked i ≡ Some a → a.edge ≡ k → ⊥
-  not_asked none i a at e =
-      let good = state_good gs h.grounded.graphs g [] h.grounded.table_holds m.query m.ancestors m h.grounded.state in
+  -- no query is asked of an edge that is no call
+  pub not_asked : IsPlain g k → (i : ℕ) (a : Asked) → slice_get m.asked i ≡ Some a → a.edge ≡ k → ⊥
+  not_asked plain i a at e =
+      let good = state_good gs h.grounded.graphs g table h.grounded.table_holds m.query m.ancestors m h.grounded.state in
       let asks = good.keeps.asks i a at in
-      let no = none a.edge.edge (Call asks.from asks.to asks.proc asks.args asks.slot) asks.call in cc
+      let call : slice_get g.edges k.edge ≡ Some (Call asks.from asks.to asks.proc asks.args asks.slot) = subst
+      (λ (x : RegionEdge). slice_get g.edges x.edge ≡ Some (Call asks.from asks.to asks.proc asks.args asks.slot)) e asks.call in
+      let no = plain (Call asks.from asks.to asks.proc asks.args asks.slot) call in cc
 
   pub regions_are : s.partition.regions ≡ m.parted.regions
   regions_are = h.shows.partition.regions

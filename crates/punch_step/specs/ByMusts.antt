@@ -114,11 +114,12 @@ module _ (q : Query) (t : Trace) (fail : ℕ) (call : Edge) (source target : Lis
       pub no_extend : ComesUnshown
       pub no_split : PartsUnshown
 
-    -- a question met the limit, and no step is shown to be legal
+    -- a question met the limit: no step is shown to be legal, nor that none is
     pub record IsLimitedBy (kept : Kept) : Type 0 where
       pub right : IsRight kept
       pub asked : IsAskedOf kept.question
       pub unshown : IsUnshown
+      pub undecided : ¬ ServesNeither
 
     abbrev pub IsByMust : ByMust → Type 0
     IsByMust (by.Comes point) = ComesAt point
@@ -177,7 +178,6 @@ pub record IsMustOf (table : List Summary) (call : Edge) (exit : ExitKind) (plac
   pub there : slice_get table place ≡ Some (Must path)
   pub of_procedure : path.proc ≡ procedure call
   pub of_exit : path.exit ≡ exit
-  pub numbers : NamesNumbers path
 
 -- by no must of the table a step is shown to be legal
 abbrev pub NoneShown : Calling → List Summary → Type 0
@@ -185,15 +185,18 @@ NoneShown c table =
     (place : ℕ) (path : Path) → IsMustOf table c.call.now c.exit place path → UnshownBy c path
 
 -- a must by which the trail comes or the source is split; or each question ends without a
--- limit and none serves; or a question met a limit, and none is shown to serve
+-- limit and none serves; or a question of a must met a limit, so that it isn't shown whether it
+-- serves, and none is shown to
 abbrev pub IsByTable : Calling → List Summary → ByTable → Type 0
 IsByTable c table (from.Comes place point) =
-    (path : Path) × IsMustOf table c.call.now c.exit place path × ComesBy c path point
+    (path : Path) × IsMustOf table c.call.now c.exit place path × NamesNumbers path
+    × ComesBy c path point
 IsByTable c table (from.Parts place atoms proof) =
-    (path : Path) × IsMustOf table c.call.now c.exit place path × PartsBy c path atoms.atoms proof
+    (path : Path) × IsMustOf table c.call.now c.exit place path × NamesNumbers path
+    × PartsBy c path atoms.atoms proof
 IsByTable c table from.Neither =
     (place : ℕ) (path : Path) → IsMustOf table c.call.now c.exit place path → NeitherBy c path
 IsByTable c table (from.Limit kept) =
     ((place : ℕ) × (path : Path) × IsMustOf table c.call.now c.exit place path
-    × IsRight kept × AskedBy c path kept.question)
+    × NamesNumbers path × IsRight kept × AskedBy c path kept.question × (¬ NeitherBy c path))
     × NoneShown c table

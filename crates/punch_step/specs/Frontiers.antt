@@ -48,7 +48,7 @@ GivenUpAt f kept =
 
 abbrev pub StepAt : Frontier → Step → Type 0
 StepAt f s = IsPlainStep f.query.now (trail_at f) f.edge.now f.source.now.atoms f.target.now.atoms
-    f.at s
+    f.at f.seen s
 
 -- the preimage of the target
 abbrev pub IsPreAt : Frontier → Pre → Type 0

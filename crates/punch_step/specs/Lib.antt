@@ -4,6 +4,7 @@ pub mod Sights
 pub mod Cuts
 pub mod Plain
 pub mod Frontiers
+pub mod CallFrontiers
 pub mod Analysed
 pub mod Slices
 pub mod Sliced

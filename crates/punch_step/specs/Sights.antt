@@ -59,7 +59,7 @@ abbrev pub IsFound : List Atom → Carried → Type 0
 IsFound rows (carried.Comes at) = Is64 (valuation at) × HoldsAll (valuation at) rows
 IsFound rows carried.Never = IsNever rows × HasNoPoint rows
 IsFound rows (carried.Limit kept) =
-    IsRight kept × (kept.question ≡ cube_question rows) × (¬ IsMet rows)
+    IsRight kept × (kept.question ≡ cube_question rows) × (¬ IsMet rows) × (¬ IsNever rows)
 
 -- whether a point of a trail comes into the atoms at its end
 abbrev pub IsArrival : Query → Trace → List Atom → Carried → Type 0
@@ -70,6 +70,7 @@ IsArrival q t atoms carried.Never =
 IsArrival q t atoms (carried.Limit kept) =
     IsRight kept × IsMarkQuestion q t atoms kept.question
     × (IsRead t atoms → ¬ IsMet (seen_at q t atoms))
+    × (IsRead t atoms → ¬ IsNever (seen_at q t atoms))
 
 -- the trail can be carried over the edge and read at the target
 abbrev pub IsCarriedWell : Trace → Edge → List Atom → Type 0

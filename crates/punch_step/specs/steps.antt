@@ -2,3 +2,4 @@ pub mod Reaching
 pub mod Going
 pub mod Holding
 pub mod Musts
+pub mod Serving

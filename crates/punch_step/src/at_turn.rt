@@ -1,16 +1,20 @@
 //! The step at the frontier of a state.
 
-ghost use Rattle.std.specs.Prelude.{◌≡◌, ℕ, [], List, Some, slice_get, IfOk, MatchOption};
-ghost use Rattle.flow_graph.specs.Shapes.{source};
+ghost use Rattle.std.specs.Prelude.{◌≡◌, ℕ, List, Some, length, map, slice_get, false, IfOk, MatchOption};
+ghost use Rattle.flow_graph.specs.Shapes.{is_call, source};
+ghost use Rattle.flow_graph.specs.declared.graph.Edge.{Edge as AnEdge};
 ghost use Rattle.flow_graph.specs.declared.graph.Graph.{Graph as AGraph};
 ghost use Rattle.query_rules.specs.Legal.{IsLegal};
 ghost use Rattle.query_rules.specs.Paths.{IsTurn};
 ghost use Rattle.query_rules.specs.Steps.{Model};
 ghost use Rattle.query_rules.specs.declared.step.Mark.{Mark as AMark};
-ghost use Rattle.punch_step.specs.Analysed.{HasNoCalls, IsAnalysed};
+ghost use Rattle.query_rules.specs.Answered.{AreAnswered};
+ghost use Rattle.punch_step.specs.Analysed.{IsAnalysed};
 ghost use Rattle.punch_step.specs.Frontiers.{CanCarry, CanGo, MadeAt};
-ghost use Rattle.punch_step.specs.Slices.{GoesOn, SeesAll};
+ghost use Rattle.punch_step.specs.Slices.{SeesAll};
 
+use crate::at_call::call_from;
+use crate::by_must::number_of;
 use crate::carried::{Carried, carry};
 use crate::plain::{Frontier, step_over};
 use flow_graph::graph::Graph;
@@ -20,6 +24,8 @@ use may_partition::region::RegionEdge;
 use query_rules::state::QueryState;
 use query_rules::step::{Mark, Step};
 use std::alloc::Global;
+use std::sync::Arc;
+use summary_form::summary::Summary;
 
 /// The trail of this number is carried over the edge where it comes into the target; else the edge
 /// is killed, its source split, or it is given up.
@@ -48,7 +54,7 @@ fn step_at(alloc: Global, frontier: &Frontier, number: u32) -> Result<Step, OutO
 }
 
 /// The first mark of the region.
-fn mark_of(marks: &[Mark], region: u32) -> Option<&Mark>
+pub(crate) fn mark_of(marks: &[Mark], region: u32) -> Option<&Mark>
     ensures { MatchOption result ((n : ℕ) (k : AMark) → slice_get marks.now n ≡ Some k →
         k.region ≡ region → ⊥)
         (λ k. (n : ℕ) × (slice_get marks.now n ≡ Some k.now) × (k.now.region ≡ region)) }
@@ -56,19 +62,26 @@ fn mark_of(marks: &[Mark], region: u32) -> Option<&Mark>
     marks.iter().find(|mark| mark.region == region)
 }
 
-/// The step at a frontier of the state, of which no edge is a call.
-pub fn step_from(
+/// The step at a frontier of the state whose edge is no call.
+fn plain_from(
     alloc: Global,
     state: &QueryState,
     graph: &Graph,
+    table: &[Arc<Summary>],
     at: RegionEdge,
 ) -> Result<Step, OutOfMemory>
-    requires { (gs : List AGraph) × (m : Model) × IsAnalysed gs [] graph.now state.now m
-        × IsTurn graph.now m at × HasNoCalls graph.now }
+    requires state { (gs : List AGraph) × (m : Model)
+        × IsAnalysed gs (map (λ s. s.value) table.now) graph.now state.now m
+        × IsTurn graph.now m at }
+    requires plain { (e : AnEdge) → slice_get graph.now.edges at.edge ≡ Some e →
+        is_call e ≡ false }
     ensures { IfOk result (λ s. (gs : List AGraph) (m : Model) →
-        IsAnalysed gs [] graph.now state.now m → IsTurn graph.now m at → HasNoCalls graph.now →
-        IsLegal graph.now [] m s × SeesAll 0 s × GoesOn s) }
+        IsAnalysed gs (map (λ s. s.value) table.now) graph.now state.now m →
+        IsTurn graph.now m at →
+        IsLegal graph.now (map (λ s. s.value) table.now) m s
+        × SeesAll (length (map (λ s. s.value) table.now)) s) }
 {
+    let seen = number_of(table.len())?;
     let regions = state.partition().regions();
     let Some(mark) = mark_of(state.marks(), at.from) else {
         unreachable!();
@@ -83,6 +96,32 @@ pub fn step_from(
         source: &regions[at.from as usize].cube,
         target: &regions[at.to as usize].cube,
         at,
+        seen,
     };
     step_at(alloc, &frontier, mark.trail)
+}
+
+/// The step at a frontier of the state.
+pub fn step_from(
+    alloc: Global,
+    state: &QueryState,
+    graph: &Graph,
+    table: &[Arc<Summary>],
+    at: RegionEdge,
+) -> Result<Step, OutOfMemory>
+    requires state { (gs : List AGraph) × (m : Model)
+        × IsAnalysed gs (map (λ s. s.value) table.now) graph.now state.now m
+        × IsTurn graph.now m at }
+    requires answered { AreAnswered (map (λ s. s.value) table.now) state.now.asked }
+    ensures { IfOk result (λ s. (gs : List AGraph) (m : Model) →
+        IsAnalysed gs (map (λ s. s.value) table.now) graph.now state.now m →
+        IsTurn graph.now m at →
+        IsLegal graph.now (map (λ s. s.value) table.now) m s
+        × SeesAll (length (map (λ s. s.value) table.now)) s) }
+{
+    if graph.edges.as_slice()[at.edge as usize].is_call() {
+        call_from(alloc, state, graph, table, at)
+    } else {
+        plain_from(alloc, state, graph, table, at)
+    }
 }

@@ -1,12 +1,14 @@
 //! What the musts of a table say at a frontier over a call.
 
 ghost use Rattle.std.specs.Prelude.{◌≡◌, ◌≢◌, ◌↔◌, ◌++◌, [], map, true, IfOk, IsTrue};
-ghost use Rattle.std.specs.List.{list_all};
-ghost use Rattle.shadow_elim.specs.Questions.{is_negatable};
+ghost use Rattle.shadow_elim.specs.Questions.{IsNever};
 ghost use Rattle.flow_graph.specs.Shapes.{is_call};
 ghost use Rattle.call_bridge.specs.Calls.{procedure};
-ghost use Rattle.punch_step.specs.ByMusts.{CanCall, IsByTable, IsSaid};
+ghost use Rattle.query_rules.specs.Rows.{IsRefutedBy, seen_at};
+ghost use Rattle.punch_step.specs.ByMusts.{CanCall, IsByTable, IsSaid, marking};
 ghost use Rattle.punch_step.specs.Frontiers.{IsPossible, first_of};
+ghost use Rattle.punch_step.specs.Sights.{IsDecision, IsRead};
+ghost use Rattle.punch_step.specs.declared.sight.Sight.TheVariants as sight;
 ghost use Rattle.punch_step.specs.declared.by_must.ByMust.TheVariants as by;
 ghost use Rattle.punch_step.specs.steps.Musts.{IsBySummary, IsLedBy, IsMissedBy, IsPartedBy, IsPartingOf};
 
@@ -107,34 +109,61 @@ fn led(alloc: Global, calling: &Calling, must: &Path) -> Result<Carried, OutOfMe
     }
 }
 
+/// The source is split by atoms from which the proof parts the trail, if they have negations.
+fn parted_where_negatable(
+    alloc: Global,
+    calling: &Calling,
+    pre: Cube,
+    proof: Certificate,
+) -> Result<Parting, OutOfMemory>
+    requires possible { IsPossible (calling.now.source.now.atoms ++ pre.atoms) }
+    requires several { pre.atoms ≢ [] }
+    requires never { IsRead (marking calling.now) (calling.now.source.now.atoms ++ pre.atoms)
+        × IsNever (seen_at calling.now.query.now (marking calling.now)
+        (calling.now.source.now.atoms ++ pre.atoms)) }
+    requires refuted { IsRefutedBy (seen_at calling.now.query.now (marking calling.now)
+        (calling.now.source.now.atoms ++ pre.atoms)) proof }
+    ensures { IfOk result (IsPartingOf calling.now pre.atoms) }
+{
+    match first_unnegatable(alloc, pre.atoms.as_slice())? {
+        Some(kept) => Ok(Parting::Limit(kept)),
+        None => Ok(Parting::By(pre, proof)),
+    }
+}
+
 /// Whether no point of the trail meets the atoms in the source, which something else in it meets.
 fn parted_from_trail(alloc: Global, calling: &Calling, pre: Cube) -> Result<Parting, OutOfMemory>
     requires can { CanCall calling.now }
     requires possible { IsPossible (calling.now.source.now.atoms ++ pre.atoms) }
     requires several { pre.atoms ≢ [] }
-    requires negatable { IsTrue (list_all is_negatable pre.atoms) }
     ensures { IfOk result (IsPartingOf calling.now pre.atoms) }
 {
     let both = calling.source.and(alloc, &pre)?;
     match look(alloc, calling.query, calling.trail, &both)? {
-        Sight::Never(proof) => Ok(Parting::By(pre, proof)),
+        Sight::Never(proof) => parted_where_negatable(alloc, calling, pre, proof),
         Sight::Met(_) => Ok(Parting::Not),
         Sight::Limit(kept) => Ok(Parting::Limit(kept)),
     }
 }
 
-/// Whether the source is split by atoms that have negations.
-fn parted_within_source(alloc: Global, calling: &Calling, pre: Cube) -> Result<Parting, OutOfMemory>
+/// Whether the trail meets the atoms in the source, so that the limit at which it isn't decided
+/// whether something does, is needless.
+fn parted_at_limit(
+    alloc: Global,
+    calling: &Calling,
+    pre: &Cube,
+    kept: Kept,
+) -> Result<Parting, OutOfMemory>
     requires can { CanCall calling.now }
-    requires several { pre.atoms ≢ [] }
-    requires negatable { IsTrue (list_all is_negatable pre.atoms) }
-    ensures { IfOk result (IsPartingOf calling.now pre.atoms) }
+    requires several { pre.now.atoms ≢ [] }
+    requires limit { IsDecision (calling.now.source.now.atoms ++ pre.now.atoms)
+        (sight.Limit kept) }
+    ensures { IfOk result (IsPartingOf calling.now pre.now.atoms) }
 {
-    let both = calling.source.and(alloc, &pre)?;
-    match decided(alloc, both)? {
-        Sight::Never(_) => Ok(Parting::Not),
-        Sight::Met(_) => parted_from_trail(alloc, calling, pre),
-        Sight::Limit(kept) => Ok(Parting::Limit(kept)),
+    let both = calling.source.and(alloc, pre)?;
+    match look(alloc, calling.query, calling.trail, &both)? {
+        Sight::Met(_) => Ok(Parting::Not),
+        Sight::Never(_) | Sight::Limit(_) => Ok(Parting::Limit(kept)),
     }
 }
 
@@ -143,14 +172,15 @@ fn parted_by(alloc: Global, calling: &Calling, pre: Cube) -> Result<Parting, Out
     requires { CanCall calling.now }
     ensures { IfOk result (IsPartingOf calling.now pre.atoms) }
 {
-    let atoms = pre.atoms.as_slice();
-    if atoms.is_empty() {
+    if pre.atoms.as_slice().is_empty() {
         return Ok(Parting::Not);
     }
-    if let Some(kept) = first_unnegatable(alloc, atoms)? {
-        return Ok(Parting::Limit(kept));
+    let both = calling.source.and(alloc, &pre)?;
+    match decided(alloc, both)? {
+        Sight::Never(_) => Ok(Parting::Not),
+        Sight::Met(_) => parted_from_trail(alloc, calling, pre),
+        Sight::Limit(kept) => parted_at_limit(alloc, calling, &pre, kept),
     }
-    parted_within_source(alloc, calling, pre)
 }
 
 /// Whether the source is split by the preimage over the must.
@@ -216,7 +246,7 @@ fn called(call: &Edge) -> ProcId
 }
 
 /// Whether the must is one of the called procedure with this exit.
-fn is_of(calling: &Calling, must: &Path) -> bool
+pub(crate) fn is_of(calling: &Calling, must: &Path) -> bool
     requires { is_call calling.now.call.now ≡ true }
     ensures { IsTrue result
         ↔ ((must.now.proc ≡ procedure calling.now.call.now)
@@ -240,7 +270,7 @@ fn by_summary(alloc: Global, calling: &Calling, summary: &Summary) -> Result<ByM
 }
 
 /// The place as a number. Where it is beyond 32 bits there would be no memory for the table.
-fn number_of(place: usize) -> Result<u32, OutOfMemory>
+pub(crate) fn number_of(place: usize) -> Result<u32, OutOfMemory>
     ensures { IfOk result (λ n. n ≡ place) }
 {
     u32::try_from(place).or(Err(AllocError))

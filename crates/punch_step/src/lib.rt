@@ -1,6 +1,7 @@
 //! Slices of the analysis of a query: legal steps at frontiers, and the exact end.
 #![tactic(auto)]
 
+pub mod at_call;
 pub mod at_turn;
 pub mod by_must;
 pub mod carried;
@@ -8,6 +9,7 @@ pub mod cut;
 pub mod entailing;
 mod guess;
 pub mod outlook;
+pub mod over_call;
 pub mod plain;
 pub mod reaching;
 pub mod sight;

@@ -43,16 +43,19 @@ pub struct Frontier<'a> {
     pub source: &'a Cube,
     pub target: &'a Cube,
     pub at: RegionEdge,
+    /// How many summaries there are.
+    pub seen: u32,
 }
 
 /// The edge is given up at the first of the limits.
-fn given_up(at: RegionEdge, first: Option<Kept>, kept: Kept) -> Step
-    ensures { result ≡ step.Stuck at (why.Own (first_of first kept)) 0 }
+fn given_up(frontier: &Frontier, first: Option<Kept>, kept: Kept) -> Step
+    ensures { result ≡ step.Stuck frontier.now.at (why.Own (first_of first kept))
+        frontier.now.seen }
 {
     Step::Stuck {
-        edge: at,
+        edge: frontier.at,
         why: Why::Own(first.unwrap_or(kept)),
-        seen: 0,
+        seen: frontier.seen,
     }
 }
 
@@ -135,10 +138,10 @@ fn stuck(
     ensures { IfOk result (StepAt frontier.now) }
 {
     match (first, pre.inexact) {
-        (Some(kept), _) => Ok(given_up(frontier.at, None, kept)),
+        (Some(kept), _) => Ok(given_up(frontier, None, kept)),
         (None, Some(pair)) => {
             let kept = inexact_limit(alloc, frontier, pair)?;
-            Ok(given_up(frontier.at, None, kept))
+            Ok(given_up(frontier, None, kept))
         }
         (None, None) => unreachable!(),
     }
@@ -161,7 +164,7 @@ fn split(
         return stuck(alloc, frontier, pre, first);
     }
     if let Some(kept) = first_unnegatable(alloc, pre.cube.atoms.as_slice())? {
-        return Ok(given_up(frontier.at, first, kept));
+        return Ok(given_up(frontier, first, kept));
     }
     cut(alloc, frontier, pre, first)
 }
@@ -199,7 +202,7 @@ fn cut(
             })
         }
         Cutting::Met => stuck(alloc, frontier, pre, first),
-        Cutting::Limit(kept) => Ok(given_up(frontier.at, first, kept)),
+        Cutting::Limit(kept) => Ok(given_up(frontier, first, kept)),
     }
 }
 
@@ -222,7 +225,7 @@ fn over(
             edge: frontier.at,
             by: Killer::Certificate(certificate),
         }),
-        Sight::Limit(kept) => Ok(given_up(frontier.at, first, kept)),
+        Sight::Limit(kept) => Ok(given_up(frontier, first, kept)),
         Sight::Met(_) => split(alloc, frontier, pre, first),
     }
 }
@@ -240,7 +243,7 @@ pub fn step_over(
 {
     match pre(alloc, frontier.edge, frontier.target) {
         Ok(pre) => over(alloc, frontier, pre, first),
-        Err(PreError::Limit(kept)) => Ok(given_up(frontier.at, first, kept)),
+        Err(PreError::Limit(kept)) => Ok(given_up(frontier, first, kept)),
         Err(PreError::Memory) => Err(AllocError),
     }
 }

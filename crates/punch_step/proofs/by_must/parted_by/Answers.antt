@@ -1,15 +1,14 @@
 use Rattle.std.proofs.Common.{subst}
-use Rattle.linear_formula.specs.LinearSum.{valuation}
 use Rattle.punch_step.specs.ByMusts.{marking}
-use Rattle.punch_step.specs.Frontiers.{IsPossible}
 use Rattle.punch_step.specs.Sights.{IsDecision}
-use Rattle.punch_step.proofs.Musts.{limit_within, never_within}
-use Rattle.punch_step.proofs.by_must.parted_within_source.Goals as goal
+use Rattle.punch_step.proofs.Musts.{limited_within, never_within, possible_within}
+use Rattle.punch_step.proofs.by_must.parted_by.Goals as goal
 
 pub parted_from_trail-requires-clause-possible : goal.parted_from_trail-requires-clause-possible
 parted_from_trail-requires-clause-possible c =
-    let d = subst (IsDecision c.in_ok-both.both.atoms) c.in-Met.is c.in_ok-decided.ensures in
-    subst IsPossible c.in_ok-both.ensures (record { shown = d.0; point = valuation c.in-Met.field-0; values = d.1; holds = d.2 })
+    let a = c.args.calling.now in
+    possible_within a.query.now (marking a) a.source.now.atoms c.args.pre.atoms c.in_ok-both.both.atoms c.in_ok-both.ensures
+    c.in-Met.field-0 (subst (IsDecision c.in_ok-both.both.atoms) c.in-Met.is c.in_ok-decided.ensures)
 
 pub returns-in-Never : goal.returns-in-Never
 returns-in-Never c =
@@ -17,8 +16,8 @@ returns-in-Never c =
     never_within a.query.now (marking a) a.source.now.atoms c.args.pre.atoms c.in_ok-both.both.atoms c.in_ok-both.ensures c.in-Never.field-0
     (subst (IsDecision c.in_ok-both.both.atoms) c.in-Never.is c.in_ok-decided.ensures)
 
-pub returns-in-Limit : goal.returns-in-Limit
-returns-in-Limit c =
+pub parted_at_limit-requires-clause-limit : goal.parted_at_limit-requires-clause-limit
+parted_at_limit-requires-clause-limit c =
     let a = c.args.calling.now in
-    limit_within a.query.now (marking a) a.source.now.atoms c.args.pre.atoms c.in_ok-both.both.atoms c.in_ok-both.ensures c.in-Limit.kept
+    limited_within a.query.now (marking a) a.source.now.atoms c.args.pre.atoms c.in_ok-both.both.atoms c.in_ok-both.ensures c.in-Limit.kept
     (subst (IsDecision c.in_ok-both.both.atoms) c.in-Limit.is c.in_ok-decided.ensures)
