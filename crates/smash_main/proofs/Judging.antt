@@ -1,5 +1,5 @@
 -- The verdicts of assertions by the states of their queries.
-use Rattle.std.proofs.Common.{◌≡◌, ℕ, zero, false, suc, ◌+◌, ◌<◌, ◌≤◌, inl, inr, List, [], ◌∷◌, length, map, drop, get_or, Option, None, Some, ℤ, Global, arith, refl, sym, ap, ◌∙◌, subst}
+use Rattle.std.proofs.Common.{◌≡◌, ℕ, zero, false, suc, ◌+◌, ◌<◌, ◌≤◌, ◌⊎◌, inl, inr, List, [], ◌∷◌, length, map, drop, get_or, Option, None, Some, ℤ, Global, arith, refl, sym, ap, ◌∙◌, subst}
 use Rattle.std.specs.Prelude.{slice_get, option_map}
 use Rattle.std.proofs.lemmas.List.{length-append}
 use Rattle.std.proofs.lemmas.Option.{none-some, slice_get-map, slice_get_read, slice_get_within, same_Some}
@@ -40,11 +40,13 @@ use Rattle.query_rules.proofs.Finding.{found}
 use Rattle.query_rules.proofs.Leading.{marked_at}
 use Rattle.query_rules.proofs.Marked.{IsMarked, state_marked}
 use Rattle.query_rules.proofs.Theorems.{alone_holds, given_holds}
+use Rattle.query_rules.specs.Answered.{AreAnswered}
 use Rattle.punch_step.specs.Analysed.{HasNoCalls, IsAnalysed}
 use Rattle.punch_step.specs.Sliced.{HasSliced}
 use Rattle.punch_step.specs.Slices.{IsEnd, after_steps}
 use Rattle.punch_step.specs.declared.slice.SliceEnd.TheVariants as ends
 use Rattle.punch_step.specs.declared.slice.Sliced.{Sliced}
+use Rattle.punch_step.proofs.Ending.{never_asks, never_feeds, never_waits}
 use Rattle.smash_main.specs.Analysis.{root_query, IsFoundAt, IsJudged, IsProvedAt, IsSpentAt, IsToldBy, IsVerdict}
 use Rattle.smash_main.specs.declared.verdict.Verdict.{Verdict}
 use Rattle.smash_main.specs.declared.verdict.Verdict.TheVariants as verdict
@@ -265,6 +267,20 @@ begun P gs g id s q above main graphs is none shows state =
       };
     }
 
+-- nothing is asked yet
+pub none_asked : (P : PureProgram) (gs : List Graph) (g : Graph) (id : ℕ) (table : List Summary) (s : Seen) →
+    IsAnalysed gs [] g s (root_begin P g id) → AreAnswered table s.asked
+none_asked P gs g id table s h i a there told = absurd (none-some a (ap (λ xs. slice_get xs i) h.shows.asked ∙ there))
+
+-- a slice by a table without summaries
+pub sliced_by_none : (P : PureProgram) (gs : List Graph) (g : Graph) (id left most : ℕ) (table : List Summary) (before s : Seen)
+    (made : Sliced) → table ≡ [] → IsAnalysed gs [] g before (root_begin P g id) →
+    ((h : Graph) (m : Model) → IsAnalysed gs table h before m → HasSliced gs h table left most m s made) →
+    HasSliced gs g [] left most (root_begin P g id) s made
+sliced_by_none P gs g id left most table before s made none begin slices =
+    subst (λ (ts : List Summary). HasSliced gs g ts left most (root_begin P g id) s made) none
+    (slices g (root_begin P g id) (subst (λ (ts : List Summary). IsAnalysed gs ts g before (root_begin P g id)) (sym none) begin))
+
 effect_steps : (g : Graph) (table : List Summary) (s : Step) (m : Model) → (effect g table s m).steps ≡ m.steps
 effect_steps g table (step.Extend k n point) m = refl
 effect_steps g table (step.Split k atoms proofs) m = refl
@@ -288,7 +304,7 @@ begin_stored : (g : Graph) (q : Query) (steps : List Step) → length (after_ste
 begin_stored g q steps = omega (arith, steps_stored g [] steps (begin_model g q []))
 
 module _ (P : PureProgram) (gs : List Graph) (g : Graph) (id budget most : ℕ) (s : Seen) (made : Sliced) (runs : SameRuns P gs)
-    (main : IsMain P gs g) (h : HasSliced gs g budget most (root_begin P g id) s made) where
+    (main : IsMain P gs g) (h : HasSliced gs g [] budget most (root_begin P g id) s made) where
   pub root_behind : IsRootState P gs g id s h.new
   root_behind = record {
     runs = runs;
@@ -314,10 +330,32 @@ module _ (P : PureProgram) (gs : List Graph) (g : Graph) (id budget most : ℕ) 
   closed_as c e = subst (IsEnd g budget most h.sliced.steps h.new) e h.sliced.is_end
 
   -- a slice that may make as many steps as there are goes on to the end
-  pub not_cut : budget ≤ most → made.end ≡ ends.Goes → ⊥
+  not_cut : budget ≤ most → made.end ≡ ends.Goes → ⊥
   not_cut low e =
       let end = subst (IsEnd g budget most h.sliced.steps h.new) e h.sliced.is_end in
       omega (arith, end.0, end.1, low)
+
+  -- without calls it doesn't wait
+  not_waiting : made.end ≡ ends.Waits → ⊥
+  not_waiting e =
+      let end = subst (IsEnd g budget most h.sliced.steps h.new) e h.sliced.is_end in
+      never_waits gs g [] s h.new h.analysed main.no_calls end.0
+
+  -- and asks and feeds nothing
+  module _ (before : Seen) (begin : IsAnalysed gs [] g before (root_begin P g id)) where
+    not_asking : made.end ≡ ends.Asked → ⊥
+    not_asking = never_asks gs g [] budget most (root_begin P g id) before s made begin main.no_calls h
+
+    not_feeding : (i : ℕ) → made.end ≡ ends.Fed i → ⊥
+    not_feeding = never_feeds gs g [] budget most (root_begin P g id) before s made begin main.no_calls h
+
+    -- so it ends closed or spent
+    pub ends_told : budget ≤ most → (made.end ≡ ends.Goes) ⊎ ((made.end ≡ ends.Asked) ⊎ (((i : ℕ) × (made.end ≡ ends.Fed i)) ⊎
+        (made.end ≡ ends.Waits))) → ⊥
+    ends_told low (inl e) = not_cut low e
+    ends_told low (inr (inl e)) = not_asking e
+    ends_told low (inr (inr (inl e))) = not_feeding e.0 e.1
+    ends_told low (inr (inr (inr e))) = not_waiting e
 
 -- The verdict
 

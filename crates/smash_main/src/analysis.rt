@@ -27,6 +27,7 @@ use query_rules::{QueryState, begin_state};
 use std::alloc::Global;
 use std::sync::Arc;
 use summary_form::query::{ExitKind, Query};
+use summary_table::table::Table;
 
 /// The verdicts of assertions, and the states in which their analysis ended, over the graphs of
 /// the program.
@@ -124,13 +125,14 @@ fn judge(
         j.verdict j.state) }
 {
     let query = root_query(alloc, program.main, id)?;
+    let table = Table::with_room(alloc, 0)?;
     let mut state = begin_state(alloc, graphs, query, 0, Vec::new(alloc))?;
-    let Sliced { steps, end } = slice(alloc, &mut state, graphs, budget, u32::MAX)?;
+    let Sliced { steps, end } = slice(alloc, &mut state, graphs, &table, budget, u32::MAX)?;
     let graph = &graphs.graphs.as_slice()[program.main as usize];
     let verdict = match &end {
         SliceEnd::Closed(closing) => verdict_of(alloc, graph, &state, closing)?,
         SliceEnd::Spent => Verdict::Budget(steps),
-        SliceEnd::Goes => unreachable!(),
+        SliceEnd::Goes | SliceEnd::Asked | SliceEnd::Fed(_) | SliceEnd::Waits => unreachable!(),
     };
     Ok(Judged { verdict, state })
 }
