@@ -11,14 +11,8 @@ use Rattle.flow_graph.specs.WellFormed.{IsEdge, IsGraph, names_slots}
 use Rattle.flow_graph.specs.declared.graph.Edge.{Edge}
 use Rattle.flow_graph.specs.declared.graph.Edge.TheVariants.{Entry, Assert, Call, Return}
 use Rattle.flow_graph.specs.declared.graph.Graph.{Graph}
-use Rattle.summary_form.specs.declared.query.Query.{Query}
-use Rattle.query_rules.specs.Seen.{Seen, ShowsModel}
-use Rattle.query_rules.specs.States.{IsStateOf}
-use Rattle.query_rules.specs.Steps.{Model, begin_model}
-use Rattle.punch_step.specs.Analysed.{HasNoCalls, IsAnalysed}
-use Rattle.punch_step.specs.Sliced.{HasSliced}
-use Rattle.punch_step.specs.declared.slice.Sliced.{Sliced}
-use Rattle.step_tests.specs.Chained.{IsMiddle, IsOnly, IsReady}
+use Rattle.punch_step.specs.Analysed.{HasNoCalls}
+use Rattle.step_tests.specs.Chained.{IsMiddle}
 
 abbrev pub chain : Edge → Cube → List Edge
 chain e rows = Entry 2 1 ∷ e ∷ Assert 3 1 0 rows ∷ Return 3 0 0 ∷ []
@@ -101,25 +95,3 @@ callless g none zero h at i from to proc args slot call =
     let none_here : is_call e ≡ false = none i e (ap (λ (x : Graph). slice_get x.edges i) (same_Some g h at) ∙ call) in
     cc
 callless g none (suc p) h at i from to proc args slot call = absurd (none-some h at)
-
--- a state without steps is ready
-pub ready : (gs : List Graph) (g : Graph) (q : Query) (ancestors : List Query) (s : Seen) → IsOnly gs g → AreGraphs gs →
-    slice_get gs q.proc ≡ Some g → ShowsModel s (begin_model g q ancestors) →
-    IsStateOf gs g [] q ancestors (begin_model g q ancestors) → IsReady gs s
-ready gs g q ancestors s only graphs at shows state = record {
-  graph = g;
-  model = begin_model g q ancestors;
-  only = only;
-  analysed = record {
-    shows = shows;
-    at = at;
-    grounded = record { graphs = graphs; table_holds = λ place x e. absurd (none-some x e); state = state };
-  };
-}
-
--- a slice of a state that is ready leaves one
-pub goes_on : (gs : List Graph) (left most : ℕ) (old new : Seen) (s : Sliced) → IsReady gs old →
-    ((g : Graph) (m : Model) → IsAnalysed gs [] g old m → HasNoCalls g → HasSliced gs g left most m new s) → IsReady gs new
-goes_on gs left most old new s h f =
-    let made = f h.graph h.model h.analysed h.only.no_calls in
-    record { graph = h.graph; model = made.new; only = h.only; analysed = made.analysed }

@@ -1,4 +1,4 @@
--- The graph of these tests, and the states of its queries.
+-- The graph of the tests without calls, and what stands before and behind a call.
 use Rattle.std.specs.Prelude.{◌≡◌, ℕ, ℤ, Bool, true, false, IsTrue, List, [], ◌∷◌, Some}
 use Rattle.linear_formula.specs.declared.formula.Atom.{Atom}
 use Rattle.flow_graph.specs.Columns.{rows_name_only}
@@ -8,9 +8,7 @@ use Rattle.flow_graph.specs.declared.graph.Edge.{Edge}
 use Rattle.flow_graph.specs.declared.graph.Graph.{Graph}
 use Rattle.summary_form.specs.declared.query.Query.{Query}
 use Rattle.must_region.specs.declared.trail.Trail.{Trail}
-use Rattle.query_rules.specs.Seen.{Seen}
-use Rattle.query_rules.specs.Steps.{Model}
-use Rattle.punch_step.specs.Analysed.{HasNoCalls, IsAnalysed}
+use Rattle.punch_step.specs.Analysed.{HasNoCalls}
 
 -- the rows name this column alone
 abbrev pub NamesAlone : ℕ → List Atom → Type 0
@@ -47,15 +45,7 @@ pub record IsChained (middle : Edge) (g : Graph) : Type 0 where
   pub params : g.params ≡ 1
   pub no_calls : is_call middle ≡ false → HasNoCalls g
 
--- the one graph, which calls nothing
+-- the one graph
 pub record IsOnly (gs : List Graph) (g : Graph) : Type 0 where
   pub only : gs ≡ g ∷ []
   pub params : g.params ≡ 1
-  pub no_calls : HasNoCalls g
-
--- a state of a query of the one graph
-pub record IsReady (gs : List Graph) (s : Seen) : Type 0 where
-  pub graph : Graph
-  pub model : Model
-  pub only : IsOnly gs graph
-  pub analysed : IsAnalysed gs [] graph s model

@@ -1,1 +1,3 @@
 pub mod Chained
+pub mod Ready
+pub mod Families

@@ -2,13 +2,21 @@
 #![tactic(auto)]
 
 #[cfg(test)]
+mod calls;
+#[cfg(test)]
+mod families;
+#[cfg(test)]
 mod holders;
+#[cfg(test)]
+mod learning;
 #[cfg(test)]
 mod made;
 #[cfg(test)]
 mod musts;
 #[cfg(test)]
 mod outlooks;
+#[cfg(test)]
+mod ready;
 #[cfg(test)]
 mod slices;
 #[cfg(test)]

@@ -97,6 +97,33 @@ pub fn at_most(alloc: Global, column: u32, bound: u8) -> Result<Cube, AllocError
     one_row(alloc, Term::new(Parts::from_vec(parts), -i128::from(bound)))
 }
 
+fn two_rows(alloc: Global, first: Term, second: Term) -> Result<Cube, AllocError>
+    ensures rows { IfOk result (λ c. c.atoms
+        ≡ record { term = first } ∷ record { term = second } ∷ []) }
+    ensures terms { IfOk result (λ c. IsTrue (are_terms c.atoms)) }
+{
+    let mut atoms = Atoms::new(alloc);
+    atoms.push(Atom { term: first })?;
+    atoms.push(Atom { term: second })?;
+    let _ = atoms.as_slice();
+    Ok(Cube { atoms })
+}
+
+/// The column is the value.
+pub fn exactly(alloc: Global, column: u32, value: u8) -> Result<Cube, AllocError>
+    ensures names { IfOk result (λ c. NamesAlone column c.atoms) }
+    ensures terms { IfOk result (λ c. IsTrue (are_terms c.atoms)) }
+{
+    let most = vec![in alloc; (column, 1)]?;
+    let least = vec![in alloc; (column, -1)]?;
+    let value = i128::from(value);
+    two_rows(
+        alloc,
+        Term::new(Parts::from_vec(most), -value),
+        Term::new(Parts::from_vec(least), value),
+    )
+}
+
 /// Slot 0 becomes a multiple of itself and 1.
 pub fn assign(alloc: Global, coefficient: i64) -> Result<Edge, AllocError>
     ensures { IfOk result IsPlainMiddle }

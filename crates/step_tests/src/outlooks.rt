@@ -1,6 +1,6 @@
 //! Where the analysis of a query stands at its beginning, and after some steps.
 
-use crate::states::{advanced, begun, graphs, outlook};
+use crate::states::{advanced, begun, graphs, stands};
 use punch_step::outlook::Outlook;
 use query_rules::step::Closing;
 use std::alloc::Global;
@@ -30,7 +30,7 @@ fn seen_in(outlook: &Outlook) -> Stands {
 fn first(alloc: Global, exit: ExitKind) -> Result<Stands, Fail> {
     let graphs = graphs(alloc, 1)?;
     let state = begun(alloc, &graphs, exit, 4)?;
-    Ok(seen_in(&outlook(alloc, &graphs, &state)?))
+    Ok(seen_in(&stands(alloc, &graphs, &state)?))
 }
 
 #[test]
@@ -52,7 +52,7 @@ fn later(alloc: Global, exit: ExitKind, steps: u32) -> Result<Stands, Fail> {
     let graphs = graphs(alloc, 1)?;
     let mut state = begun(alloc, &graphs, exit, 4)?;
     advanced(alloc, &graphs, &mut state, steps, 9)?;
-    Ok(seen_in(&outlook(alloc, &graphs, &state)?))
+    Ok(seen_in(&stands(alloc, &graphs, &state)?))
 }
 
 #[test]

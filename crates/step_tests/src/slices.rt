@@ -17,6 +17,7 @@ enum End {
     Must,
     Stuck(LimitKind),
     Spent,
+    Other,
 }
 
 fn seen_in(sliced: &Sliced) -> (u32, End) {
@@ -26,6 +27,7 @@ fn seen_in(sliced: &Sliced) -> (u32, End) {
         SliceEnd::Closed(Closing::Must(_)) => End::Must,
         SliceEnd::Closed(Closing::Stuck(kind)) => End::Stuck(*kind),
         SliceEnd::Spent => End::Spent,
+        _ => End::Other,
     };
     (sliced.steps, end)
 }

@@ -1,16 +1,17 @@
-//! States of queries of one graph, and slices of them.
+//! States of queries of one graph without calls, and slices of them.
 
-ghost use Rattle.std.specs.Prelude.{◌≤◌, IfOk};
+ghost use Rattle.std.specs.Prelude.{◌≤◌, [], IfOk};
 ghost use Rattle.flow_graph.specs.declared.graph.Graph.{Graph as AGraph};
-ghost use Rattle.summary_form.specs.NotMays.{Fits};
-ghost use Rattle.step_tests.specs.Chained.{IsOnly, IsReady};
+ghost use Rattle.step_tests.specs.Chained.{IsOnly};
+ghost use Rattle.step_tests.specs.Ready.{IsFitting, IsReady};
 
 use crate::made::{assign, at_least, empty, graph};
+use crate::ready::{begun_below, no_table, outlook, sliced};
 use flow_graph::graphs::{GraphList, Graphs};
 use linear_formula::error::OutOfMemory;
-use punch_step::outlook::{Outlook, look_ahead};
-use punch_step::slice::{Sliced, slice};
-use query_rules::state::{QueryState, begin_state};
+use punch_step::outlook::Outlook;
+use punch_step::slice::Sliced;
+use query_rules::state::QueryState;
 use std::alloc::{AllocError, Global};
 use std::sync::Arc;
 use summary_form::query::{ExitKind, Query};
@@ -25,8 +26,14 @@ pub fn graphs(alloc: Global, coefficient: i64) -> Result<Graphs, AllocError>
 }
 
 /// Asks for runs with an argument of at least the bound.
-fn asked_query(alloc: Global, exit: ExitKind, least: u8) -> Result<Query, AllocError>
-    ensures { IfOk result (λ q. Fits 0 (record { entries = 1; exits = 1 }) q) }
+fn asked_query(
+    alloc: Global,
+    graphs: &Graphs,
+    exit: ExitKind,
+    least: u8,
+) -> Result<Query, AllocError>
+    requires { (g : AGraph) × IsOnly graphs.now.graphs g }
+    ensures { IfOk result (IsFitting graphs.now.graphs) }
 {
     let start = at_least(alloc, 10_000, least)?;
     Ok(Query {
@@ -45,11 +52,11 @@ pub fn begun(
     least: u8,
 ) -> Result<QueryState, AllocError>
     requires { (g : AGraph) × IsOnly graphs.now.graphs g }
-    ensures { IfOk result (λ s. IsReady graphs.now.graphs s) }
+    ensures { IfOk result (λ s. IsReady graphs.now.graphs [] s) }
 {
-    let query = Arc::new(alloc, asked_query(alloc, exit, least)?)?;
-    let state = begin_state(alloc, graphs, query, 0, Vec::new(alloc))?;
-    Ok(state)
+    let query = Arc::new(alloc, asked_query(alloc, graphs, exit, least)?)?;
+    let table = no_table(alloc, 0)?;
+    begun_below(alloc, graphs, &table, query, 0, Vec::new(alloc))
 }
 
 /// A slice of the state, which goes on.
@@ -61,15 +68,17 @@ pub fn advanced(
     at_most: u32,
 ) -> Result<Sliced, OutOfMemory>
     requires at_most { 1 ≤ at_most }
-    requires ready { IsReady graphs.now.graphs state.old }
-    ensures { IfOk result (λ s. IsReady graphs.now.graphs state.new) }
+    requires ready { IsReady graphs.now.graphs [] state.old }
+    ensures { IfOk result (λ s. IsReady graphs.now.graphs [] state.new) }
 {
-    slice(alloc, state, graphs, left, at_most)
+    let table = no_table(alloc, 0)?;
+    sliced(alloc, graphs, &table, state, left, at_most)
 }
 
 /// Where the state stands.
-pub fn outlook(alloc: Global, graphs: &Graphs, state: &QueryState) -> Result<Outlook, OutOfMemory>
-    requires { IsReady graphs.now.graphs state.now }
+pub fn stands(alloc: Global, graphs: &Graphs, state: &QueryState) -> Result<Outlook, OutOfMemory>
+    requires { IsReady graphs.now.graphs [] state.now }
 {
-    look_ahead(alloc, state, &graphs.graphs.as_slice()[0])
+    let table = no_table(alloc, 0)?;
+    outlook(alloc, graphs, &table, state)
 }

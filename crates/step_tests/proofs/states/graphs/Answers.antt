@@ -11,9 +11,5 @@ new-requires c =
 pub returns : goal.returns
 returns c = (
   c.in_ok-graph.graph,
-  record {
-    only = c.new.ensures ∙ c.from_vec.ensures ∙ c.in_ok-list.ensures.items;
-    params = c.in_ok-graph.ensures.params;
-    no_calls = c.in_ok-graph.ensures.no_calls c.in_ok-assign.ensures.no_call;
-  },
+  record { only = c.new.ensures ∙ c.from_vec.ensures ∙ c.in_ok-list.ensures.items; params = c.in_ok-graph.ensures.params },
 )
