@@ -1,0 +1,98 @@
+-- What events keep, of every board that they lead to, and what follows for its lists and its jobs.
+use Rattle.std.specs.Prelude.{◌≡◌, ℕ, ◌+◌, ◌*◌, ◌^◌, ◌<◌, ◌≤◌, List, length, take, Bool, true, false, None, Some, slice_get}
+use Rattle.flow_graph.specs.declared.graph.Graph.{Graph}
+use Rattle.query_tree.specs.Forest.{tally}
+use Rattle.query_tree.specs.Kept.{grant_of}
+use Rattle.query_rules.specs.Answered.{AreAnswered}
+use Rattle.query_rules.specs.Seen.{Seen}
+use Rattle.query_rules.specs.States.{StaysNews}
+use Rattle.query_rules.specs.declared.step.Asked.{Asked}
+use Rattle.query_rules.specs.declared.step.News.{News}
+use Rattle.query_rules.specs.declared.step.News.TheVariants as news
+use Rattle.bolt_core.specs.Boards.{IsBoard, Shown, hears}
+use Rattle.bolt_core.specs.Groups.{Node}
+use Rattle.bolt_core.specs.Histories.{Told, asks_of, closed_as, has_said, took}
+use Rattle.bolt_core.specs.Keeps.{Keeps}
+use Rattle.bolt_core.specs.Lawful.{IsLawful, MayTell}
+use Rattle.bolt_core.specs.Machine.{AllOf, Core, Event, IsNews, IsRoot, IsSound, Job, Takes, empty_board, opening}
+use Rattle.bolt_core.specs.States.{reads}
+
+-- each event keeps it
+abbrev pub BoardsKeep : Type 0
+BoardsKeep =
+    (gs : List Graph) (roots : ℕ) (old new : Core Seen) (e : Told) → IsLawful (reads gs) →
+    Keeps (reads gs) roots old → Event (reads gs) old e new → Keeps (reads gs) roots new
+
+-- and boards open with it
+abbrev pub BoardsOpen : Type 0
+BoardsOpen =
+    (gs : List Graph) (grant : ℕ) (ss : List Seen) → IsLawful (reads gs) → 1 ≤ grant →
+    grant < 2 ^ 32 → AllOf (IsRoot (reads gs)) ss →
+    Keeps (reads gs) (length ss) (opening (reads gs) grant ss (empty_board (reads gs)))
+
+abbrev pub BoardsAreKept : Type 0
+BoardsAreKept = (b : Shown) → IsBoard b → Keeps (reads b.graphs) b.asserts b.core
+
+-- Events change no grants, and the grants and roots bound how many events may come, and the
+-- queries.
+abbrev pub ReserveSuffices : Type 0
+ReserveSuffices =
+    (gs : List Graph) (roots : ℕ) (old new : Core Seen) (e : Told) → 1 ≤ roots →
+    Event (reads gs) old e new → Keeps (reads gs) roots new →
+    (tally grant_of new.entries ≡ tally grant_of old.entries)
+    × (length old.history < 16 * (tally grant_of old.entries + roots))
+    × (length new.entries ≤ tally grant_of old.entries + roots)
+
+-- the grants of a board that opens
+abbrev pub OpeningGrants : Type 0
+OpeningGrants =
+    (gs : List Graph) (grant : ℕ) (ss : List Seen) →
+    tally grant_of (opening (reads gs) grant ss (empty_board (reads gs))).entries
+    ≡ length ss * grant
+
+-- The table has at most one summary of each query, and room for one more while a query isn't closed
+-- of which nothing was said.
+abbrev pub TableIsWithin : Type 0
+TableIsWithin =
+    (gs : List Graph) (roots : ℕ) (c : Core Seen) → Keeps (reads gs) roots c →
+    length c.table ≤ length c.nodes
+
+abbrev pub TableHasRoom : Type 0
+TableHasRoom =
+    (gs : List Graph) (roots : ℕ) (c : Core Seen) (i : ℕ) (n : Node) → Keeps (reads gs) roots c →
+    slice_get c.nodes i ≡ Some n → n.closed ≡ None → has_said c.history i ≡ false →
+    length c.table < length c.nodes
+
+-- A job stays sound while events come.
+abbrev pub JobsStaySound : Type 0
+JobsStaySound =
+    (gs : List Graph) (roots : ℕ) (old new : Core Seen) (e : Told) (j : Job Seen) →
+    IsLawful (reads gs) → Keeps (reads gs) roots old → Event (reads gs) old e new →
+    IsSound (reads gs) old.history old.nodes j → IsSound (reads gs) new.history new.nodes j
+
+-- It may be told as what its children closed.
+abbrev pub JobsMayBeTold : Type 0
+JobsMayBeTold =
+    (gs : List Graph) (roots : ℕ) (c : Core Seen) (j : Job Seen) (i : ℕ) (a : Asked) (k : News) →
+    Keeps (reads gs) roots c → IsSound (reads gs) c.history c.nodes j →
+    slice_get ((reads gs).entries j.state) i ≡ Some a →
+    i < length (asks_of (take j.taken c.history) j.id) → StaysNews a.news k →
+    IsNews k (closed_as c.history a.child) → MayTell (reads gs) j.state i k
+
+-- A query is taken with the news of its children: the job is sound, for each must that it hears the
+-- table has one that answers, and where it hears of one that works or waits, the Take says so.
+abbrev pub TakenJobsAreSound : Type 0
+TakenJobsAreSound =
+    (gs : List Graph) (roots : ℕ) (old new : Core Seen) (w i left steps : ℕ) (waiting : Bool) →
+    IsLawful (reads gs) → Keeps (reads gs) roots old →
+    (t : Takes (reads gs) old i left steps waiting (took w i left steps waiting) new) →
+    IsSound (reads gs) new.history new.nodes (record {
+      id = i;
+      taken = length old.history;
+      left = left;
+      spent = 0;
+      state = hears old t.state;
+    })
+    × AreAnswered new.table (hears old t.state).asked
+    × ((number : ℕ) (a : Asked) → slice_get (hears old t.state).asked number ≡ Some a →
+    a.news ≡ news.Waiting → waiting ≡ true)

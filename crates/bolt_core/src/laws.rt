@@ -1,0 +1,56 @@
+//! What events keep. The functions do nothing: their contracts are the laws.
+
+ghost use Rattle.bolt_core.specs.KeptBoards.{BoardsAreKept, BoardsKeep, BoardsOpen, JobsMayBeTold, JobsStaySound};
+ghost use Rattle.bolt_core.specs.KeptBoards.{OpeningGrants, ReserveSuffices, TableHasRoom, TableIsWithin, TakenJobsAreSound};
+ghost use Rattle.bolt_core.specs.LawfulStates.{StatesAreLawful};
+
+/// Each event keeps what is true of a board.
+pub fn boards_keep()
+    ensures { BoardsKeep }
+{}
+
+/// It is true of a board that opens with roots.
+pub fn boards_open()
+    ensures { BoardsOpen }
+{}
+
+/// So it is true of every board.
+pub fn boards_are_kept()
+    ensures { BoardsAreKept }
+{}
+
+/// A sound job stays sound, whatever event comes.
+pub fn jobs_stay_sound()
+    ensures { JobsStaySound }
+{}
+
+/// A sound job may be told as what its children closed.
+pub fn jobs_may_be_told()
+    ensures { JobsMayBeTold }
+{}
+
+/// A job that is taken is sound, and has the news of its children.
+pub fn taken_jobs_are_sound()
+    ensures { TakenJobsAreSound }
+{}
+
+/// The table has at most one summary of each query.
+pub fn table_fits()
+    ensures within { TableIsWithin }
+    ensures room { TableHasRoom }
+{}
+
+/// There is room for each event that may come.
+pub fn reserve_suffices()
+    ensures { ReserveSuffices }
+{}
+
+/// Each root has its grant.
+pub fn opening_grants()
+    ensures { OpeningGrants }
+{}
+
+/// The states of queries are what the machine needs.
+pub fn states_are_lawful()
+    ensures { StatesAreLawful }
+{}
