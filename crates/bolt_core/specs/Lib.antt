@@ -5,6 +5,7 @@ pub mod Machine
 pub mod Lawful
 pub mod States
 pub mod Boards
+pub mod Verdicts
 pub mod Keeps
 pub mod LawfulStates
 pub mod KeptBoards

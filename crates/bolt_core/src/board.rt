@@ -140,6 +140,7 @@ impl Board {
                 closed: None,
                 summary: None,
                 published: None,
+                said: false,
             });
         }
         Ok(Board {

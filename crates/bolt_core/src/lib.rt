@@ -7,5 +7,8 @@ pub mod event;
 pub mod giving;
 pub mod job;
 pub mod laws;
+pub mod publishing;
 pub mod slot;
 pub mod taking;
+pub mod verdict;
+pub mod views;

@@ -25,6 +25,8 @@ pub struct Slot {
     pub closed: Option<ClosedAs>,
     /// What the close handed in, until it is published.
     pub summary: Option<Arc<Summary>>,
+    /// Whether something was published of it after it was dropped.
+    pub said: bool,
     /// The place of the close that published it.
     pub published: Option<u64>,
 }

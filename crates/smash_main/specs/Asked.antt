@@ -5,12 +5,11 @@ use Rattle.c_tree.specs.declared.tree.Pos.{Pos}
 use Rattle.c_tree.specs.declared.tree.AssertPlace.{AssertPlace}
 use Rattle.c_tree.specs.Syntax.{PureProgram}
 use Rattle.c_tree.specs.Meaning.{Returned, Stopped, Failed, ReplayOutcome, Comes, Starved, Fuel, Replays}
-use Rattle.smash_main.specs.declared.verdict.Verdict.{Verdict}
+use Rattle.bolt_core.specs.Boards.{Shown}
+use Rattle.bolt_core.specs.declared.job.Verdict.{Verdict}
 use Rattle.smash_main.specs.Words.{Command, check, replay}
 use Rattle.smash_main.specs.Source.{IsAccepted, IsRefused, refusal_line}
-use Rattle.flow_graph.specs.declared.graph.Graph.{Graph}
 use Rattle.smash_main.specs.Analysis.{IsAnalysis, Witness, no_witness}
-use Rattle.smash_main.specs.Calls.{main_calls}
 use Rattle.smash_main.specs.Report.{report_of, status_of}
 
 -- the first refusal of the bytes
@@ -24,32 +23,15 @@ pub record AsksRefusal (bytes : List ℕ) (status : ℕ) (text : List ℕ) (w : 
 
 -- Checks
 
-abbrev pub unbuilt_text : List ℕ
-unbuilt_text = codes "refused: not built yet" ++ 10 ∷ []
-
--- the report of an analysis, with its status, its graphs and its states
+-- the report of an analysis, with its status and its board
 pub record IsReported (program : PureProgram) (budget status : ℕ) (text : List ℕ) (w : Witness) :
     Type 0 where
   pub verdicts : List Verdict
-  pub graphs : List Graph
-  pub handed : w.graphs ≡ Some graphs
-  pub judged : IsAnalysis program budget graphs w.states verdicts
+  pub board : Shown
+  pub handed : w ≡ Some board
+  pub judged : IsAnalysis program budget board verdicts
   pub ended : status ≡ status_of verdicts
   pub told : text ≡ report_of program.asserts verdicts
-
--- a program whose `main` calls a defined procedure
-pub record IsUnbuilt (program : PureProgram) (status : ℕ) (text : List ℕ) (w : Witness) :
-    Type 0 where
-  pub more : main_calls program ≡ true
-  pub is_three : status ≡ 3
-  pub told : text ≡ unbuilt_text
-  pub nothing : w ≡ no_witness
-
--- any other program
-pub record IsChecked (program : PureProgram) (budget status : ℕ) (text : List ℕ) (w : Witness) :
-    Type 0 where
-  pub no_calls : main_calls program ≡ false
-  pub reported : IsReported program budget status text w
 
 -- Replays
 
@@ -97,8 +79,7 @@ pub record IsReplayed (program : PureProgram) (fuel : ℕ) (list : List ℤ) (st
 
 -- the answer to a program under a command
 abbrev pub Answers : Command → PureProgram → ℕ → List ℕ → Witness → Type 0
-Answers (check budget) program status text w =
-    IsUnbuilt program status text w ⊎ IsChecked program budget status text w
+Answers (check budget) program status text w = IsReported program budget status text w
 Answers (replay fuel list) program status text w = IsReplayed program fuel list status text w
 
 -- an accepted source, and the answer to its program

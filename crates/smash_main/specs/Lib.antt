@@ -1,6 +1,5 @@
 pub mod Analysis
 pub mod Asked
-pub mod Calls
 pub mod Report
 pub mod Run
 pub mod Source

@@ -5,8 +5,8 @@ use Rattle.std.specs.Fmt.{decimal, signed_decimal}
 use Rattle.c_tree.specs.declared.tree.AssertPlace.{AssertPlace}
 use Rattle.shadow_elim.specs.declared.limit.LimitKind.{LimitKind}
 use Rattle.shadow_elim.specs.declared.limit.LimitKind.TheVariants.{Columns, Wide, Rows, Branches, Inexact}
-use Rattle.smash_main.specs.declared.verdict.Verdict.{Verdict}
-use Rattle.smash_main.specs.declared.verdict.Verdict.TheVariants.{Proved, Found, Budget, Limit}
+use Rattle.bolt_core.specs.declared.job.Verdict.{Verdict}
+use Rattle.bolt_core.specs.declared.job.Verdict.TheVariants.{Proved, Found, Budget, Limit}
 
 abbrev pub kind_text : LimitKind → List ℕ
 kind_text Columns = codes "columns"

@@ -7,7 +7,6 @@ use Rattle.c_tree.specs.Syntax.{PureProgram}
 use Rattle.smash_main.specs.Words.{Command, check, replay}
 use Rattle.smash_main.specs.Source.{IsAccepted, source_limit}
 use Rattle.smash_main.specs.Analysis.{Witness, no_witness}
-use Rattle.smash_main.specs.Calls.{main_calls}
 use Rattle.smash_main.specs.Asked.{AsksFor, Answers}
 
 abbrev pub usage_text : List ℕ
@@ -96,16 +95,13 @@ Obeys c status source sink w =
     EndsWhole c status source sink w ⊎ (EndsTooLong status source sink w ⊎
     (EndsFaulty status source sink w ⊎ EndsEmpty status source sink w))
 
--- `check` on a program whose `main` calls no defined procedure, and a replay: 0, 1 or 2.
-abbrev pub IsVerdictStatus : Command → PureProgram → ℕ → Type 0
-IsVerdictStatus (check budget) P status =
-    main_calls P ≡ false → (status ≡ 0) ⊎ ((status ≡ 1) ⊎ ((status ≡ 2) ⊎ (status ≡ 7)))
-IsVerdictStatus (replay fuel list) P status =
-    (status ≡ 0) ⊎ ((status ≡ 1) ⊎ ((status ≡ 2) ⊎ (status ≡ 7)))
+-- a check and a replay end with 0, 1 or 2
+abbrev pub IsVerdictStatus : ℕ → Type 0
+IsVerdictStatus status = (status ≡ 0) ⊎ ((status ≡ 1) ⊎ ((status ≡ 2) ⊎ (status ≡ 7)))
 
 -- where an accepted source is told and no count of faults rises, the command ends with a verdict,
 -- or memory runs out
 abbrev pub Completes : Command → ℕ → Change → Change → Type 0
 Completes c status source sink =
     (bytes : List ℕ) (P : PureProgram) → source.before ≡ Some bytes → length bytes ≤ source_limit →
-    IsAccepted bytes P → (HasFault source → ⊥) → (HasFault sink → ⊥) → IsVerdictStatus c P status
+    IsAccepted bytes P → (HasFault source → ⊥) → (HasFault sink → ⊥) → IsVerdictStatus status

@@ -1,5 +1,4 @@
 pub mod Accepting
-pub mod Analysing
 pub mod Handing
 pub mod Judging
 pub mod WordsView

@@ -3,7 +3,6 @@
 
 mod accept;
 mod analysis;
-mod calling;
 mod reply;
 mod report;
 mod run;

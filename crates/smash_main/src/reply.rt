@@ -6,7 +6,6 @@ ghost use Rattle.c_tree.specs.Whole.{program_of};
 ghost use Rattle.run_replay.specs.Outcome.{replay_outcome};
 ghost use Rattle.smash_main.specs.Analysis.{no_witness};
 ghost use Rattle.smash_main.specs.Asked.{AsksFor, Answers, IsReported, IsReplayed, HasPlace, failed_text, replay_status, replay_text};
-ghost use Rattle.smash_main.specs.Calls.{main_calls};
 ghost use Rattle.smash_main.specs.Source.{IsAccepted, refusal_line, source_limit};
 ghost use Rattle.smash_main.specs.Words.{Command as PureCommand};
 ghost use Rattle.smash_main.specs.steps.Accepting.{reason_text};
@@ -15,26 +14,20 @@ ghost use Rattle.smash_main.specs.steps.WordsView.{command_of};
 
 use crate::accept::{Reason, Rejection, accept};
 use crate::analysis::{Analysis, analyse};
-use crate::calling::main_calls;
 use crate::report::{report, status};
 use crate::words::Command;
+use bolt_core::board::Board;
 use c_tree::tree::{AssertPlace, Pos, Program};
-use flow_graph::graphs::Graphs;
-use query_rules::QueryState;
 use run_replay::{Outcome, Replayed, replay};
 use std::alloc::{AllocError, Global};
-use std::sync::Arc;
 
-const UNBUILT: &str = "refused: not built yet\n";
-
-/// A status and the whole text that is written with it, and the graphs and states of an analysis
-/// that came to its end.
+/// A status and the whole text that is written with it, and the board of an analysis that came to
+/// its end.
 #[derive(Drop)]
 pub struct Reply {
     pub status: u8,
     pub text: String,
-    pub graphs: Option<Arc<Graphs>>,
-    pub states: Vec<Vec<QueryState>>,
+    pub board: Option<Board>,
 }
 
 /// The refusal of a source.
@@ -44,11 +37,11 @@ fn refusal(alloc: Global, why: Reason, at: Pos) -> Result<Reply, AllocError>
     ensures nothing { IfOk result (λ a. handed_in a ≡ no_witness) }
 {
     let text = format!(in alloc; "refused {}:{}: {}\n", at.line, at.column, why.text())?;
-    Ok(bare_reply(alloc, 3, text))
+    Ok(bare_reply(3, text))
 }
 
 /// A reply that hands nothing back.
-fn bare_reply(alloc: Global, status: u8, text: String) -> Reply
+fn bare_reply(status: u8, text: String) -> Reply
     ensures status { result.status ≡ status }
     ensures text { result.text ≡ text }
     ensures nothing { handed_in result ≡ no_witness }
@@ -56,40 +49,24 @@ fn bare_reply(alloc: Global, status: u8, text: String) -> Reply
     Reply {
         status,
         text,
-        graphs: None,
-        states: Vec::new(alloc),
+        board: None,
     }
 }
 
-/// The report of a program whose `main` calls no defined procedure.
-fn checked(alloc: Global, program: &Program, budget: u32) -> Result<Reply, AllocError>
-    requires { main_calls (program_of program.now) ≡ false }
+/// The report of a program.
+fn check_program(alloc: Global, program: &Program, budget: u32) -> Result<Reply, AllocError>
+    requires some { 1 ≤ budget }
+    requires most { budget ≤ 20000 }
     ensures { IfOk result (λ a. IsReported (program_of program.now) budget a.status
         (string_bytes a.text) (handed_in a)) }
 {
-    let Analysis {
-        graphs,
-        verdicts,
-        states,
-    } = analyse(alloc, program, budget)?;
+    let Analysis { board, verdicts } = analyse(alloc, program, budget)?;
     let text = report(alloc, &program.asserts, &verdicts)?;
     Ok(Reply {
         status: status(&verdicts),
         text,
-        graphs: Some(Arc::new(alloc, graphs)?),
-        states,
+        board: Some(board),
     })
-}
-
-/// The answer of `check` to a program.
-fn check_program(alloc: Global, program: &Program, budget: u32) -> Result<Reply, AllocError>
-    ensures { IfOk result (λ a. Answers (PureCommand.check budget) (program_of program.now) a.status
-        (string_bytes a.text) (handed_in a)) }
-{
-    if main_calls(program) {
-        return Ok(bare_reply(alloc, 3, String::from_str(alloc, UNBUILT)?));
-    }
-    checked(alloc, program, budget)
 }
 
 /// The status of a replay.
@@ -146,7 +123,7 @@ fn replay_program(
 {
     let replayed = replay(alloc, program, list, fuel)?;
     let text = replay_text(alloc, program, fuel, replayed)?;
-    Ok(bare_reply(alloc, replay_status(replayed.outcome), text))
+    Ok(bare_reply(replay_status(replayed.outcome), text))
 }
 
 /// The answer to a program.

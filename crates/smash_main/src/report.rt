@@ -2,11 +2,22 @@
 
 ghost use Rattle.std.specs.Prelude.{◌≡◌, ◌++◌, length, IfOk, OnOk, string_bytes, count_by};
 ghost use Rattle.std.specs.List.{list_any};
-ghost use Rattle.smash_main.specs.Report.{is_proved, is_found, is_unknown, lines_of, report_of, status_of};
+ghost use Rattle.smash_main.specs.Report.{is_proved, is_found, is_unknown, line_of, lines_of, report_of, status_of};
 
-use crate::verdict::Verdict;
+use crate::verdict::{is_found, is_proved, is_unknown, push_verdict};
+use bolt_core::job::Verdict;
 use c_tree::tree::AssertPlace;
 use std::alloc::{AllocError, Global};
+
+/// Appends the line of an assertion.
+fn push_line(text: &mut String, place: AssertPlace, verdict: &Verdict) -> Result<(), AllocError>
+    ensures { OnOk result (string_bytes text.new
+        ≡ string_bytes text.old ++ line_of place verdict.now) }
+{
+    write!(text, "{}:{}: ", place.at.line, place.at.column)?;
+    push_verdict(text, verdict)?;
+    writeln!(text)
+}
 
 /// Appends a line for each assertion.
 fn push_lines(
@@ -19,7 +30,7 @@ fn push_lines(
         verdicts.now) }
 {
     for (place, verdict) in places.iter().zip(verdicts) {
-        writeln!(text, "{}:{}: {}", place.at.line, place.at.column, verdict)?;
+        push_line(text, *place, verdict)?;
     }
     Ok(())
 }
@@ -27,31 +38,31 @@ fn push_lines(
 fn proved_count(verdicts: &[Verdict]) -> usize
     ensures { result ≡ count_by is_proved verdicts.now }
 {
-    verdicts.iter().filter(|v| v.is_proved()).count()
+    verdicts.iter().filter(|v| is_proved(v)).count()
 }
 
 fn found_count(verdicts: &[Verdict]) -> usize
     ensures { result ≡ count_by is_found verdicts.now }
 {
-    verdicts.iter().filter(|v| v.is_found()).count()
+    verdicts.iter().filter(|v| is_found(v)).count()
 }
 
 fn unknown_count(verdicts: &[Verdict]) -> usize
     ensures { result ≡ count_by is_unknown verdicts.now }
 {
-    verdicts.iter().filter(|v| v.is_unknown()).count()
+    verdicts.iter().filter(|v| is_unknown(v)).count()
 }
 
 fn is_any_found(verdicts: &[Verdict]) -> bool
     ensures { result ≡ list_any is_found verdicts.now }
 {
-    verdicts.iter().any(|v| v.is_found())
+    verdicts.iter().any(|v| is_found(v))
 }
 
 fn is_any_unknown(verdicts: &[Verdict]) -> bool
     ensures { result ≡ list_any is_unknown verdicts.now }
 {
-    verdicts.iter().any(|v| v.is_unknown())
+    verdicts.iter().any(|v| is_unknown(v))
 }
 
 /// The text of a report.

@@ -11,11 +11,9 @@ ghost use Rattle.smash_main.specs.Run.{change, EndsWith, EndsUsage, Obeys, Compl
 
 use crate::reply::{Reply, reply_to};
 use crate::words::{Command, command_from};
-use flow_graph::graphs::Graphs;
+use bolt_core::board::Board;
 use outer_io::{ReadError, Sink, Source, read_all, write_all};
-use query_rules::QueryState;
 use std::alloc::Global;
-use std::sync::Arc;
 
 /// The most bytes that a source may have, `source_limit` of the clauses.
 const SOURCE_LIMIT: usize = 65_536;
@@ -29,25 +27,22 @@ usage: smash check [--budget n] [--workers n]
 ";
 
 /// How the program ended: 0 and 1 are verdicts, 3 a refusal of the source, 4 of the words, 5 a
-/// failed read, 6 a failed write, 7 want of memory. Where an analysis came to its end, its graphs,
-/// by the numbers of the procedures, and for each assertion the states of its queries, the root's
-/// first, are handed back.
+/// failed read, 6 a failed write, 7 want of memory. Where an analysis came to its end, its board is
+/// handed back, which is over; the root of each assertion has its number.
 #[derive(Drop)]
 pub struct Finish {
     pub status: u8,
-    pub graphs: Option<Arc<Graphs>>,
-    pub states: Vec<Vec<QueryState>>,
+    pub board: Option<Board>,
 }
 
 /// Ends with a status alone.
-fn end(alloc: Global, status: u8) -> Finish
+fn end(status: u8) -> Finish
     ensures status { result.status ≡ status }
     ensures nothing { handed_by result ≡ no_witness }
 {
     Finish {
         status,
-        graphs: None,
-        states: Vec::new(alloc),
+        board: None,
     }
 }
 
@@ -71,13 +66,11 @@ fn tell_reply<K: Sink>(sink: &mut K, reply: Reply) -> Finish
     let Reply {
         status,
         text,
-        graphs,
-        states,
+        board,
     } = reply;
     Finish {
         status: tell(sink, status, text.as_bytes()),
-        graphs,
-        states,
+        board,
     }
 }
 
@@ -96,11 +89,11 @@ fn obey<S: Source, K: Sink>(
     match read_all(alloc, source, SOURCE_LIMIT) {
         Ok(bytes) => match reply_to(alloc, command, &bytes) {
             Ok(reply) => tell_reply(sink, reply),
-            Err(_) => end(alloc, 7),
+            Err(_) => end(7),
         },
-        Err(ReadError::TooLong) => end(alloc, tell(sink, 3, TOO_LONG.as_bytes())),
-        Err(ReadError::ReadFault) => end(alloc, 5),
-        Err(ReadError::Memory) => end(alloc, 7),
+        Err(ReadError::TooLong) => end(tell(sink, 3, TOO_LONG.as_bytes())),
+        Err(ReadError::ReadFault) => end(5),
+        Err(ReadError::Memory) => end(7),
     }
 }
 
@@ -132,7 +125,7 @@ pub fn run<S: Source, K: Sink>(
 {
     match command_from(alloc, words) {
         Ok(Some(given)) => obey(alloc, &given, source, sink),
-        Ok(None) => end(alloc, tell(sink, 4, USAGE.as_bytes())),
-        Err(_) => end(alloc, 7),
+        Ok(None) => end(tell(sink, 4, USAGE.as_bytes())),
+        Err(_) => end(7),
     }
 }

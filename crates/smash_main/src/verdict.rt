@@ -1,42 +1,28 @@
-//! Verdicts and their texts.
+//! The texts of verdicts.
 
-ghost use Rattle.std.specs.Prelude.{◌≡◌};
-ghost use Rattle.smash_main.specs.Report.{is_proved, is_found, is_unknown, kind_text};
+ghost use Rattle.std.specs.Prelude.{◌≡◌, ◌++◌, OnOk, string_bytes};
+ghost use Rattle.smash_main.specs.Report.{is_proved, is_found, is_unknown, kind_text, verdict_text};
 
+use bolt_core::job::Verdict;
 use shadow_elim::limit::LimitKind;
-use std::fmt;
+use std::alloc::AllocError;
 
-/// What was found out about an assertion.
-#[derive(Debug, Drop)]
-pub enum Verdict {
-    /// No run fails at it.
-    Proved,
-    /// On these inputs `main` fails at it.
-    Found(Vec<i64>),
-    /// So many legal steps were made, all of the budget.
-    Budget(u32),
-    /// A question to the solver met a limit.
-    Limit(LimitKind),
+pub fn is_proved(verdict: &Verdict) -> bool
+    ensures { result ≡ is_proved verdict.now }
+{
+    matches!(verdict, Verdict::Proved)
 }
 
-impl Verdict {
-    pub fn is_proved(&self) -> bool
-        ensures { result ≡ is_proved self.now }
-    {
-        matches!(self, Verdict::Proved)
-    }
+pub fn is_found(verdict: &Verdict) -> bool
+    ensures { result ≡ is_found verdict.now }
+{
+    matches!(verdict, Verdict::Found(_))
+}
 
-    pub fn is_found(&self) -> bool
-        ensures { result ≡ is_found self.now }
-    {
-        matches!(self, Verdict::Found(_))
-    }
-
-    pub fn is_unknown(&self) -> bool
-        ensures { result ≡ is_unknown self.now }
-    {
-        matches!(self, Verdict::Budget(_) | Verdict::Limit(_))
-    }
+pub fn is_unknown(verdict: &Verdict) -> bool
+    ensures { result ≡ is_unknown verdict.now }
+{
+    matches!(verdict, Verdict::Budget(_) | Verdict::Limit(_))
 }
 
 /// What a limit is called in a report.
@@ -52,18 +38,15 @@ fn kind_text(kind: LimitKind) -> &'static str
     }
 }
 
-impl fmt::Display for Verdict {
-    ghost use Rattle.smash_main.specs.Report.{verdict_text};
-    ghost use Rattle.std.specs.Prelude.{Some};
-
-    ghost output = { λ v. Some (verdict_text v) };
-
-    fn fmt<W: fmt::Write>(&self, f: &mut fmt::Formatter<W>) -> fmt::Result {
-        match self {
-            Verdict::Proved => write!(f, "proved"),
-            Verdict::Found(list) => write!(f, "found {list:?}"),
-            Verdict::Budget(steps) => write!(f, "unknown (budget {steps} spent)"),
-            Verdict::Limit(kind) => write!(f, "unknown (solver limit: {})", kind_text(*kind)),
-        }
+/// Appends the text of a verdict.
+pub fn push_verdict(text: &mut String, verdict: &Verdict) -> Result<(), AllocError>
+    ensures { OnOk result (string_bytes text.new
+        ≡ string_bytes text.old ++ verdict_text verdict.now) }
+{
+    match verdict {
+        Verdict::Proved => write!(text, "proved"),
+        Verdict::Found(list) => write!(text, "found {list:?}"),
+        Verdict::Budget(steps) => write!(text, "unknown (budget {steps} spent)"),
+        Verdict::Limit(kind) => write!(text, "unknown (solver limit: {})", kind_text(*kind)),
     }
 }

@@ -1,0 +1,1 @@
+-- Marks of the target of a query that asks for a failure.

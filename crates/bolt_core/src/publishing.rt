@@ -1,0 +1,39 @@
+//! Summaries of queries that were dropped while they were at work.
+
+ghost use Rattle.std.specs.Prelude.{◌≡◌, ◌<◌, length, Some, slice_get};
+ghost use Rattle.bolt_core.specs.Boards.{Publishes, SameProgram};
+ghost use Rattle.bolt_core.specs.Groups.{Node as ANode};
+ghost use Rattle.bolt_core.specs.Machine.{HoldsBy, exit_of, proc_of};
+ghost use Rattle.bolt_core.specs.States.{reads};
+
+use crate::board::Board;
+use crate::event::Event;
+use crate::job::Gone;
+use query_tree::Status;
+use std::sync::Arc;
+use summary_form::summary::Summary;
+
+impl Board {
+    /// Appends the summary to the table where the query of the job was dropped while it was at
+    /// work, and nothing was published of it since; else it changes nothing and is no event. The
+    /// summary holds by itself, and is of the query's procedure and exit kind.
+    pub fn publish(&mut self, worker: u32, gone: &Gone, summary: Arc<Summary>)
+        requires here { gone.now.job.id < length self.old.core.nodes }
+        requires holds { HoldsBy (reads self.old.graphs) summary.value }
+        requires fits { (n : ANode) → slice_get self.old.core.nodes gone.now.job.id ≡ Some n →
+            (proc_of (reads self.old.graphs) summary.value ≡ n.query.proc)
+            × (exit_of (reads self.old.graphs) summary.value ≡ n.query.exit) }
+        ensures same { SameProgram self.old self.new }
+        ensures published { Publishes self.old worker gone.now.job.id summary.value self.new }
+    {
+        let id = gone.job.id;
+        let is_dropped = matches!(self.forest.status(id), Status::Dropped { .. });
+        if !is_dropped || self.forest.payload(id).is_some() || self.slots[id as usize].said {
+            return;
+        }
+        self.slots[id as usize].said = true;
+        let place = self.table.all().len() as u32;
+        self.table.push(summary);
+        self.events.push_reserved(Event::Publish { worker, id, place });
+    }
+}

@@ -1,0 +1,39 @@
+//! What callers read of a board.
+
+ghost use Rattle.std.specs.Prelude.{◌≡◌, ◌≤◌, length};
+ghost use Rattle.bolt_core.specs.Boards.{IsBoard, most_queries};
+
+use crate::board::Board;
+use query_rules::state::QueryState;
+use query_tree::Forest;
+use summary_table::table::Table;
+
+impl Board {
+    /// What is true of every board: its history leads to it from its opening. It does nothing.
+    pub fn reached(&self)
+        ensures { IsBoard self.now }
+    {
+        let _stopped = self.stopped;
+    }
+
+    /// The queries, with their budgets and stored states.
+    pub fn forest(&self) -> &Forest<QueryState>
+        ensures { result.now.entries ≡ self.now.core.entries }
+    {
+        &self.forest
+    }
+
+    pub fn table(&self) -> &Table
+        ensures { result.now.summaries ≡ self.now.core.table }
+    {
+        &self.table
+    }
+
+    /// The most summaries that the table may come to hold: one of each query that there may be.
+    pub fn room(&self) -> u32
+        ensures room { result ≡ most_queries self.now }
+        ensures within { length self.now.core.table ≤ result }
+    {
+        self.asserts * self.budget + self.asserts
+    }
+}

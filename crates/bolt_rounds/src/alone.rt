@@ -1,0 +1,66 @@
+//! One worker.
+
+ghost use Rattle.std.specs.Prelude.{◌≡◌, [], IfOk, false, true};
+ghost use Rattle.bolt_core.specs.Boards.{SameProgram};
+ghost use Rattle.bolt_core.specs.Machine.{is_over};
+ghost use Rattle.bolt_core.specs.States.{reads};
+
+use crate::moves::{hand_in, work_on};
+use bolt_core::board::Board;
+use bolt_core::job::{Job, Taken};
+use linear_formula::error::OutOfMemory;
+use std::alloc::Global;
+use summary_table::table::Table;
+
+/// The number of the worker.
+const WORKER: u32 = 0;
+
+/// Makes the slice of a job that was just taken, and gives it back. Nobody else works at the board,
+/// so it isn't gone.
+fn do_job(
+    alloc: Global,
+    board: &mut Board,
+    known: &Table,
+    job: Job,
+) -> Result<(), OutOfMemory> {
+    let worked = work_on(alloc, board.graphs(), known, job, u32::MAX)?;
+    let Ok(()) = hand_in(board, WORKER, worked) else {
+        unreachable!();
+    };
+    Ok(())
+}
+
+/// Takes a query, makes its slice and gives it back: two events. Whether there was one; else the
+/// board is over or was stopped.
+fn turn(alloc: Global, board: &mut Board, known: &mut Table) -> Result<bool, OutOfMemory> {
+    board.bring(known)?;
+    match board.take(WORKER, known) {
+        Taken::Over => Ok(false),
+        Taken::Idle => unreachable!(),
+        Taken::Job(job) => {
+            do_job(alloc, board, known, job)?;
+            Ok(true)
+        }
+    }
+}
+
+/// Works at a board without history until it is over. Want of memory stops the board, which is then
+/// dropped.
+pub fn alone(alloc: Global, mut board: Board) -> Result<Board, OutOfMemory>
+    requires { board.core.history ≡ [] }
+    ensures same { IfOk result (λ b. SameProgram board b) }
+    ensures over { IfOk result (λ b. is_over (reads b.graphs) b.core ≡ true) }
+    ensures going { IfOk result (λ b. b.core.is_stopped ≡ false) }
+{
+    let mut known = Table::with_room(alloc, board.room())?;
+    loop {
+        match turn(alloc, &mut board, &mut known) {
+            Ok(true) => {}
+            Ok(false) => return Ok(board),
+            Err(error) => {
+                board.stop(WORKER);
+                return Err(error);
+            }
+        }
+    }
+}
