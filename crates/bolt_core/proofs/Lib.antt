@@ -39,3 +39,12 @@ pub mod Showing
 pub mod Settling
 pub mod Shutting
 pub mod ClosesOn
+pub mod Changes
+pub mod Closings
+pub mod Firsts
+pub mod StuckSteps
+pub mod Limits
+pub mod InputValues
+pub mod TermValues
+pub mod Targets
+pub mod Verdicts

@@ -1,2 +1,3 @@
 pub mod Closes
 pub mod Ends
+pub mod Targets

@@ -1,13 +1,14 @@
 //! What became of the roots of a board.
 
-ghost use Rattle.std.specs.Prelude.{◌≡◌, ◌<◌, IfOk, false, true};
+ghost use Rattle.std.specs.Prelude.{◌≡◌, ◌<◌, IfOk, Some, false, true};
 ghost use Rattle.linear_formula.specs.LinearSum.{valuation};
 ghost use Rattle.flow_graph.specs.Columns.{AreAllValues};
 ghost use Rattle.summary_form.specs.Musts.{values_of};
-ghost use Rattle.bolt_core.specs.Boards.{IsBoard};
+ghost use Rattle.bolt_core.specs.Histories.{closed_as};
 ghost use Rattle.bolt_core.specs.Machine.{is_over};
 ghost use Rattle.bolt_core.specs.States.{reads};
-ghost use Rattle.bolt_core.specs.Verdicts.{HasVerdict};
+ghost use Rattle.bolt_core.specs.Verdicts.{HasVerdict, IsFoundIn};
+ghost use Rattle.bolt_core.specs.declared.slot.ClosedAs.TheVariants as how;
 ghost use Rattle.bolt_core.specs.steps.Targets.{AreInputsAt, HasTargetMark};
 
 use crate::board::Board;
@@ -51,7 +52,11 @@ fn inputs_found(alloc: Global, graph: &Graph, state: &QueryState) -> Result<Vec<
 
 impl Board {
     /// The inputs at a mark of the target of a root that closed as a must.
-    fn inputs_of(&self, alloc: Global, root: u32) -> Result<Vec<i64>, OutOfMemory> {
+    fn inputs_of(&self, alloc: Global, root: u32) -> Result<Vec<i64>, OutOfMemory>
+        requires root { root < self.now.asserts }
+        requires must { closed_as self.now.core.history root ≡ Some how.Must }
+        ensures { IfOk result (λ list. IsFoundIn self.now root list.items) }
+    {
         let graph = &self.graphs.graphs.as_slice()[self.main as usize];
         match self.forest.payload(root) {
             Some(state) => inputs_found(alloc, graph, state),
