@@ -2,7 +2,7 @@
 use Rattle.std.proofs.Common.{◌≡◌, ◌≢◌, ℕ, zero, suc, ◌+◌, ◌<◌, List, [], ◌∷◌, drop, Bool, true, false, cond, IsTrue, Option, Some, None, ℤ, refl, sym, ap, ◌∙◌, subst, ⊎_elim, arith}
 use Rattle.std.specs.Prelude.{slice_get, not, ◌==◌}
 use Rattle.std.proofs.lemmas.Bool.{eqb-true, or_parts}
-use Rattle.std.proofs.lemmas.Option.{same_Some}
+use Rattle.std.proofs.lemmas.Option.{none-some, same_Some}
 use Rattle.linear_formula.specs.LinearSum.{valuation}
 use Rattle.flow_graph.specs.Runs.{failed}
 use Rattle.flow_graph.specs.declared.graph.Graph.{Graph}
@@ -210,6 +210,21 @@ module _ (b : Shown) (h : IsBoard b) (root : ℕ) (lt : root < b.asserts) where
                 (subst (λ l. graph_runs b.graphs run.0 st.model.query.proc (values_of (valuation a.mark.point) a.trail.entry) l (failed root))
                 (sym a.inputs) run.1);
           }
+
+    -- of what its entry is read to hold
+    module _ (s : Seen) (held : (e : Entry Seen) → slice_get b.core.entries root ≡ Some e → Some s ≡ e.payload) (g : Graph)
+        (at : slice_get b.graphs b.main ≡ Some g) where
+      state_is : shut_by.state ≡ s
+      state_is = same_Some shut_by.state s (sym (held must.own must.at ∙ must_payload must.own must.at))
+
+      pub read_target : HasTargetMark g s
+      read_target = subst (HasTargetMark g) state_is (must_target g at)
+
+      pub read_found : (list : List ℤ) → AreInputsAt g s list → IsFoundIn b root list
+      read_found list a = found_in g at list (subst (λ (x : Seen). AreInputsAt g x list) (sym state_is) a)
+
+    pub read_some : ((e : Entry Seen) → slice_get b.core.entries root ≡ Some e → None ≡ e.payload) → ⊥
+    read_some held = none-some shut_by.state (held must.own must.at ∙ must_payload must.own must.at)
 
   -- A root that isn't closed
 

@@ -72,11 +72,13 @@ impl Board {
         requires root { root < self.now.asserts }
         ensures { IfOk result (HasVerdict self.now root) }
     {
-        match self.slots[root as usize].closed {
-            None => Ok(Verdict::Budget(self.budget)),
-            Some(ClosedAs::NotMay { .. }) => Ok(Verdict::Proved),
-            Some(ClosedAs::Must) => Ok(Verdict::Found(self.inputs_of(alloc, root)?)),
-            Some(ClosedAs::Stuck(kind)) => Ok(Verdict::Limit(kind)),
+        let Some(closed) = self.slots[root as usize].closed else {
+            return Ok(Verdict::Budget(self.budget));
+        };
+        match closed {
+            ClosedAs::NotMay { .. } => Ok(Verdict::Proved),
+            ClosedAs::Must => Ok(Verdict::Found(self.inputs_of(alloc, root)?)),
+            ClosedAs::Stuck(kind) => Ok(Verdict::Limit(kind)),
         }
     }
 }
