@@ -20,13 +20,14 @@ use Rattle.bolt_core.specs.declared.job.Job.{Job as Given}
 use Rattle.bolt_core.specs.declared.slot.Slot.{Slot}
 use Rattle.bolt_core.specs.Boards.{IsBoard, IsRoomy, IsSoundFor, MayAsk, Shown, asked_as, core_of, history_of, job_of, most_queries, node_of, told_by}
 use Rattle.bolt_core.specs.Groups.{Node}
-use Rattle.bolt_core.specs.Histories.{Told, asked, asks_by, asks_of, closed, fed, parked, said, stopped, took}
+use Rattle.bolt_core.specs.Histories.{Told, asked, asks_by, asks_of, closed, fed, has_said, parked, said, stopped, took}
 use Rattle.bolt_core.specs.Keeps.{AreLevelled, IsNow, Placed}
 use Rattle.bolt_core.specs.Machine.{IsFresh, Matches, asks_more, told_child}
 use Rattle.bolt_core.specs.States.{reads}
 use Rattle.bolt_core.proofs.BoardKeeps.{board_keeps}
 use Rattle.bolt_core.proofs.Going.{GoesOn, goes_on, history_push, told_same}
 use Rattle.bolt_core.proofs.Links.{quiet_is}
+use Rattle.bolt_core.proofs.Nodes.{unsaid_next}
 use Rattle.bolt_core.proofs.Walk.{get_map}
 
 -- no level is higher than the place
@@ -50,7 +51,7 @@ slot_at b ss h is g s d at =
     )
 
 abbrev pub child_slot : ℕ → ℕ → Slot → Slot
-child_slot id level z = record z { parent = Some id; level = level; closed = None; summary = None; published = None }
+child_slot id level z = record z { parent = Some id; level = level; closed = None; summary = None; said = false; published = None }
 
 pub ask_on : (p : Shown) (es fs : List (Entry Seen)) (ss : List Slot) (ts : List Summary) (xs : List Stored) (st : Bool) (w : ℕ) (g : Given)
     (child : Seen) (z : Slot) (n level : ℕ) (fr tr sr er : ℕ) → let b : Shown = record p { core = core_of es ss ts xs st } in IsBoard b →
@@ -103,6 +104,10 @@ ask_on p es fs ss ts xs st w g child z n level fr tr sr er h r m v number place 
           }) (sym (append-nil ts))));
     })
     (omega (arith, within es g.id v.own v.at))
+
+-- of the next query nothing was said
+pub next_unsaid : (b : Shown) → IsBoard b → (n : ℕ) → length b.core.entries ≡ n → has_said b.core.history n ≡ false
+next_unsaid b h n same = unsaid_next b.core.entries b.core.history (board_keeps b h).said n (omega (arith, same))
 
 -- there is room for the child
 pub ask_room : (p : Shown) (es : List (Entry Seen)) (ss : List Slot) (ts : List Summary) (xs : List Stored) (st : Bool) (w : ℕ) (g : Given)

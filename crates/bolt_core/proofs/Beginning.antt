@@ -42,7 +42,7 @@ pub record AreBegun (gs : List Graph) (main budget n : ℕ) (es : List (Entry Se
   pub is : core_of es slots [] [] false ≡ opening (reads gs) budget roots (empty_board (reads gs))
   pub entries_are : length es ≡ n
   pub slots_are : length slots ≡ n
-  pub open_slots : (i : ℕ) (s : Slot) → slice_get slots i ≡ Some s → (s.closed ≡ None) × (s.published ≡ None)
+  pub open_slots : (i : ℕ) (s : Slot) → slice_get slots i ≡ Some s → (s.closed ≡ None) × (s.published ≡ None) × (s.said ≡ false)
 
 pub none_begun : (gs : List Graph) (main budget : ℕ) → AreBegun gs main budget 0 [] []
 none_begun gs main budget = record {
@@ -57,8 +57,8 @@ none_begun gs main budget = record {
 
 pub one_begun : (gs : List Graph) (main budget n : ℕ) (es : List (Entry Seen)) (slots : List Slot) (s : Seen) (z : Slot) →
     AreBegun gs main budget n es slots → IsRootOf gs main n s → z.closed ≡ None → z.published ≡ None →
-    node_of z ≡ node_of_root (reads gs) s → AreBegun gs main budget (n + 1) (after_root es budget s) (slots ++ z ∷ [])
-one_begun gs main budget n es slots s z h own shut hidden node =
+    z.said ≡ false → node_of z ≡ node_of_root (reads gs) s → AreBegun gs main budget (n + 1) (after_root es budget s) (slots ++ z ∷ [])
+one_begun gs main budget n es slots s z h own shut hidden silent node =
     let R = reads gs in
     let at : 0 + length h.roots ≡ n = omega (arith, h.count) in
     let nodes : map node_of (slots ++ z ∷ []) ≡ map node_of slots ++ node_of_root R s ∷ [] =
@@ -73,7 +73,11 @@ one_begun gs main budget n es slots s z h own shut hidden node =
       slots_are = omega (arith, h.slots_are, length_push slots z);
       open_slots = λ i x a. ⊎_elim
           (λ o. h.open_slots i x o)
-          (λ o. (ap (λ (y : Slot). y.closed) o.1 ∙ shut, ap (λ (y : Slot). y.published) o.1 ∙ hidden))
+          (λ o. (
+            ap (λ (y : Slot). y.closed) o.1 ∙ shut,
+            ap (λ (y : Slot). y.published) o.1 ∙ hidden,
+            ap (λ (y : Slot). y.said) o.1 ∙ silent,
+          ))
           (from_pushed slots z i x a);
     }
 
@@ -106,4 +110,5 @@ module _ (gs : List Graph) (main asserts budget n : ℕ) (es : List (Entry Seen)
     settled = λ i e at. absurd (cc);
     handed = λ i y at low is out. let e : Some (how.NotMay low) ≡ None = sym is ∙ (h.open_slots i y at).0 in absurd (cc);
     shown = λ i y at place is. let e : Some place ≡ None = sym is ∙ (h.open_slots i y at).1 in absurd (cc);
+    said_is = λ i y at. (h.open_slots i y at).2;
   }

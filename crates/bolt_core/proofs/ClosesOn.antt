@@ -24,7 +24,7 @@ use Rattle.bolt_core.specs.declared.slot.ClosedAs.TheVariants as how
 use Rattle.bolt_core.specs.declared.slot.Slot.{Slot}
 use Rattle.bolt_core.specs.Boards.{HandsIn, IsBoard, IsClosedBy, IsRoomy, IsSettled, MayBeClosed, Shown, core_of, history_of, job_of, most_queries, node_of, said_as, told_by}
 use Rattle.bolt_core.specs.Groups.{Node, closed_at, is_member, leads}
-use Rattle.bolt_core.specs.Histories.{Told, closed}
+use Rattle.bolt_core.specs.Histories.{Told, closed, has_said}
 use Rattle.bolt_core.specs.Keeps.{IsNow}
 use Rattle.bolt_core.specs.Machine.{Core, Event, appended, closed_how, shows}
 use Rattle.bolt_core.specs.States.{reads}
@@ -86,6 +86,13 @@ query_by true true member how o place s = refl
 query_by true false member how o place s = refl
 query_by false shown true how o place s = refl
 query_by false shown false how o place s = refl
+
+said_by : (own shown member : Bool) (how : ClosedAs) (o : Option (Arc Summary Global)) (place : ℕ) (s : Slot) →
+    (settled_by own shown member how o place s).said ≡ s.said
+said_by true true member how o place s = refl
+said_by true false member how o place s = refl
+said_by false shown true how o place s = refl
+said_by false shown false how o place s = refl
 
 abbrev Handed : Slot → Type 0
 Handed s = (low : Option ℕ) → s.closed ≡ Some (how.NotMay low) → s.published ≡ None →
@@ -309,8 +316,8 @@ module _ (p : Shown) (es : List (Entry Seen)) (ss : List Slot) (ts : List Summar
           }
 
       pub roomy_close : (d : Core Seen) (fr tr sr er : ℕ) → d.table ≡ us → fr ≡ f → tr ≡ t → s ≤ sr → er ≡ v →
-          IsRoomy (record p { core = d }) ls ys fr tr sr er
-      roomy_close d fr tr sr er seen room wide kept same =
+          ((j : ℕ) → has_said d.history j ≡ has_said (history_of ss ts xs) j) → IsRoomy (record p { core = d }) ls ys fr tr sr er
+      roomy_close d fr tr sr er seen room wide kept same quiet =
           let ns : List Node = map node_of ss in
           let longer : length ts ≤ length us = omega (arith, ap (λ (l : List Summary). length l) table, length-append ts added) in
           let size : length ls ≡ length ss =
@@ -341,4 +348,9 @@ module _ (p : Shown) (es : List (Entry Seen)) (ss : List Slot) (ts : List Summar
                 (omega (arith, here, number))
                 (λ z. omega (arith, r.shown j x.0 x.1 k z, number))
                 (ap (λ (q : Slot). q.published) (sym x.2) ∙ e);
+            said_is = λ j y a.
+                let x = back j y a in
+                ap (λ (q : Slot). q.said) x.2
+                ∙ (said_by (j == g.id) (publishes shut) (leads shut && is_member ns g.id own.level j) shut o place x.0
+                ∙ (r.said_is j x.0 x.1 ∙ sym (quiet j)));
           }

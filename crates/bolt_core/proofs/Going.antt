@@ -1,5 +1,5 @@
 -- A board goes on by one event.
-use Rattle.std.proofs.Common.{◌≡◌, ℕ, zero, suc, ◌*◌, ◌<◌, ◌≤◌, ◌^◌, List, [], ◌∷◌, ◌++◌, length, map, Some, None, refl, sym, ap, ◌∙◌, subst, ⊎_elim, arith}
+use Rattle.std.proofs.Common.{◌≡◌, ℕ, zero, suc, ◌*◌, ◌<◌, ◌≤◌, ◌^◌, List, [], ◌∷◌, ◌++◌, length, map, false, Some, None, refl, sym, ap, ◌∙◌, subst, ⊎_elim, arith}
 use Rattle.std.specs.Prelude.{slice_get}
 use Rattle.std.proofs.lemmas.List.{length_push, length-map, map-append}
 use Rattle.std.proofs.Math.Nat.{mul-le-mul_right}
@@ -12,10 +12,11 @@ use Rattle.bolt_core.specs.declared.event.Event.TheVariants as stored
 use Rattle.bolt_core.specs.declared.slot.ClosedAs.TheVariants as how
 use Rattle.bolt_core.specs.declared.slot.Slot.{Slot}
 use Rattle.bolt_core.specs.Boards.{IsBoard, IsRoomy, IsSettled, Shown, asked_as, history_of, most_queries, told_by}
-use Rattle.bolt_core.specs.Histories.{Told}
+use Rattle.bolt_core.specs.Histories.{Told, has_said, says_of}
 use Rattle.bolt_core.specs.KeptEntries.{KeepsEntries}
 use Rattle.bolt_core.specs.Machine.{Core, Event, Reached, empty_board}
 use Rattle.bolt_core.specs.States.{reads}
+use Rattle.bolt_core.proofs.Agreeing.{says_not}
 use Rattle.bolt_core.proofs.BoardKeeps.{board_keeps}
 use Rattle.bolt_core.proofs.Reserve.{event_history, events_within, grants_of, opening_grants, queries_within, reached_more, run_grants}
 
@@ -99,6 +100,12 @@ goes_on b e c h v one =
       few = board_queries new next;
     }
 
+-- what was said, where the event says nothing
+pub said_stays : (b : Shown) (e : Told) (c : Core Seen) → GoesOn b e c → ((i : ℕ) → says_of i e ≡ false) → (i : ℕ) →
+    has_said c.history i ≡ has_said b.core.history i
+said_stays b e c g quiet i =
+    ap (λ (h : List Told). has_said h i) (event_history (reads b.graphs) b.core c e g.event) ∙ says_not b.core.history e i (quiet i)
+
 -- Told histories
 
 pub history_push : (ss : List Slot) (ts : List Summary) (xs : List Stored) (x : Stored) →
@@ -165,8 +172,8 @@ more_settled nq mq nt (stored.Stop w) le s = tt
 -- one event more
 pub roomy_event : (b : Shown) (c : Core Seen) (ss : List Slot) (xs : List Stored) (x : Stored) (f g t s v w : ℕ) → IsRoomy b ss xs f t s v →
     c.table ≡ b.core.table → IsSettled (length ss) (length b.core.table) x → g ≡ f → w ≡ v →
-    IsRoomy (record b { core = c }) ss (xs ++ x ∷ []) g t s w
-roomy_event b c ss xs x f g t s v w r table own room same = record {
+    ((i : ℕ) → has_said c.history i ≡ has_said b.core.history i) → IsRoomy (record b { core = c }) ss (xs ++ x ∷ []) g t s w
+roomy_event b c ss xs x f g t s v w r table own room same quiet = record {
   queries = room ∙ r.queries;
   kept = r.kept;
   summaries = r.summaries;
@@ -175,13 +182,16 @@ roomy_event b c ss xs x f g t s v w r table own room same = record {
       (settled_pushed (length ss) (length b.core.table) xs x r.settled own);
   handed = r.handed;
   shown = λ i y at place is. omega (arith, r.shown i y at place is, length_push xs x);
+  said_is = λ i y at. r.said_is i y at ∙ sym (quiet i);
 }
 
 -- and one query
 pub roomy_query : (b : Shown) (c : Core Seen) (ss : List Slot) (z : Slot) (xs : List Stored) (x : Stored) (f g t s u v w : ℕ) →
     IsRoomy b ss xs f t s v → c.table ≡ b.core.table → IsSettled (suc (length ss)) (length b.core.table) x → z.closed ≡ None →
-    z.published ≡ None → g ≡ f → u ≡ s → w ≡ v → IsRoomy (record b { core = c }) (ss ++ z ∷ []) (xs ++ x ∷ []) g t u w
-roomy_query b c ss z xs x f g t s u v w r table own open' hidden room wide same =
+    z.published ≡ None → z.said ≡ false → g ≡ f → u ≡ s → w ≡ v →
+    ((i : ℕ) → has_said c.history i ≡ has_said b.core.history i) → has_said b.core.history (length ss) ≡ false →
+    IsRoomy (record b { core = c }) (ss ++ z ∷ []) (xs ++ x ∷ []) g t u w
+roomy_query b c ss z xs x f g t s u v w r table own open' hidden silent room wide same quiet fresh =
     let n : length (ss ++ z ∷ []) ≡ suc (length ss) = omega (arith, length_push ss z) in
     let nt : ℕ = length b.core.table in
     let more : AllSettled (suc (length ss)) nt xs = λ i e at. more_settled (length ss) (suc (length ss)) nt e (omega arith)
@@ -201,5 +211,9 @@ roomy_query b c ss z xs x f g t s u v w r table own open' hidden room wide same 
       shown = λ i y at place is. ⊎_elim
           (λ o. omega (arith, r.shown i y o place is, length_push xs x))
           (λ o. let e : Some place ≡ None = sym is ∙ (ap (λ (y : Slot). y.published) o.1 ∙ hidden) in absurd (cc))
+          (from_pushed ss z i y at);
+      said_is = λ i y at. ⊎_elim
+          (λ o. r.said_is i y o ∙ sym (quiet i))
+          (λ o. ap (λ (y : Slot). y.said) o.1 ∙ (silent ∙ sym (quiet i ∙ (ap (has_said b.core.history) o.0 ∙ fresh))))
           (from_pushed ss z i y at);
     }

@@ -150,8 +150,8 @@ pub record IsBegun (gs : List Graph) (main asserts budget : ℕ) (b : Shown) : T
   pub opening : IsOpening b b.core
 
 -- What the board's lists keep: room for all that may come, stored events that tell the same behind
--- more queries and summaries, the not-mays that aren't published yet, and of those that are the
--- places of events that published them
+-- more queries and summaries, the not-mays that aren't published yet, of those that are the places
+-- of events that published them, and of which queries something was said
 pub record IsRoomy (b : Shown) (slots : List Slot) (events : List Stored)
     (forest_room table_room slots_room events_room : ℕ) : Type 0 where
   pub queries : forest_room ≡ most_queries b
@@ -165,6 +165,8 @@ pub record IsRoomy (b : Shown) (slots : List Slot) (events : List Stored)
       option_map (λ a. a.value) s.summary ≡ Some (summary.NotMay s.query.value)
   pub shown : (i : ℕ) (s : Slot) → slice_get slots i ≡ Some s → (place : ℕ) →
       s.published ≡ Some place → place < length events
+  pub said_is : (i : ℕ) (s : Slot) → slice_get slots i ≡ Some s →
+      s.said ≡ has_said b.core.history i
 
 -- Jobs
 

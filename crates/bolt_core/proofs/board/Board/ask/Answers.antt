@@ -1,4 +1,4 @@
-use Rattle.std.proofs.Common.{◌≡◌, suc, ◌+◌, ◌-◌, ◌<◌, List, ◌∷◌, [], ◌++◌, Some, None, length, refl, sym, ap, ◌∙◌, subst, arith}
+use Rattle.std.proofs.Common.{◌≡◌, false, suc, ◌+◌, ◌-◌, ◌<◌, List, ◌∷◌, [], ◌++◌, Some, None, length, refl, sym, ap, ◌∙◌, subst, arith}
 use Rattle.std.proofs.lemmas.List.{length-map}
 use Rattle.query_tree.specs.Forest.{after_ask}
 use Rattle.query_tree.specs.Woods.{Went}
@@ -16,9 +16,9 @@ use Rattle.bolt_core.specs.Keeps.{IsNow}
 use Rattle.bolt_core.specs.Machine.{Core, Event, told_child}
 use Rattle.bolt_core.specs.States.{reads}
 use Rattle.bolt_core.specs.contracts.board.Board.{the_view}
-use Rattle.bolt_core.proofs.Asking.{ask_on, ask_room, asked_few, asked_some, child_slot, slot_at}
+use Rattle.bolt_core.proofs.Asking.{ask_on, ask_room, asked_few, asked_some, child_slot, next_unsaid, slot_at}
 use Rattle.bolt_core.proofs.BoardKeeps.{board_keeps}
-use Rattle.bolt_core.proofs.Going.{most_small, roomy_query, told_length}
+use Rattle.bolt_core.proofs.Going.{most_small, roomy_query, said_stays, told_length}
 use Rattle.bolt_core.proofs.Parking.{sound_here, sound_lent}
 use Rattle.bolt_core.proofs.board.Board.ask.Goals as goal
 
@@ -42,7 +42,7 @@ overflow_cast-number c =
     in
     let v : IsNow p.core c.args.job.id c.args.job.taken =
     subst (λ (x : Shown). IsNow x.core c.args.job.id c.args.job.taken) (sym c.self.view_is) c.in_default.ensures in
-    let z : Slot = record { parent = None; level = 0; query = c.args.query; closed = None; summary = None; published = None } in
+    let z : Slot = record { parent = None; level = 0; query = c.args.query; closed = None; summary = None; said = false; published = None } in
     let room = ask_room p b.forest.entries b.slots.items b.table.summaries b.events.items b.stopped c.args.worker c.args.job c.args.child z
     _ _ _ _ c.self.invariant.0 c.self.invariant.1 m v in
     let len : length b.forest.entries ≡ length b.slots.items =
@@ -71,7 +71,7 @@ overflow_add-level c =
     in
     let v : IsNow p.core c.args.job.id c.args.job.taken =
     subst (λ (x : Shown). IsNow x.core c.args.job.id c.args.job.taken) (sym c.self.view_is) c.in_default.ensures in
-    let z : Slot = record { parent = None; level = 0; query = c.args.query; closed = None; summary = None; published = None } in
+    let z : Slot = record { parent = None; level = 0; query = c.args.query; closed = None; summary = None; said = false; published = None } in
     let room = ask_room p b.forest.entries b.slots.items b.table.summaries b.events.items b.stopped c.args.worker c.args.job c.args.child z
     _ _ _ _ c.self.invariant.0 c.self.invariant.1 m v in
     let len : length b.forest.entries ≡ length b.slots.items =
@@ -91,7 +91,7 @@ overflow_cast-last c =
     in
     let v : IsNow p.core c.args.job.id c.args.job.taken =
     subst (λ (x : Shown). IsNow x.core c.args.job.id c.args.job.taken) (sym c.self.view_is) c.in_default.ensures in
-    let z : Slot = record { parent = None; level = 0; query = c.args.query; closed = None; summary = None; published = None } in
+    let z : Slot = record { parent = None; level = 0; query = c.args.query; closed = None; summary = None; said = false; published = None } in
     let room = ask_room p b.forest.entries b.slots.items b.table.summaries b.events.items b.stopped c.args.worker c.args.job c.args.child z
     _ _ _ _ c.self.invariant.0 c.self.invariant.1 m v in
     omega (arith, ap (λ (l : List Asked). length l) c.asked.ensures, asked_few p c.self.invariant.0 c.args.job m.sound v room.1)
@@ -148,7 +148,7 @@ ask-requires-clause-room c =
     in
     let v : IsNow p.core c.args.job.id c.args.job.taken =
     subst (λ (x : Shown). IsNow x.core c.args.job.id c.args.job.taken) (sym c.self.view_is) c.in_default.ensures in
-    let z : Slot = record { parent = None; level = 0; query = c.args.query; closed = None; summary = None; published = None } in
+    let z : Slot = record { parent = None; level = 0; query = c.args.query; closed = None; summary = None; said = false; published = None } in
     let room = ask_room p b.forest.entries b.slots.items b.table.summaries b.events.items b.stopped c.args.worker c.args.job c.args.child z
     _ _ _ _ c.self.invariant.0 c.self.invariant.1 m v in
     omega (arith, room.0, c.self.invariant.1.queries)
@@ -163,7 +163,7 @@ push_reserved-requires c =
     in
     let v : IsNow p.core c.args.job.id c.args.job.taken =
     subst (λ (x : Shown). IsNow x.core c.args.job.id c.args.job.taken) (sym c.self.view_is) c.in_default.ensures in
-    let z : Slot = record { parent = None; level = 0; query = c.args.query; closed = None; summary = None; published = None } in
+    let z : Slot = record { parent = None; level = 0; query = c.args.query; closed = None; summary = None; said = false; published = None } in
     let room = ask_room p b.forest.entries b.slots.items b.table.summaries b.events.items b.stopped c.args.worker c.args.job c.args.child z
     _ _ _ _ c.self.invariant.0 c.self.invariant.1 m v in
     let len : length b.forest.entries ≡ length b.slots.items =
@@ -180,7 +180,7 @@ push_reserved-requires-2 c =
     in
     let v : IsNow p.core c.args.job.id c.args.job.taken =
     subst (λ (x : Shown). IsNow x.core c.args.job.id c.args.job.taken) (sym c.self.view_is) c.in_default.ensures in
-    let z : Slot = record { parent = None; level = 0; query = c.args.query; closed = None; summary = None; published = None } in
+    let z : Slot = record { parent = None; level = 0; query = c.args.query; closed = None; summary = None; said = false; published = None } in
     let len : length b.forest.entries ≡ length b.slots.items =
     (board_keeps p c.self.invariant.0).paired.count ∙ length-map b.slots.items node_of in
     let s = slot_at p b.slots.items c.self.invariant.0 refl c.args.job m.sound c.index.result.now
@@ -214,7 +214,7 @@ invariant_of-self c =
     in
     let v : IsNow p.core c.args.job.id c.args.job.taken =
     subst (λ (x : Shown). IsNow x.core c.args.job.id c.args.job.taken) (sym c.self.view_is) c.in_default.ensures in
-    let z : Slot = record { parent = None; level = 0; query = c.args.query; closed = None; summary = None; published = None } in
+    let z : Slot = record { parent = None; level = 0; query = c.args.query; closed = None; summary = None; said = false; published = None } in
     let len : length b.forest.entries ≡ length b.slots.items =
     (board_keeps p c.self.invariant.0).paired.count ∙ length-map b.slots.items node_of in
     let s = slot_at p b.slots.items c.self.invariant.0 refl c.args.job m.sound c.index.result.now
@@ -239,8 +239,9 @@ invariant_of-self c =
     rw (c.push_reserved-2.ensures.items, c.push_reserved.ensures.items) (
       g.board,
       roomy_query p _ b.slots.items (child_slot c.args.job.id (c.index.result.now.level + 1) z) b.events.items _ _ _ _ _ _ _ _
-          c.self.invariant.1 refl (omega (arith, place)) refl refl c.ask.ensures.room c.push_reserved.ensures.capacity
-          c.push_reserved-2.ensures.capacity,
+          c.self.invariant.1 refl (omega (arith, place)) refl refl refl c.ask.ensures.room c.push_reserved.ensures.capacity
+          c.push_reserved-2.ensures.capacity (said_stays p _ _ g (λ i. refl))
+          (next_unsaid p c.self.invariant.0 (length b.slots.items) len),
     )
 
 pub returns-clause-asked : goal.returns-clause-asked
@@ -253,7 +254,7 @@ returns-clause-asked c =
     in
     let v : IsNow p.core c.args.job.id c.args.job.taken =
     subst (λ (x : Shown). IsNow x.core c.args.job.id c.args.job.taken) (sym c.self.view_is) c.in_default.ensures in
-    let z : Slot = record { parent = None; level = 0; query = c.args.query; closed = None; summary = None; published = None } in
+    let z : Slot = record { parent = None; level = 0; query = c.args.query; closed = None; summary = None; said = false; published = None } in
     let len : length b.forest.entries ≡ length b.slots.items =
     (board_keeps p c.self.invariant.0).paired.count ∙ length-map b.slots.items node_of in
     let s = slot_at p b.slots.items c.self.invariant.0 refl c.args.job m.sound c.index.result.now

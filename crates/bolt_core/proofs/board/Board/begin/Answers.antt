@@ -28,11 +28,12 @@ loop-id-preserved c =
       query = c.in_ok-query.query;
       closed = None;
       summary = None;
+      said = false;
       published = None;
     } in
     let node : node_of z ≡ record { parent = None; level = 0; query = s.query; closed = None; published = false } =
     ap (λ (q : Query). record { parent = None; level = 0; query = q; closed = None; published = false }) query in
-    let next = one_begun gs c.args.main c.args.budget l.id l.forest.entries l.slots.items s z i.0 own refl refl node in (
+    let next = one_begun gs c.args.main c.args.budget l.id l.forest.entries l.slots.items s z i.0 own refl refl refl node in (
       subst (λ es. AreBegun gs c.args.main c.args.budget (l.id + 1) es c.push_reserved.new.self.items) (sym c.add_root.ensures.added)
           (subst (λ (ss : List Slot). AreBegun gs c.args.main c.args.budget (l.id + 1) (after_root l.forest.entries c.args.budget s) ss)
           (sym c.push_reserved.ensures.items) next),

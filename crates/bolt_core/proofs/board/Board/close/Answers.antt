@@ -10,7 +10,7 @@ use Rattle.bolt_core.specs.Keeps.{IsNow}
 use Rattle.bolt_core.specs.contracts.board.Board.{the_view}
 use Rattle.bolt_core.proofs.BoardKeeps.{board_keeps}
 use Rattle.bolt_core.proofs.ClosesOn.{close_goes, close_group, close_is, close_room, close_settles, roomy_close}
-use Rattle.bolt_core.proofs.Going.{board_queries, most_small, told_length}
+use Rattle.bolt_core.proofs.Going.{board_queries, most_small, said_stays, told_length}
 use Rattle.bolt_core.proofs.Parking.{sound_here, sound_lent}
 use Rattle.bolt_core.specs.steps.Closes.{appended_by, closed_as, settled_slot, value_of}
 use Rattle.bolt_core.proofs.board.Board.close.Goals as goal
@@ -230,7 +230,8 @@ invariant_of-self c =
           c.self.invariant.1 c.args.worker c.args.job c.args.how m v own at c.closed_as-closed.result is c.args.summary c.requires.summary
           c.len-place.result here c.settle.new.slots are c.settle.new.table.summaries table c.push_reserved.new.self.items
           (length c.all.result.now) (length c.all-2.result.now - length c.all.result.now) from total c.push_reserved.ensures.items
-          _ _ _ _ _ refl c.close.ensures.room c.settle.ensures.room (omega arith) c.push_reserved.ensures.capacity,
+          _ _ _ _ _ refl c.close.ensures.room c.settle.ensures.room (omega arith) c.push_reserved.ensures.capacity
+          (said_stays p _ _ g (λ j. refl)),
     )
 
 pub returns-clause-closed : goal.returns-clause-closed

@@ -7,7 +7,7 @@ use Rattle.bolt_core.specs.Keeps.{IsNow}
 use Rattle.bolt_core.specs.Machine.{Event}
 use Rattle.bolt_core.specs.States.{reads}
 use Rattle.bolt_core.specs.contracts.board.Board.{the_view}
-use Rattle.bolt_core.proofs.Going.{roomy_event, told_length}
+use Rattle.bolt_core.proofs.Going.{roomy_event, said_stays, told_length}
 use Rattle.query_rules.specs.declared.step.Asked.{Asked}
 use Rattle.query_tree.proofs.Lists.{at_place}
 use Rattle.bolt_core.proofs.LastFeeds.{feeds_within}
@@ -131,7 +131,7 @@ invariant_of-self c =
     rw c.push_reserved.ensures.items (
       g.board,
       roomy_event p _ b.slots.items b.events.items _ _ _ _ _ _ _ c.self.invariant.1 refl tt c.feed.ensures.room
-          c.push_reserved.ensures.capacity,
+          c.push_reserved.ensures.capacity (said_stays p _ _ g (λ i. refl)),
     )
 
 pub returns-clause-fed : goal.returns-clause-fed

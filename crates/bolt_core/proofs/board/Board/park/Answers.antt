@@ -6,7 +6,7 @@ use Rattle.bolt_core.specs.Keeps.{IsNow}
 use Rattle.bolt_core.specs.Machine.{Event}
 use Rattle.bolt_core.specs.States.{reads}
 use Rattle.bolt_core.specs.contracts.board.Board.{the_view}
-use Rattle.bolt_core.proofs.Going.{roomy_event, told_length}
+use Rattle.bolt_core.proofs.Going.{roomy_event, said_stays, told_length}
 use Rattle.bolt_core.proofs.Parking.{park_gives, park_on, sound_here, sound_lent}
 use Rattle.bolt_core.proofs.board.Board.park.Goals as goal
 
@@ -71,7 +71,7 @@ invariant_of-self c =
     rw c.push_reserved.ensures.items (
       g.board,
       roomy_event p _ b.slots.items b.events.items _ _ _ _ _ _ _ c.self.invariant.1 refl tt c.give_back.ensures.room
-          c.push_reserved.ensures.capacity,
+          c.push_reserved.ensures.capacity (said_stays p _ _ g (λ i. refl)),
     )
 
 pub returns-clause-parked : goal.returns-clause-parked

@@ -3,7 +3,7 @@ use Rattle.std.specs.Prelude.{not}
 use Rattle.query_tree.specs.Forest.{has_live}
 use Rattle.bolt_core.specs.Boards.{Shown}
 use Rattle.bolt_core.specs.contracts.board.Board.{the_view}
-use Rattle.bolt_core.proofs.Going.{roomy_event, told_length}
+use Rattle.bolt_core.proofs.Going.{roomy_event, said_stays, told_length}
 use Rattle.bolt_core.proofs.Parking.{stop_on}
 use Rattle.bolt_core.proofs.board.Board.stop.Goals as goal
 
@@ -27,5 +27,5 @@ invariant_of-self c =
     c.if-self.false over in
     rw c.push_reserved.ensures.items (
       g.board,
-      roomy_event p _ b.slots.items b.events.items _ _ _ _ _ _ _ c.self.invariant.1 refl tt refl c.push_reserved.ensures.capacity,
+      roomy_event p _ b.slots.items b.events.items _ _ _ _ _ _ _ c.self.invariant.1 refl tt refl c.push_reserved.ensures.capacity (said_stays p _ _ g (λ i. refl)),
     )

@@ -5,7 +5,7 @@ use Rattle.query_rules.specs.declared.step.Step.{Step}
 use Rattle.bolt_core.specs.declared.event.Event.{Event as Stored}
 use Rattle.bolt_core.specs.Boards.{CanHear, Shown, core_of}
 use Rattle.bolt_core.specs.contracts.board.Board.{the_view}
-use Rattle.bolt_core.proofs.Going.{roomy_event, told_length}
+use Rattle.bolt_core.proofs.Going.{roomy_event, said_stays, told_length}
 use Rattle.bolt_core.proofs.JobsTaken.{idle_on, steps_small, take_hears, take_on, take_taken}
 use Rattle.bolt_core.proofs.board.Board.take.Goals as goal
 
@@ -46,7 +46,7 @@ invariant_of-self-2 c =
     rw c.push_reserved.ensures.items (
       g.board,
       roomy_event p _ b.slots.items b.events.items _ _ _ _ _ _ _ c.self.invariant.1 refl tt c.take.ensures.room
-          c.push_reserved.ensures.capacity,
+          c.push_reserved.ensures.capacity (said_stays p _ _ g (λ i. refl)),
     )
 
 pub hear-requires : goal.hear-requires
