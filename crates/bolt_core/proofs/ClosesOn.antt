@@ -56,7 +56,7 @@ map_changed m f h xs same = map_changed_from m f h 0 xs (λ j x a.
     let e : j ≡ 0 + j = omega arith in
     subst (λ (l : ℕ). m (f l x) ≡ h l (m x)) e (same j x a))
 
-map_kept : {X Y : Type 0} (m : X → Y) (f : ℕ → X → X) (k : ℕ) (xs : List X) → ((j : ℕ) (x : X) → m (f j x) ≡ m x) →
+pub map_kept : {X Y : Type 0} (m : X → Y) (f : ℕ → X → X) (k : ℕ) (xs : List X) → ((j : ℕ) (x : X) → m (f j x) ≡ m x) →
     map m (changed_from k f xs) ≡ map m xs
 map_kept m f k [] same = refl
 map_kept m f k (x ∷ xs) same = ap (λ y. y ∷ map m (changed_from (suc k) f xs)) (same k x)
@@ -94,7 +94,7 @@ said_by true false member how o place s = refl
 said_by false shown true how o place s = refl
 said_by false shown false how o place s = refl
 
-abbrev Handed : Slot → Type 0
+abbrev pub Handed : Slot → Type 0
 Handed s = (low : Option ℕ) → s.closed ≡ Some (how.NotMay low) → s.published ≡ None →
     value_of s.summary ≡ Some (summary.NotMay s.query.value)
 
@@ -134,14 +134,14 @@ told_longer nq qs ts us (stored.Park w i n rest) s = refl
 told_longer nq qs ts us (stored.Close w i n shut from more) s = ap (closed w i n shut) (part_front ts us from more s)
 told_longer nq qs ts us (stored.Stop w) s = refl
 
-all_longer : (nq : ℕ) (qs : List Query) (ts us : List Summary) (xs : List Stored) → AllSettled nq (length ts) xs →
+pub all_longer : (nq : ℕ) (qs : List Query) (ts us : List Summary) (xs : List Stored) → AllSettled nq (length ts) xs →
     map (told_by qs (ts ++ us)) xs ≡ map (told_by qs ts) xs
 all_longer nq qs ts us [] s = refl
 all_longer nq qs ts us (x ∷ xs) s =
     ap (λ y. y ∷ map (told_by qs (ts ++ us)) xs) (told_longer nq qs ts us x (s 0 x refl))
     ∙ ap (λ ys. told_by qs ts x ∷ ys) (all_longer nq qs ts us xs (λ i e at. s (suc i) e at))
 
-longer_settled : (nq nt mt : ℕ) (x : Stored) → nt ≤ mt → IsSettled nq nt x → IsSettled nq mt x
+pub longer_settled : (nq nt mt : ℕ) (x : Stored) → nt ≤ mt → IsSettled nq nt x → IsSettled nq mt x
 longer_settled nq nt mt (stored.Take w i left steps waiting) le s = tt
 longer_settled nq nt mt (stored.Publish w i place) le s = omega (arith, le, s)
 longer_settled nq nt mt (stored.Ask w i n c) le s = s

@@ -48,3 +48,4 @@ pub mod InputValues
 pub mod TermValues
 pub mod Targets
 pub mod Verdicts
+pub mod Saying
