@@ -9,8 +9,6 @@ use Rattle.query_tree.specs.Forest.{at_rest, back_as, changed, child_of, close_a
 use Rattle.query_tree.proofs.Close.{close_cases}
 use Rattle.query_tree.proofs.Lists.{from_changed, from_pushed, to_changed, to_pushed}
 use Rattle.query_tree.proofs.Tests.{cond_eq, open_back, open_rest}
-use Rattle.summary_form.specs.declared.summary.Summary.{Summary}
-use Rattle.bolt_core.specs.declared.slot.ClosedAs.{ClosedAs}
 use Rattle.bolt_core.specs.Groups.{Node, closed_at}
 use Rattle.bolt_core.specs.Histories.{Told, asked, closed, fed as told_fed, parked, said, stopped, took}
 use Rattle.bolt_core.specs.Machine.{Closes, Core, Event, Reads, node_below, shows}

@@ -16,7 +16,7 @@ use Rattle.bolt_core.specs.Histories.{Told, asked, closed, closed_as, closes_by,
 use Rattle.bolt_core.specs.Keeps.{Keeps}
 use Rattle.bolt_core.specs.Machine.{AllOf, Closes, Core, Event, IsNews, Reads, closed_how, empty_board, node_of_root, opening}
 use Rattle.bolt_core.proofs.Agreeing.{closed_push, orelse}
-use Rattle.bolt_core.proofs.Changes.{Become, ClosesHere, WasClosed, event_become}
+use Rattle.bolt_core.proofs.Changes.{Become, ClosesHere, event_become}
 use Rattle.bolt_core.proofs.Nodes.{open_node}
 use Rattle.bolt_core.proofs.Payloads.{news_since}
 use Rattle.bolt_core.proofs.Reserve.{event_history}
@@ -49,7 +49,8 @@ module _ {S : Type 0} (R : Reads S) where
         told = closed_push h x i ∙ ap (λ o. orelse o (closes_by i x None)) k.told;
         within = omega (arith, k.within, length_push h x);
         first = ap (λ (xs : List Told). closed_as xs i) same ∙ k.first;
-        news = subst (λ (xs : List Told). AllOf (λ (a : Asked). IsNews a.news (closed_as xs a.child)) (R.entries k.state)) (sym same) k.news;
+        news = subst (λ (xs : List Told). AllOf (λ (a : Asked). IsNews a.news (closed_as xs a.child)) (R.entries k.state)) (sym same)
+            k.news;
       }
 
   module _ (roots : ℕ) (old new : Core S) (k : Keeps R roots old) where

@@ -41,7 +41,7 @@ under lead above (Some p) h = record {
   here = ⊎_elim (λ e. inl (sym (eqb-true lead p e))) (λ e. inr e) (or_cases (lead == p) (above p) h);
 }
 
-not_false : (b : Bool) → not b ≡ true → b ≡ false
+pub not_false : (b : Bool) → not b ≡ true → b ≡ false
 not_false true h = absurd (cc)
 not_false false h = refl
 

@@ -168,7 +168,8 @@ module _ (b : Shown) (h : IsBoard b) where
       let f : Some shut ≡ None = sym now ∙ z.first in absurd (cc))
       (cases_lt z.place n)
 
-  limit_upto : (n i : ℕ) (kind : LimitKind) (w : IsShut i (how.Stuck kind)) → (closing_of i (how.Stuck kind) w).place < n → HitsLimit b i kind
+  limit_upto : (n i : ℕ) (kind : LimitKind) (w : IsShut i (how.Stuck kind)) → (closing_of i (how.Stuck kind) w).place < n →
+      HitsLimit b i kind
   limit_upto zero i kind w lt = absurd (omega (arith, lt))
   limit_upto (suc n) i kind w lt =
       let z = closing_of i (how.Stuck kind) w in

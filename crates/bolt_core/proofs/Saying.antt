@@ -1,5 +1,5 @@
 -- What a board publishes of a dropped query is one event.
-use Rattle.std.proofs.Common.{◌≡◌, ℕ, ◌+◌, ◌*◌, ◌<◌, ◌≤◌, ◌^◌, List, [], ◌∷◌, ◌++◌, length, map, get_or, Bool, true, false, cond, Option, Some, None, Bor, refl, sym, ap, ◌∙◌, subst, ⊎_elim, arith}
+use Rattle.std.proofs.Common.{◌≡◌, ℕ, ◌+◌, ◌<◌, ◌≤◌, List, [], ◌∷◌, ◌++◌, length, map, get_or, Bool, true, false, cond, Option, Some, None, Bor, refl, sym, ap, ◌∙◌, subst, ⊎_elim, arith}
 use Rattle.std.specs.Prelude.{slice_get, slice_set, is_some, not, ◌==◌, ◌||◌}
 use Rattle.std.specs.Option.{option_copied}
 use Rattle.std.proofs.lemmas.Bool.{cond_both}
@@ -23,6 +23,7 @@ use Rattle.bolt_core.specs.States.{reads}
 use Rattle.bolt_core.proofs.BoardKeeps.{board_keeps, nodes_of}
 use Rattle.bolt_core.proofs.ClosesOn.{Handed, all_longer, longer_settled, map_kept}
 use Rattle.bolt_core.proofs.Going.{GoesOn, board_queries, goes_on, history_push}
+use Rattle.bolt_core.proofs.Groups.{not_false}
 use Rattle.bolt_core.proofs.JobsTaken.{has_slot}
 use Rattle.bolt_core.proofs.Nodes.{open_node, table_before}
 use Rattle.bolt_core.proofs.Publishes.{said_more}
@@ -62,10 +63,6 @@ module _ (p : Shown) (es : List (Entry Seen)) (ss : List Slot) (ts : List Summar
     slot_said : d.said ≡ has_said (history_of ss ts xs) i
     slot_said = r.said_is i d (at_place ss i d (slot_here lt) ∙ ap Some (sym is))
 
-    unsaid : (b : Bool) → not b ≡ true → b ≡ false
-    unsaid true e = absurd (cc)
-    unsaid false e = refl
-
     pub may_say : (o : Option (Bor Seen)) → is_some o ≡ false → ((e : Entry Seen) → slice_get es i ≡ Some e → option_copied o ≡ e.payload) →
         (stamp : ℕ) → ((e : Entry Seen) → slice_get es i ≡ Some e → Dropped stamp ≡ e.status) → not d.said ≡ true → MayBeSaid before i
     may_say o none held stamp dropped fresh =
@@ -76,7 +73,7 @@ module _ (p : Shown) (es : List (Entry Seen)) (ss : List Slot) (ts : List Summar
           stamp = stamp;
           dropped = sym (dropped e.0 e.1);
           out = sym (held e.0 e.1) ∙ none_copied o none;
-          once = sym slot_said ∙ unsaid d.said fresh;
+          once = sym slot_said ∙ not_false d.said fresh;
         }
 
     pub may_not_say : not d.said ≡ false → MayBeSaid before i → ⊥

@@ -1,5 +1,5 @@
 -- Marks of the target of a state that closed by a path: their inputs, and the runs on these.
-use Rattle.std.proofs.Common.{◌≡◌, ℕ, suc, ◌+◌, ◌<◌, false, ◌⊎◌, inl, inr, List, length, map, get_or, Option, None, Some, ℤ, arith, refl, sym, ap, ◌∙◌, subst}
+use Rattle.std.proofs.Common.{◌≡◌, ℕ, suc, ◌+◌, ◌<◌, false, inl, inr, List, length, map, get_or, Option, None, Some, ℤ, arith, refl, sym, ap, ◌∙◌, subst}
 use Rattle.std.specs.Prelude.{slice_get, option_map}
 use Rattle.std.proofs.lemmas.Option.{none-some, slice_get-map, slice_get_read, slice_get_within, same_Some}
 use Rattle.linear_formula.specs.LinearSum.{valuation}
@@ -10,7 +10,6 @@ use Rattle.summary_form.specs.Instances.{graph_runs}
 use Rattle.summary_form.specs.Musts.{values_of}
 use Rattle.summary_form.specs.Runs.{end_with}
 use Rattle.summary_form.specs.declared.query.ExitKind.{ExitKind}
-use Rattle.summary_form.specs.declared.query.ExitKind.TheVariants.{Fail}
 use Rattle.may_partition.specs.Parted.{end_node}
 use Rattle.must_region.specs.Paths.{outcome_of}
 use Rattle.must_region.specs.Traces.{Trace, trace_of}

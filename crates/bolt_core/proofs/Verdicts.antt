@@ -1,6 +1,6 @@
 -- What became of the roots of a board, by as what they closed.
-use Rattle.std.proofs.Common.{◌≡◌, ◌≢◌, ℕ, zero, suc, ◌+◌, ◌<◌, List, [], ◌∷◌, drop, Bool, true, false, cond, IsTrue, Option, Some, None, ℤ, refl, sym, ap, ◌∙◌, subst, ⊎_elim, arith}
-use Rattle.std.specs.Prelude.{slice_get, not, ◌==◌}
+use Rattle.std.proofs.Common.{◌≡◌, ℕ, zero, suc, ◌+◌, ◌<◌, List, [], ◌∷◌, Bool, true, false, cond, Option, Some, None, ℤ, refl, sym, ap, ◌∙◌, subst, arith}
+use Rattle.std.specs.Prelude.{slice_get, ◌==◌}
 use Rattle.std.proofs.lemmas.Bool.{eqb-true, or_parts}
 use Rattle.std.proofs.lemmas.Option.{none-some, same_Some}
 use Rattle.linear_formula.specs.LinearSum.{valuation}
@@ -16,7 +16,7 @@ use Rattle.query_tree.specs.declared.Entry.{Entry}
 use Rattle.query_tree.specs.declared.Status.{Status}
 use Rattle.query_tree.specs.declared.Status.TheVariants.{Ready, Running, Blocked, Starved, Closed, Dropped}
 use Rattle.query_tree.specs.Forest.{any, has_live, is_live, is_live_entry, is_none, is_open}
-use Rattle.query_tree.specs.Kept.{EndedAbove, Held, Holds, IsTree, Rooted, of_root, worth}
+use Rattle.query_tree.specs.Kept.{EndedAbove, Held, Holds, Rooted, of_root, worth}
 use Rattle.query_tree.proofs.Lists.{present, tally_same, within}
 use Rattle.query_rules.specs.Closings.{IsTargetMark}
 use Rattle.query_rules.specs.Seen.{Seen}
@@ -25,7 +25,6 @@ use Rattle.query_rules.specs.declared.step.Closing.TheVariants as closing
 use Rattle.bolt_core.specs.declared.slot.ClosedAs.{ClosedAs}
 use Rattle.bolt_core.specs.declared.slot.ClosedAs.TheVariants as how
 use Rattle.bolt_core.specs.Boards.{IsBoard, Shown, root_query}
-use Rattle.bolt_core.specs.Given.{IsGraded}
 use Rattle.bolt_core.specs.Groups.{Node, ancestors}
 use Rattle.bolt_core.specs.Histories.{closed_as}
 use Rattle.bolt_core.specs.Keeps.{GivenBy, Keeps}
@@ -37,6 +36,7 @@ use Rattle.bolt_core.proofs.BoardKeeps.{board_keeps}
 use Rattle.bolt_core.proofs.Closings.{HasClosing}
 use Rattle.bolt_core.proofs.Conditions.{Within, graded, table_holds}
 use Rattle.bolt_core.proofs.Firsts.{IsFirst, board_first}
+use Rattle.bolt_core.proofs.Groups.{not_false}
 use Rattle.bolt_core.proofs.Limits.{IsShut, closed_in, closing_of, limit_of, must_is, not_may_is, payload_of, same_told, shut_there, state_of, stuck_is}
 use Rattle.bolt_core.proofs.StatesLawful.{closed_state}
 use Rattle.bolt_core.proofs.Targets.{fails_there}
@@ -72,10 +72,6 @@ none_any p (y ∷ xs) h zero x a =
     let v : y ≡ x = cc in
     ap p (sym v) ∙ (or_parts (p y) (any p xs) h).0
 none_any p (y ∷ xs) h (suc i) x a = none_any p xs (or_parts (p y) (any p xs) h).1 i x a
-
-over_none : (x : Bool) → not x ≡ true → x ≡ false
-over_none true h = absurd (cc)
-over_none false h = refl
 
 module _ (b : Shown) (h : IsBoard b) (root : ℕ) (lt : root < b.asserts) where
   keeps : Keeps (reads b.graphs) b.asserts b.core
@@ -133,7 +129,8 @@ module _ (b : Shown) (h : IsBoard b) (root : ℕ) (lt : root < b.asserts) where
       let y = z (how.Stuck kind) told in
       record {
         state = y.state;
-        closed = closed_in b h root (how.Stuck kind) v y (closing.Stuck kind) (stuck_is (reads b.graphs) y.state.level y.state y.closing kind
+        closed = closed_in b h root (how.Stuck kind) v y (closing.Stuck kind) (stuck_is (reads b.graphs) y.state.level y.state y.closing
+            kind
             (same_told b h root (how.Stuck kind) v y));
         query = state_asks (how.Stuck kind) told;
         down = limit_of b h root kind v;
@@ -207,7 +204,8 @@ module _ (b : Shown) (h : IsBoard b) (root : ℕ) (lt : root < b.asserts) where
             inputs = a.inputs;
             depth = run.0;
             run = subst (λ p. graph_runs b.graphs run.0 p (values_of (valuation a.mark.point) a.trail.entry) list (failed root)) proc
-                (subst (λ l. graph_runs b.graphs run.0 st.model.query.proc (values_of (valuation a.mark.point) a.trail.entry) l (failed root))
+                (subst (λ l. graph_runs b.graphs run.0 st.model.query.proc (values_of (valuation a.mark.point) a.trail.entry) l
+                (failed root))
                 (sym a.inputs) run.1);
           }
 
@@ -230,7 +228,7 @@ module _ (b : Shown) (h : IsBoard b) (root : ℕ) (lt : root < b.asserts) where
 
   module _ (none : closed_as b.core.history root ≡ None) (over : is_over (reads b.graphs) b.core ≡ true) where
     not_live : has_live b.core.entries ≡ false
-    not_live = over_none (has_live b.core.entries) over
+    not_live = not_false (has_live b.core.entries) over
 
     -- it isn't closed, and no root is dropped
     root_open : (s : Status) → first.own.status ≡ s → is_open first.own.status ≡ true

@@ -177,7 +177,7 @@ impl Board {
             closed: None,
             summary: None,
             published: None,
-                said: false,
+            said: false,
         });
         self.events.push_reserved(Event::Ask {
             worker,

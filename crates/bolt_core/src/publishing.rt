@@ -47,6 +47,7 @@ impl Board {
         self.slots[id as usize].said = true;
         let place = self.table.all().len() as u32;
         self.table.push(summary);
-        self.events.push_reserved(Event::Publish { worker, id, place });
+        self.events
+            .push_reserved(Event::Publish { worker, id, place });
     }
 }

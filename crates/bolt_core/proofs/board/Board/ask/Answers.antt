@@ -42,7 +42,8 @@ overflow_cast-number c =
     in
     let v : IsNow p.core c.args.job.id c.args.job.taken =
     subst (λ (x : Shown). IsNow x.core c.args.job.id c.args.job.taken) (sym c.self.view_is) c.in_default.ensures in
-    let z : Slot = record { parent = None; level = 0; query = c.args.query; closed = None; summary = None; said = false; published = None } in
+    let z : Slot = record { parent = None; level = 0; query = c.args.query; closed = None; summary = None; said = false; published = None }
+    in
     let room = ask_room p b.forest.entries b.slots.items b.table.summaries b.events.items b.stopped c.args.worker c.args.job c.args.child z
     _ _ _ _ c.self.invariant.0 c.self.invariant.1 m v in
     let len : length b.forest.entries ≡ length b.slots.items =
@@ -71,7 +72,8 @@ overflow_add-level c =
     in
     let v : IsNow p.core c.args.job.id c.args.job.taken =
     subst (λ (x : Shown). IsNow x.core c.args.job.id c.args.job.taken) (sym c.self.view_is) c.in_default.ensures in
-    let z : Slot = record { parent = None; level = 0; query = c.args.query; closed = None; summary = None; said = false; published = None } in
+    let z : Slot = record { parent = None; level = 0; query = c.args.query; closed = None; summary = None; said = false; published = None }
+    in
     let room = ask_room p b.forest.entries b.slots.items b.table.summaries b.events.items b.stopped c.args.worker c.args.job c.args.child z
     _ _ _ _ c.self.invariant.0 c.self.invariant.1 m v in
     let len : length b.forest.entries ≡ length b.slots.items =
@@ -91,7 +93,8 @@ overflow_cast-last c =
     in
     let v : IsNow p.core c.args.job.id c.args.job.taken =
     subst (λ (x : Shown). IsNow x.core c.args.job.id c.args.job.taken) (sym c.self.view_is) c.in_default.ensures in
-    let z : Slot = record { parent = None; level = 0; query = c.args.query; closed = None; summary = None; said = false; published = None } in
+    let z : Slot = record { parent = None; level = 0; query = c.args.query; closed = None; summary = None; said = false; published = None }
+    in
     let room = ask_room p b.forest.entries b.slots.items b.table.summaries b.events.items b.stopped c.args.worker c.args.job c.args.child z
     _ _ _ _ c.self.invariant.0 c.self.invariant.1 m v in
     omega (arith, ap (λ (l : List Asked). length l) c.asked.ensures, asked_few p c.self.invariant.0 c.args.job m.sound v room.1)
@@ -148,7 +151,8 @@ ask-requires-clause-room c =
     in
     let v : IsNow p.core c.args.job.id c.args.job.taken =
     subst (λ (x : Shown). IsNow x.core c.args.job.id c.args.job.taken) (sym c.self.view_is) c.in_default.ensures in
-    let z : Slot = record { parent = None; level = 0; query = c.args.query; closed = None; summary = None; said = false; published = None } in
+    let z : Slot = record { parent = None; level = 0; query = c.args.query; closed = None; summary = None; said = false; published = None }
+    in
     let room = ask_room p b.forest.entries b.slots.items b.table.summaries b.events.items b.stopped c.args.worker c.args.job c.args.child z
     _ _ _ _ c.self.invariant.0 c.self.invariant.1 m v in
     omega (arith, room.0, c.self.invariant.1.queries)
@@ -163,7 +167,8 @@ push_reserved-requires c =
     in
     let v : IsNow p.core c.args.job.id c.args.job.taken =
     subst (λ (x : Shown). IsNow x.core c.args.job.id c.args.job.taken) (sym c.self.view_is) c.in_default.ensures in
-    let z : Slot = record { parent = None; level = 0; query = c.args.query; closed = None; summary = None; said = false; published = None } in
+    let z : Slot = record { parent = None; level = 0; query = c.args.query; closed = None; summary = None; said = false; published = None }
+    in
     let room = ask_room p b.forest.entries b.slots.items b.table.summaries b.events.items b.stopped c.args.worker c.args.job c.args.child z
     _ _ _ _ c.self.invariant.0 c.self.invariant.1 m v in
     let len : length b.forest.entries ≡ length b.slots.items =
@@ -180,7 +185,8 @@ push_reserved-requires-2 c =
     in
     let v : IsNow p.core c.args.job.id c.args.job.taken =
     subst (λ (x : Shown). IsNow x.core c.args.job.id c.args.job.taken) (sym c.self.view_is) c.in_default.ensures in
-    let z : Slot = record { parent = None; level = 0; query = c.args.query; closed = None; summary = None; said = false; published = None } in
+    let z : Slot = record { parent = None; level = 0; query = c.args.query; closed = None; summary = None; said = false; published = None }
+    in
     let len : length b.forest.entries ≡ length b.slots.items =
     (board_keeps p c.self.invariant.0).paired.count ∙ length-map b.slots.items node_of in
     let s = slot_at p b.slots.items c.self.invariant.0 refl c.args.job m.sound c.index.result.now
@@ -214,7 +220,8 @@ invariant_of-self c =
     in
     let v : IsNow p.core c.args.job.id c.args.job.taken =
     subst (λ (x : Shown). IsNow x.core c.args.job.id c.args.job.taken) (sym c.self.view_is) c.in_default.ensures in
-    let z : Slot = record { parent = None; level = 0; query = c.args.query; closed = None; summary = None; said = false; published = None } in
+    let z : Slot = record { parent = None; level = 0; query = c.args.query; closed = None; summary = None; said = false; published = None }
+    in
     let len : length b.forest.entries ≡ length b.slots.items =
     (board_keeps p c.self.invariant.0).paired.count ∙ length-map b.slots.items node_of in
     let s = slot_at p b.slots.items c.self.invariant.0 refl c.args.job m.sound c.index.result.now
@@ -254,7 +261,8 @@ returns-clause-asked c =
     in
     let v : IsNow p.core c.args.job.id c.args.job.taken =
     subst (λ (x : Shown). IsNow x.core c.args.job.id c.args.job.taken) (sym c.self.view_is) c.in_default.ensures in
-    let z : Slot = record { parent = None; level = 0; query = c.args.query; closed = None; summary = None; said = false; published = None } in
+    let z : Slot = record { parent = None; level = 0; query = c.args.query; closed = None; summary = None; said = false; published = None }
+    in
     let len : length b.forest.entries ≡ length b.slots.items =
     (board_keeps p c.self.invariant.0).paired.count ∙ length-map b.slots.items node_of in
     let s = slot_at p b.slots.items c.self.invariant.0 refl c.args.job m.sound c.index.result.now

@@ -1,4 +1,4 @@
-use Rattle.std.proofs.Common.{◌≡◌, ◌<◌, length, List, Some, refl, sym, ap, ◌∙◌, subst, arith}
+use Rattle.std.proofs.Common.{◌≡◌, ◌<◌, length, List, Some, sym, ap, ◌∙◌, subst, arith}
 use Rattle.std.specs.Prelude.{slice_get, slice_index_or}
 use Rattle.std.proofs.lemmas.Option.{slice_get_within}
 use Rattle.std.proofs.lemmas.Result.{IfOk-weaker}
@@ -26,7 +26,13 @@ payload-requires c =
 graph_there : (p : Shown) → IsBoard p → (gs : List Graph) → gs ≡ p.graphs → (g : Graph) → g ≡ slice_index_or gs p.main g →
     slice_get p.graphs p.main ≡ Some g
 graph_there p h gs same g is =
-    item_there gs p.graphs p.main g same (omega (arith, slice_get_within p.graphs p.main h.graph h.main, ap (λ (xs : List Graph). length xs) same)) is
+    item_there gs p.graphs p.main g same (omega (
+      arith,
+      slice_get_within p.graphs p.main h.graph h.main,
+      ap (λ (xs : List Graph). length xs)
+          same,
+    ))
+    is
 
 pub inputs_found-requires : goal.inputs_found-requires
 inputs_found-requires c =

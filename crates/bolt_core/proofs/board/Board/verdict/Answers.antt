@@ -1,4 +1,4 @@
-use Rattle.std.proofs.Common.{◌≡◌, ℕ, ◌<◌, List, length, map, get_or, Some, None, refl, sym, ap, ◌∙◌, subst, true, arith}
+use Rattle.std.proofs.Common.{◌≡◌, ℕ, ◌<◌, List, length, map, get_or, Some, refl, sym, ap, ◌∙◌, subst, true, arith}
 use Rattle.query_tree.proofs.Lists.{at_place, within}
 use Rattle.bolt_core.specs.declared.slot.ClosedAs.TheVariants as how
 use Rattle.bolt_core.specs.declared.slot.Slot.{Slot}
