@@ -19,7 +19,7 @@ pub record HasRoom (room for_latest for_older for_work : ℕ) : Type 0 where
 abbrev pub with_work : Kin → List ℕ → Kin
 with_work r ps = record { latest = r.latest; older = r.older; work = ps; room = r.room }
 
--- the rest of the fields stay
+-- a new query, which has no child and is the latest of its parent, if it has one
 pub record Joins (r s : Kin) (parent : Option ℕ) : Type 0 where
   pub room : s.room ≡ r.room
   pub latest_size : length s.latest ≡ length r.latest + 1
