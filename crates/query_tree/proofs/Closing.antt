@@ -1,34 +1,33 @@
 -- The code of a close, part by part.
-use Rattle.std.proofs.Common.{◌≡◌, ℕ, ◌+◌, ◌^◌, ◌<◌, ◌≤◌, List, length, false, cond, Option, Some, None, refl, sym, ap, ◌∙◌, arith}
+use Rattle.std.proofs.Common.{◌≡◌, ℕ, ◌+◌, ◌^◌, ◌<◌, ◌≤◌, List, false, cond, Option, Some, None, refl, sym, ap, ◌∙◌, arith}
 use Rattle.std.specs.Prelude.{slice_get, get_or, ◌==◌}
 use Rattle.std.proofs.lemmas.Bool.{and_parts, both_ways, eq-eqb, ne_eqb, false_from_ne_true}
 use Rattle.std.proofs.lemmas.Option.{get_or_from_slice_get}
 use Rattle.query_tree.specs.declared.Status.TheVariants.{Running, Closed}
 use Rattle.query_tree.specs.declared.Entry.{Entry}
-use Rattle.query_tree.specs.Forest.{changed, tally, is_open, is_place, is_none, given, paid, purse, is_under, is_lost, lost_left, dropped_upto, close_at, after_close}
+use Rattle.query_tree.specs.Forest.{changed, tally, is_open, is_place, is_none, given, paid, purse, is_under, is_lost, lost_left, dropped_at, close_at, after_close}
 use Rattle.query_tree.specs.Kept.{IsKept}
-use Rattle.query_tree.proofs.Lists.{to_changed, changed_changed, changed_same, within}
+use Rattle.query_tree.proofs.Lists.{to_changed, changed_changed, changed_same}
 use Rattle.query_tree.proofs.Tests.{cond_eq, is_place_at, one_at}
 use Rattle.query_tree.proofs.Close.{rooted_parent, under_below, close_cases, close_kept}
 use Rattle.query_tree.proofs.Feed.{one_le}
-use Rattle.query_tree.proofs.Drops.{earlier}
 
 module _ {T : Type 0} where
   module _ (es : List (Entry T)) (own : Entry T) (i : ℕ) (at : slice_get es i ≡ Some own) (runs : own.status ≡ Running) (s : ℕ) (p : T)
       (stamp : ℕ) (le : s ≤ own.lent) (h : IsKept es) where
     abbrev pub dropped : List (Entry T)
-    dropped = changed (dropped_upto es i stamp (length es)) es
+    dropped = changed (dropped_at es i stamp) es
 
     -- what stands at i or below is not dropped
-    below_stays : (k : ℕ) (e : Entry T) → k ≤ i → slice_get es k ≡ Some e → dropped_upto es i stamp (length es) k e ≡ e
-    below_stays k e le a = earlier es i stamp (length es) k e (within es k e a) ∙ rw (not_lost k e le) refl
+    below_stays : (k : ℕ) (e : Entry T) → k ≤ i → slice_get es k ≡ Some e → dropped_at es i stamp k e ≡ e
+    below_stays k e le a = rw (not_lost k e le) refl
       where
         not_lost : (k : ℕ) (e : Entry T) → k ≤ i → is_lost es i k e ≡ false
         not_lost k e le = false_from_ne_true (is_lost es i k e)
             (λ l. absurd (omega (arith, under_below es h.tree k i k (and_parts (is_open e.status) (is_under es k i k) l).1)))
 
     pub own_stays : slice_get dropped i ≡ Some own
-    own_stays = to_changed (dropped_upto es i stamp (length es)) es i own at ∙ ap Some (below_stays i own (omega arith) at)
+    own_stays = to_changed (dropped_at es i stamp) es i own at ∙ ap Some (below_stays i own (omega arith) at)
 
     left_le : s ≤ own.left
     left_le = let l : own.lent ≤ own.left = rw runs at ((h.each.fine i own at).holds) in omega arith
@@ -69,19 +68,19 @@ module _ {T : Type 0} where
     pub closes_root : own.parent ≡ None → changed (λ k e. cond (k == i) (given Closed (purse es own i s) s p e) e) dropped ≡ after_close es
         own i s p stamp
     closes_root n =
-        changed_changed (dropped_upto es i stamp (length es)) (λ k e. cond (k == i) (given Closed (purse es own i s) s p e) e) 0 es
+        changed_changed (dropped_at es i stamp) (λ k e. cond (k == i) (given Closed (purse es own i s) s p e) e) 0 es
         ∙ changed_same _ (close_at es own i s p stamp) es (λ k e a. cond_eq (λ (y : Entry T). y ≡ close_at es own i s p stamp k e) k i _ _
         (λ d. rw (eq-eqb k i d, n, one_at es i k own e at a d, d, below_stays i own (omega arith) at) refl)
-        (λ d. rw (ne_eqb k i d, n) (earlier es i stamp (length es) k e (within es k e a))))
+        (λ d. rw (ne_eqb k i d, n) refl))
 
     pub closes_child : (q : ℕ) → own.parent ≡ Some q → changed (λ k e. cond (k == q) (paid (purse es own i s) e) e)
         (changed (λ k e. cond (k == i) (given Closed 0 s p e) e) dropped) ≡ after_close es own i s p stamp
     closes_child q n =
         let r = rooted_parent es h.tree i own q at n in
-        ap (changed (λ k e. cond (k == q) (paid (purse es own i s) e) e)) (changed_changed (dropped_upto es i stamp (length es))
+        ap (changed (λ k e. cond (k == q) (paid (purse es own i s) e) e)) (changed_changed (dropped_at es i stamp)
         (λ k e. cond (k == i) (given Closed 0 s p e) e) 0 es)
-        ∙ (changed_changed (λ k e. cond (k == i) (given Closed 0 s p (dropped_upto es i stamp (length es) k e))
-        (dropped_upto es i stamp (length es) k e)) (λ k e. cond (k == q) (paid (purse es own i s) e) e) 0 es
+        ∙ (changed_changed (λ k e. cond (k == i) (given Closed 0 s p (dropped_at es i stamp k e))
+        (dropped_at es i stamp k e)) (λ k e. cond (k == q) (paid (purse es own i s) e) e) 0 es
         ∙ changed_same _ (close_at es own i s p stamp) es (λ k e a. at_each q n r.0 k e a))
       where
         paid_here : (q : ℕ) → own.parent ≡ Some q → q < i → (k : ℕ) (e : Entry T) → slice_get es k ≡ Some e → k ≡ q →
@@ -93,15 +92,15 @@ module _ {T : Type 0} where
             (λ _ _ u. absurd (both_ways (is_place own.parent k) u (is_place_at own.parent k (n ∙ ap Some (sym d)))))
 
         at_each : (q : ℕ) → own.parent ≡ Some q → q < i → (k : ℕ) (e : Entry T) → slice_get es k ≡ Some e
-            → cond (k == q) (paid (purse es own i s) (cond (k == i) (given Closed 0 s p (dropped_upto es i stamp (length es) k e))
-            (dropped_upto es i stamp (length es) k e))) (cond (k == i) (given Closed 0 s p (dropped_upto es i stamp (length es) k e))
-            (dropped_upto es i stamp (length es) k e)) ≡ close_at es own i s p stamp k e
+            → cond (k == q) (paid (purse es own i s) (cond (k == i) (given Closed 0 s p (dropped_at es i stamp k e))
+            (dropped_at es i stamp k e))) (cond (k == i) (given Closed 0 s p (dropped_at es i stamp k e))
+            (dropped_at es i stamp k e)) ≡ close_at es own i s p stamp k e
         at_each q n lt k e a = cond_eq (λ (y : Entry T). y ≡ close_at es own i s p stamp k e) k q _ _
             (λ d. ap (paid (purse es own i s)) (cond_eq (λ (y : Entry T). y ≡ e) k i _ _ (λ x. absurd (omega (arith, x, d, lt)))
             (λ _. below_stays k e (omega (arith, d, lt)) a)) ∙ sym (paid_here q n lt k e a d))
             (λ d. cond_eq (λ (y : Entry T). y ≡ close_at es own i s p stamp k e) k i _ _
             (λ x. rw (eq-eqb k i x, n, one_at es i k own e at a x, x, below_stays i own (omega arith) at) refl)
-            (λ x. rw (ne_eqb k i x, n, ne_eqb k q d) (earlier es i stamp (length es) k e (within es k e a))))
+            (λ x. rw (ne_eqb k i x, n, ne_eqb k q d) refl))
 
     -- after the drops
     pub own_now : (fs : List (Entry T)) → fs ≡ dropped → (d : Entry T) → get_or fs i d ≡ own
@@ -120,7 +119,7 @@ module _ {T : Type 0} where
     parent_now q n fs gs is is2 x a =
         let r = rooted_parent es h.tree i own q at n in
         let f : ℕ → Entry T → Entry T = λ k e. cond (k == i) (given Closed 0 s p e) e in
-        let b : slice_get dropped q ≡ Some r.1 = to_changed (dropped_upto es i stamp (length es)) es q r.1 r.2
+        let b : slice_get dropped q ≡ Some r.1 = to_changed (dropped_at es i stamp) es q r.1 r.2
         ∙ ap Some (below_stays q r.1 (omega (arith, r.0)) r.2) in
         let c : slice_get (changed f dropped) q ≡ Some r.1 = to_changed f dropped q r.1 b ∙ rw (ne_eqb q i (λ d. omega (arith, d, r.0)))
         refl

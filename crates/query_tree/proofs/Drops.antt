@@ -1,187 +1,396 @@
--- The open queries under one are dropped from the lowest place on.
-use Rattle.std.proofs.Common.{◌≡◌, ℕ, zero, suc, ◌+◌, ◌<◌, ◌≤◌, List, length, Bool, true, false, cond, Option, Some, None, refl, sym, ap, ◌∙◌, subst, inl, inr, ⊎_elim, arith}
-use Rattle.std.specs.Prelude.{slice_get, slice_set, get_or, ◌==◌, nat_lt, ◌&&◌, not}
-use Rattle.std.proofs.lemmas.Bool.{cond_both, and_parts, and_from, or_cases, or_left, or_right, both_ways, cases_Bool, cases_eq, eq-eqb, ne_eqb, eqb-true, not-true, lt-ltb, le-ltb}
-use Rattle.std.proofs.lemmas.Bool.Decides.{nat_tests}
-use Rattle.std.proofs.lemmas.Option.{get_or_from_slice_get}
-use Rattle.query_tree.specs.declared.Status.TheVariants.{Dropped}
+-- The open queries under one are dropped, each before its children.
+use Rattle.std.proofs.Common.{◌≡◌, ℕ, zero, suc, ◌+◌, ◌*◌, ◌<◌, ◌≤◌, List, [], ◌∷◌, ◌++◌, length, Bool, true, false, cond, Option, Some, None, refl, sym, ap, ◌∙◌, subst, ◌⊎◌, inl, inr, ⊎_elim, arith}
+use Rattle.std.specs.Prelude.{slice_get, ◌==◌, ◌||◌}
+use Rattle.std.specs.List.{Contains}
+use Rattle.std.proofs.lemmas.Bool.{cond_both, and_parts, both_ways, cases_Bool, cases_eq, eq-eqb, ne_eqb, false_from_ne_true}
+use Rattle.std.proofs.lemmas.List.{length_push}
+use Rattle.std.proofs.lemmas.List.Elements.{Contains-push, Contains-push_cases, Contains-append_left}
+use Rattle.std.proofs.lemmas.Nat.{mul-add-lt}
+use Rattle.std.proofs.Math.Nat.{mul_comm}
 use Rattle.query_tree.specs.declared.Entry.{Entry}
-use Rattle.query_tree.specs.Forest.{changed, tally, is_open, open_at, is_cut_by, is_cut, is_above, parent_of, is_under, is_lost, lost_left, dropped_upto, left_upto}
+use Rattle.query_tree.specs.Forest.{changed, tally, is_open, is_place, is_above, parent_of, is_under, is_lost, lost_left, dropped, dropped_at}
 use Rattle.query_tree.specs.Kept.{OpenAbove, IsTree, IsShut}
-use Rattle.query_tree.proofs.Lists.{to_changed, from_changed, changed_same, changed_changed, unchanged, set_changed, length_changed, present, within, tally_same, tally_plus, tally_one, tally_le, tally_zero}
-use Rattle.query_tree.proofs.Tests.{cond_eq, one_at}
+use Rattle.query_tree.specs.Kin.{Kin, child_below, Links}
+use Rattle.query_tree.specs.Live.{one}
+use Rattle.query_tree.proofs.Chains.{Greatest, below_some, below_none, below_same, parents_changed}
 use Rattle.query_tree.proofs.Close.{rooted_parent, under_step, under_parent}
+use Rattle.query_tree.proofs.Counting.{tally_swap, tally_has, tally_most}
+use Rattle.query_tree.proofs.Keeps.{SameFrame, tree_changed}
+use Rattle.query_tree.proofs.Lists.{to_changed, from_changed, changed_same, changed_changed, unchanged, length_changed, present, within, tally_same, tally_zero}
+use Rattle.query_tree.proofs.Tests.{cond_eq, one_at}
 
-same_test : (a b : Bool) → (a ≡ true → b ≡ true) → (b ≡ true → a ≡ true) → a ≡ b
-same_test true b f h = sym (f refl)
-same_test false true f h = h refl
-same_test false false f h = refl
+-- where a walk is along the children of one query
+abbrev pub place_of : Option ℕ → ℕ
+place_of None = 0
+place_of (Some c) = suc c
+
+no_work : (p : ℕ) → Contains [] p → ⊥
+no_work p h = omega (arith, h.1)
+
+above_same : (f g : ℕ → Bool) (i : ℕ) (o : Option ℕ) → ((p : ℕ) → f p ≡ g p) → is_above f i o ≡ is_above g i o
+above_same f g i None h = refl
+above_same f g i (Some p) h = ap (λ b. (p == i) || b) (h p)
+
+rank_lower : (m n k p q : ℕ) → m + 1 ≤ k → p < n → m * n + p < k * n + q
+rank_lower m n k p q le lt = omega (arith, mul-add-lt m n p k (omega arith) lt, mul_comm n k)
 
 module _ {T : Type 0} where
-  abbrev pub drop_entry : ℕ → Entry T → Entry T
-  drop_entry stamp e = record e { status = Dropped stamp; left = 0 }
+  abbrev pub opened : ℕ → Entry T → ℕ
+  opened k e = one (is_open e.status)
 
-  module _ (es : List (Entry T)) (i stamp : ℕ) where
-    -- an entry from the n-th on is as before
-    pub later : (n k : ℕ) (e : Entry T) → n ≤ k → dropped_upto es i stamp n k e ≡ e
-    later n k e le = rw (le-ltb k n le) refl
+  -- what falls as a walk goes on
+  abbrev pub to_walk : List (Entry T) → List ℕ → Option ℕ → ℕ
+  to_walk es work at = (2 * tally opened es + length work) * suc (length es) + place_of at
 
-    pub earlier : (n k : ℕ) (e : Entry T) → k < n → dropped_upto es i stamp n k e ≡ cond (is_lost es i k e) (drop_entry stamp e) e
-    earlier n k e lt = rw (lt-ltb k n lt) refl
+  -- the query that closes, or one under it
+  pub record Goes (es : List (Entry T)) (id p : ℕ) : Type 0 where
+    pub here : p < length es
+    pub up : (p ≡ id) ⊎ (is_under es p id p ≡ true)
 
-    pub none_dropped : es ≡ changed (dropped_upto es i stamp 0) es
-    none_dropped = sym (unchanged (dropped_upto es i stamp 0) es (λ k e a. later 0 k e (omega arith)))
+  -- the query that closes, or one that is not open
+  abbrev pub Cut : List (Entry T) → ℕ → ℕ → Type 0
+  Cut es id p = (p ≡ id) ⊎ ((q : Entry T) → slice_get es p ≡ Some q → is_open q.status ≡ false)
 
-    pub nothing_left : 0 ≡ tally (left_upto es i 0) es
-    nothing_left = sym (tally_same (left_upto es i 0) (λ _ _. 0) es (λ k e a. rw (le-ltb k 0 (omega arith)) refl) ∙ tally_zero 0 es)
+  -- A walk, from the entries at first to those now: what is open under what closes or is not open is still to come
+  pub record Walk (es fs : List (Entry T)) (id stamp left : ℕ) (work : List ℕ) (at : Option ℕ) : Type 0 where
+    pub tree : IsTree fs
+    pub size : length fs ≡ length es
+    pub becomes : changed (dropped_at fs id stamp) fs ≡ changed (dropped_at es id stamp) es
+    pub sum : left + tally (lost_left fs id) fs ≡ tally (lost_left es id) es
+    pub few : length work + tally opened fs ≤ length fs
+    pub current : ℕ
+    pub bound : ℕ
+    pub inside : bound ≤ length fs
+    pub place : at ≡ child_below fs current bound
+    pub goes : Goes fs id current
+    pub goes_all : (p : ℕ) → Contains work p → Goes fs id p
+    pub ahead : (k : ℕ) (e : Entry T) (p : ℕ) → slice_get fs k ≡ Some e → is_open e.status ≡ true → e.parent ≡ Some p → Cut fs id p →
+        Contains work p ⊎ ((p ≡ current) × (k < bound))
 
-    pub here : (n : ℕ) (e : Entry T) → slice_get es n ≡ Some e → slice_get (changed (dropped_upto es i stamp n) es) n ≡ Some e
-    here n e a = to_changed (dropped_upto es i stamp n) es n e a ∙ ap Some (later n n e (omega arith))
+  -- the parent of what stands in a place
+  parent_at : (es : List (Entry T)) (k : ℕ) (e : Entry T) (p : ℕ) → slice_get es k ≡ Some e → e.parent ≡ Some p →
+      parent_of (slice_get es k) ≡ Some p
+  parent_at es k e p a n = ap parent_of a ∙ n
 
-    open_now : (n p : ℕ) (q : Entry T) → slice_get es p ≡ Some q → p < n → is_open q.status ≡ true →
-        open_at (slice_get (changed (dropped_upto es i stamp n) es) p) ≡ not (is_lost es i p q)
-    open_now n p q a lt o = ap open_at (to_changed (dropped_upto es i stamp n) es p q a)
-        ∙ (ap (λ (x : Entry T). is_open x.status) (earlier n p q lt) ∙ by_test (is_lost es i p q))
-      where
-        by_test : (b : Bool) → is_open (cond b (drop_entry stamp q) q).status ≡ not b
-        by_test true = refl
-        by_test false = o
+  pub walk_start : (es : List (Entry T)) (id stamp : ℕ) (at : Option ℕ) → IsTree es → IsShut es → id < length es →
+      at ≡ child_below es id (length es) → Walk es es id stamp 0 [] at
+  walk_start es id stamp at t s lt place = record {
+    tree = t;
+    size = refl;
+    becomes = refl;
+    sum = omega arith;
+    few = omega (arith, tally_most (λ j (e : Entry T). is_open e.status) es);
+    current = id;
+    bound = length es;
+    inside = omega arith;
+    place = place;
+    goes = record { here = lt; up = inl refl };
+    goes_all = λ p w. absurd (no_work p w);
+    ahead = λ k e p a o n cut. ⊎_elim
+        (λ d. inr (d, within es k e a))
+        (λ off.
+        let r = rooted_parent es t k e p a n in
+        let above : OpenAbove es (Some p) = subst (OpenAbove es) n (s.above k e a o) in
+        absurd (both_ways (is_open r.1.status) (off r.1 r.2) (above r.1 r.2)))
+        cut;
+  }
 
-    cut_under : IsTree es → IsShut es → (n : ℕ) (e : Entry T) → slice_get es n ≡ Some e → is_open e.status ≡ true → (o : Option ℕ) →
-        e.parent ≡ o → is_cut_by (λ p. open_at (slice_get (changed (dropped_upto es i stamp n) es) p)) i o ≡ true → is_under es n i n ≡ true
-    cut_under t s n e a open' None is h = absurd (cc)
-    cut_under t s n e a open' (Some p) is h =
-        let r = rooted_parent es t n e p a is in
-        let above : OpenAbove es (Some p) = subst (OpenAbove es) is (s.above n e a open') in
-        let up : is_open r.1.status ≡ true = above r.1 r.2 in
-        under_step es i n e p a is r.0 (⊎_elim
-        (λ d. inl (eqb-true p i d))
-        (λ d. inr (⊎_elim (λ k. (and_parts (is_open r.1.status) (is_under es p i p) k).1)
-        (λ k. let x = open_now n p r.1 r.2 r.0 up in absurd (both_ways _ (not-true _ d) (x ∙ ap not k)))
-        (cases_Bool (is_lost es i p r.1))))
-        (or_cases (p == i) _ h))
+  module _ (es fs : List (Entry T)) (id stamp left : ℕ) (work : List ℕ) where
+    -- to the children of the next query
+    pub walk_pop : (p : ℕ) (at : Option ℕ) → Walk es fs id stamp left (work ++ p ∷ []) None → at ≡ child_below fs p (length fs) →
+        Walk es fs id stamp left work at
+    walk_pop p at w place = record {
+      tree = w.tree;
+      size = w.size;
+      becomes = w.becomes;
+      sum = w.sum;
+      few = omega (arith, w.few, length_push work p);
+      current = p;
+      bound = length fs;
+      inside = omega arith;
+      place = place;
+      goes = w.goes_all p (Contains-push work p);
+      goes_all = λ q c. w.goes_all q (Contains-append_left work (p ∷ []) q c);
+      ahead = λ k e q a o n cut. ⊎_elim
+          (λ c. ⊎_elim (λ d. inl d) (λ d. inr (sym d, within fs k e a)) (Contains-push_cases work p q c))
+          (λ c. absurd (below_none fs w.current w.bound k (sym w.place) c.1 (parent_at fs k e q a n ∙ ap Some c.0)))
+          (w.ahead k e q a o n cut);
+    }
 
-    under_cut : IsTree es → IsShut es → (n : ℕ) (e : Entry T) → slice_get es n ≡ Some e → is_open e.status ≡ true → (o : Option ℕ) →
-        e.parent ≡ o → is_under es n i n ≡ true → is_cut_by (λ p. open_at (slice_get (changed (dropped_upto es i stamp n) es) p)) i o ≡ true
-    under_cut t s zero e a open' o is h = absurd (cc)
-    under_cut t s (suc n) e a open' None is h = no_parent (suc n) e a is h
-      where
-        no_parent : (n : ℕ) (e : Entry T) → slice_get es n ≡ Some e → e.parent ≡ None → is_under es n i n ≡ true → false ≡ true
-        no_parent zero e a is h = h
-        no_parent (suc n) e a is h = subst (λ o. is_above (is_under es n i) i o ≡ true) (ap parent_of a ∙ is) h
-    under_cut t s (suc n) e a open' (Some p) is h =
-        let r = rooted_parent es t (suc n) e p a is in
-        let above : OpenAbove es (Some p) = subst (OpenAbove es) is (s.above (suc n) e a open') in
-        let up : is_open r.1.status ≡ true = above r.1 r.2 in
-        ⊎_elim (λ d. or_left (p == i) _ (eq-eqb p i d))
-        (λ d. or_right (p == i) _
-        (ap not (open_now (suc n) p r.1 r.2 r.0 up ∙ ap not (and_from (is_open r.1.status) (is_under es p i p) up d))))
-        (under_parent es t i (suc n) e p a is h)
-
-    -- the code's test says whether the n-th is lost
-    pub cut_is_lost : IsTree es → IsShut es → (n : ℕ) (e : Entry T) → slice_get es n ≡ Some e →
-        is_cut (changed (dropped_upto es i stamp n) es) i e ≡ is_lost es i n e
-    cut_is_lost t s n e a = same_test _ _
-        (λ c. let b = and_parts (is_open e.status) (is_cut_by (λ p. open_at (slice_get (changed (dropped_upto es i stamp n) es) p)) i
-        e.parent)
-        c in
-        and_from (is_open e.status) (is_under es n i n) b.0 (cut_under t s n e a b.0 e.parent refl b.1))
-        (λ c. let b = and_parts (is_open e.status) (is_under es n i n) c in
-        and_from (is_open e.status) (is_cut_by (λ p. open_at (slice_get (changed (dropped_upto es i stamp n) es) p)) i e.parent) b.0
-        (under_cut t s n e a b.0 e.parent refl b.1))
-
-    one_more : (n k : ℕ) (e : Entry T) → (k ≡ n → ⊥) → dropped_upto es i stamp (n + 1) k e ≡ dropped_upto es i stamp n k e
-    one_more n k e ne = ap (λ b. cond (b && is_lost es i k e) (drop_entry stamp e) e) (lt_more n k ne)
-      where
-        lt_more : (n k : ℕ) → (k ≡ n → ⊥) → nat_lt k (n + 1) ≡ nat_lt k n
-        lt_more n k ne = grind (arith, nat_tests)
-
-    pub drops_more : (n : ℕ) (e : Entry T) (d : Entry T) → slice_get es n ≡ Some e → is_lost es i n e ≡ true
-        → let cur = changed (dropped_upto es i stamp n) es in slice_set cur n (drop_entry stamp (get_or cur n d))
-        ≡ changed (dropped_upto es i stamp (n + 1)) es
-    drops_more n e d a lost =
-        let cur : List (Entry T) = changed (dropped_upto es i stamp n) es in
-        let len : length cur ≡ length es = length_changed (dropped_upto es i stamp n) 0 es in
-        set_changed (drop_entry stamp) cur n d (omega (arith, len, within es n e a))
-        ∙ (changed_changed (dropped_upto es i stamp n) (λ k x. cond (k == n) (drop_entry stamp x) x) 0 es
-        ∙ changed_same _ _ es (λ k x b. cond_eq (λ (y : Entry T). y ≡ dropped_upto es i stamp (n + 1) k x) k n _ _
-        (λ eq. rw (one_at es n k e x a b eq, eq) (ap (drop_entry stamp) (later n n e (omega arith))
-        ∙ sym (earlier (n + 1) n e (omega arith) ∙ rw lost refl)))
-        (λ ne. sym (one_more n k x ne))))
-
-    pub drops_not : (n : ℕ) (e : Entry T) → slice_get es n ≡ Some e → is_lost es i n e ≡ false → changed (dropped_upto es i stamp n) es
-        ≡ changed (dropped_upto es i stamp (n + 1)) es
-    drops_not n e a lost = changed_same _ _ es (λ k x b. ⊎_elim
-        (λ eq. later n k x (omega (arith, eq)) ∙ sym (rw (one_at es n k e x a b eq, eq) (earlier (n + 1) n e (omega arith) ∙ rw lost refl)))
-        (λ ne. sym (one_more n k x ne))
-        (cases_eq k n))
-
-    pub left_more : (n : ℕ) (e : Entry T) → slice_get es n ≡ Some e → tally (left_upto es i (n + 1)) es ≡ tally (left_upto es i n) es
-        + lost_left es i n e
-    left_more n e a =
-        let one : ℕ = lost_left es i n e in
-        tally_same (left_upto es i (n + 1)) (λ k x. left_upto es i n k x + cond (k == n) one 0) es (λ k x b. ⊎_elim
-        (λ eq. rw (one_at es n k e x a b eq, eq, lt-ltb n (n + 1) (omega arith), le-ltb n n (omega arith), eq-eqb n n refl) (omega arith))
-        (λ ne. rw (ne_eqb k n ne, lt_more n k ne) (omega arith))
-        (cases_eq k n))
-        ∙ (tally_plus (left_upto es i n) (λ k x. cond (k == n) one 0) 0 es ∙ ap (λ z. tally (left_upto es i n) es + z)
-        (tally_one one n es e a))
-      where
-        lt_more : (n k : ℕ) → (k ≡ n → ⊥) → nat_lt k (n + 1) ≡ nat_lt k n
-        lt_more n k ne = grind (arith, nat_tests)
-
-    pub left_below : (n : ℕ) → tally (left_upto es i n) es ≤ tally (lost_left es i) es
-    left_below n = tally_le (left_upto es i n) (lost_left es i) es (λ k x a. cond_both (nat_lt k n) (lost_left es i k x) 0
-        (λ m. m ≤ lost_left es i k x) (λ _. omega arith) (λ _. omega arith))
-
-    pub left_all : (n : ℕ) → length es ≤ n → tally (left_upto es i n) es ≡ tally (lost_left es i) es
-    left_all n le = tally_same (left_upto es i n) (lost_left es i) es (λ k x a. rw (lt-ltb k n (omega (arith, within es k x a))) refl)
-
-    -- What the loop finds at the place n: the entry as it was at first, and whether it is lost
-    pub record Found (cur : List (Entry T)) (n : ℕ) (b : Bool) : Type 0 where
-      pub entry : Entry T
-      pub at : slice_get es n ≡ Some entry
-      pub now : (d : Entry T) → get_or cur n d ≡ entry
-      pub lost : b ≡ is_lost es i n entry
-
-    pub found : IsTree es → IsShut es → (cur : List (Entry T)) (n : ℕ) (b : Bool) → cur ≡ changed (dropped_upto es i stamp n) es →
-        n < length es → ((e : Entry T) → slice_get cur n ≡ Some e → b ≡ is_cut cur i e) → Found cur n b
-    found t s cur n b is lt says =
-        let p = present es n lt in
-        let e : Entry T = p.0 in
-        let a : slice_get es n ≡ Some e = p.1 in
-        let now : slice_get cur n ≡ Some e = subst (λ xs. slice_get xs n ≡ Some e) (sym is) (here n e a) in
+    -- past a child that is not open
+    pub walk_skip : (c : ℕ) (x : Entry T) (at : Option ℕ) → (w : Walk es fs id stamp left work (Some c)) → slice_get fs c ≡ Some x →
+        is_open x.status ≡ false → at ≡ child_below fs w.current c → Walk es fs id stamp left work at
+    walk_skip c x at w here off place =
+        let g : Greatest fs w.current w.bound c = below_some fs w.current w.bound c (sym w.place) in
         record {
-          entry = e;
-          at = a;
-          now = λ d'. get_or_from_slice_get cur n e d' now;
-          lost = says e now ∙ (ap (λ xs. is_cut xs i e) is ∙ cut_is_lost t s n e a);
+          tree = w.tree;
+          size = w.size;
+          becomes = w.becomes;
+          sum = w.sum;
+          few = w.few;
+          current = w.current;
+          bound = c;
+          inside = omega (arith, within fs c x here);
+          place = place;
+          goes = w.goes;
+          goes_all = w.goes_all;
+          ahead = λ k e q a o n cut. ⊎_elim
+              (λ d. inl d)
+              (λ d. inr (
+                d.0,
+                ⊎_elim
+                    (λ s. absurd (both_ways (is_open e.status) (ap (λ (y : Entry T). is_open y.status) (one_at fs c k x e here a s) ∙ off)
+                    o))
+                    (λ s. omega (arith, s, g.others k d.1 (parent_at fs k e q a n ∙ ap Some d.0)))
+                    (cases_eq k c),
+              ))
+              (w.ahead k e q a o n cut);
         }
 
-    pub drops_at : (cur : List (Entry T)) (n : ℕ) (e d : Entry T) → cur ≡ changed (dropped_upto es i stamp n) es → slice_get es n ≡ Some e →
-        is_lost es i n e ≡ true → slice_set cur n (drop_entry stamp (get_or cur n d)) ≡ changed (dropped_upto es i stamp (n + 1)) es
-    drops_at cur n e d is a lost = subst (λ xs. slice_set xs n (drop_entry stamp (get_or xs n d))
-        ≡ changed (dropped_upto es i stamp (n + 1))
-        es)
-        (sym is) (drops_more n e d a lost)
+  -- What a drop leaves as it was
 
-    pub parent_within : IsTree es → (cur : List (Entry T)) (n : ℕ) → cur ≡ changed (dropped_upto es i stamp n) es → (e : Entry T) (p : ℕ) →
-        slice_get cur n ≡ Some e → e.parent ≡ Some p → p < length cur
-    parent_within t cur n is e p a h =
-        let r = from_changed (dropped_upto es i stamp n) es n e (subst (λ xs. slice_get xs n ≡ Some e) is a) in
-        let same : e ≡ r.0 = r.2 ∙ later n n r.0 (omega arith) in
-        let up = rooted_parent es t n r.0 p r.1 (sym (ap (λ (x : Entry T). x.parent) same) ∙ h) in
-        let len : length cur ≡ length es = ap length is ∙ length_changed (dropped_upto es i stamp n) 0 es in
-        omega (arith, len, up.0, within es n r.0 r.1)
+  under_same : (es fs : List (Entry T)) → ((k : ℕ) → parent_of (slice_get fs k) ≡ parent_of (slice_get es k)) → (n i k : ℕ) →
+      is_under fs n i k ≡ is_under es n i k
+  under_same es fs h zero i k = refl
+  under_same es fs h (suc n) i k =
+      ap (is_above (is_under fs n i) i) (h k) ∙ above_same (is_under fs n i) (is_under es n i) i (parent_of (slice_get es k))
+      (λ p. under_same es fs h n i p)
 
-    pub more_fits : (n left : ℕ) (e : Entry T) → slice_get es n ≡ Some e → is_lost es i n e ≡ true → left ≡ tally (left_upto es i n) es →
-        tally (left_upto es i (n + 1)) es ≡ left + e.left
-    more_fits n left e a lost is =
-        let one : lost_left es i n e ≡ e.left = rw lost refl in
-        omega (arith, left_more n e a, one, is)
+  module _ (fs : List (Entry T)) (id stamp c : ℕ) (x : Entry T) (here : slice_get fs c ≡ Some x) (on : is_open x.status ≡ true)
+      (under : is_under fs c id c ≡ true) where
+    abbrev pub drops : ℕ → Entry T → Entry T
+    drops k e = cond (k == c) (dropped stamp e) e
 
-    pub more_not : (n left : ℕ) (e : Entry T) → slice_get es n ≡ Some e → is_lost es i n e ≡ false → left ≡ tally (left_upto es i n) es →
-        tally (left_upto es i (n + 1)) es ≡ left
-    more_not n left e a lost is =
-        let one : lost_left es i n e ≡ 0 = rw lost refl in
-        omega (arith, left_more n e a, one, is)
+    abbrev pub gs : List (Entry T)
+    gs = changed drops fs
+
+    pub drop_parent : (k : ℕ) (e : Entry T) → (drops k e).parent ≡ e.parent
+    drop_parent k e = cond_eq (λ (y : Entry T). y.parent ≡ e.parent) k c (dropped stamp e) e (λ _. refl) (λ _. refl)
+
+    drop_frame : (k : ℕ) (e : Entry T) → SameFrame e (drops k e)
+    drop_frame k e = cond_eq (SameFrame e) k c (dropped stamp e) e (λ _. record { parent = refl; root = refl; grant = refl })
+        (λ _. record { parent = refl; root = refl; grant = refl })
+
+    parents : (k : ℕ) → parent_of (slice_get gs k) ≡ parent_of (slice_get fs k)
+    parents = parents_changed fs drops drop_parent
+
+    still_under : (k : ℕ) → is_under gs k id k ≡ is_under fs k id k
+    still_under k = under_same fs gs parents k id k
+
+    still_lost : (k : ℕ) (e : Entry T) → is_lost gs id k e ≡ is_lost fs id k e
+    still_lost k e = rw (still_under k) refl
+
+    own_lost : is_lost fs id c x ≡ true
+    own_lost = rw (on, under) refl
+
+    tree_drop : IsTree fs → IsTree gs
+    tree_drop t = tree_changed fs drops drop_frame t
+
+    drop_becomes : changed (dropped_at gs id stamp) gs ≡ changed (dropped_at fs id stamp) fs
+    drop_becomes = changed_changed drops (dropped_at gs id stamp) 0 fs ∙ changed_same _ _ fs (λ k e a.
+        cond_eq (λ (y : Entry T). dropped_at gs id stamp k y ≡ dropped_at fs id stamp k e) k c (dropped stamp e) e
+        (λ d. rw (one_at fs c k x e here a d, d, own_lost) refl)
+        (λ d. rw (still_lost k e) refl))
+
+    drop_sum : x.left + tally (lost_left gs id) gs ≡ tally (lost_left fs id) fs
+    drop_sum =
+        let same : tally (lost_left gs id) gs ≡ tally (lost_left fs id) gs =
+        tally_same _ _ gs (λ k e a. rw (still_lost k e) refl) in
+        let was : lost_left fs id c x ≡ x.left = rw own_lost refl in
+        let now : lost_left fs id c (drops c x) ≡ 0 = rw (eq-eqb c c refl) refl in
+        omega (
+          arith,
+          same,
+          was,
+          now,
+          tally_swap (lost_left fs id) drops c fs x here (λ j y a d. rw (ne_eqb j c d) refl),
+        )
+
+    drop_opened : tally opened gs + 1 ≡ tally opened fs
+    drop_opened =
+        let was : opened c x ≡ 1 = rw on refl in
+        let now : opened c (drops c x) ≡ 0 = rw (eq-eqb c c refl) refl in
+        omega (arith, was, now, tally_swap opened drops c fs x here (λ j y a d. rw (ne_eqb j c d) refl))
+
+    goes_still : (p : ℕ) → Goes fs id p → Goes gs id p
+    goes_still p h = record {
+      here = omega (arith, h.here, length_changed drops 0 fs);
+      up = ⊎_elim (λ d. inl d) (λ u. inr (still_under p ∙ u)) h.up;
+    }
+
+    -- what is still open was, in another place
+    was_open : (k : ℕ) (e : Entry T) → slice_get gs k ≡ Some e → is_open e.status ≡ true → (k ≡ c → ⊥) × (slice_get fs k ≡ Some e)
+    was_open k e a o =
+        let r = from_changed drops fs k e a in
+        ⊎_elim
+        (λ d. let off : is_open (drops k r.0).status ≡ false = rw (eq-eqb k c d) refl in
+        absurd (both_ways (is_open e.status) (ap (λ (y : Entry T). is_open y.status) r.2 ∙ off) o))
+        (λ d. let same : drops k r.0 ≡ r.0 = rw (ne_eqb k c d) refl in (d, r.1 ∙ ap Some (sym (r.2 ∙ same))))
+        (cases_eq k c)
+
+    was_cut : (p : ℕ) → (p ≡ c → ⊥) → Cut gs id p → Cut fs id p
+    was_cut p d h = ⊎_elim (λ s. inl s)
+        (λ off. inr (λ q a. off q (to_changed drops fs p q a ∙ ap Some (rw (ne_eqb p c d) refl))))
+        h
+
+  -- a child is dropped, and is to be gone to
+  pub walk_drop : (es fs : List (Entry T)) (id stamp left : ℕ) (work : List ℕ) (c : ℕ) (x : Entry T) (at : Option ℕ) →
+      (w : Walk es fs id stamp left work (Some c)) → slice_get fs c ≡ Some x → is_open x.status ≡ true → at ≡ child_below fs w.current c →
+      (under : is_under fs c id c ≡ true) →
+      Walk es (changed (λ k e. cond (k == c) (dropped stamp e) e) fs) id stamp (left + x.left) (work ++ c ∷ []) at
+  walk_drop es fs id stamp left work c x at w here on place under =
+      let g : Greatest fs w.current w.bound c = below_some fs w.current w.bound c (sym w.place) in
+      let len : length (gs fs id stamp c x here on under) ≡ length fs = length_changed (drops fs id stamp c x here on under) 0 fs in
+      let own : Goes fs id c = record { here = within fs c x here; up = inr under } in
+      record {
+        tree = tree_drop fs id stamp c x here on under w.tree;
+        size = len ∙ w.size;
+        becomes = drop_becomes fs id stamp c x here on under ∙ w.becomes;
+        sum = omega (arith, w.sum, drop_sum fs id stamp c x here on under);
+        few = omega (arith, w.few, len, length_push work c, drop_opened fs id stamp c x here on under);
+        current = w.current;
+        bound = c;
+        inside = omega (arith, len, within fs c x here);
+        place = place ∙ sym (below_same fs (gs fs id stamp c x here on under) w.current c
+            (λ k lt. parents fs id stamp c x here on under k));
+        goes = goes_still fs id stamp c x here on under w.current w.goes;
+        goes_all = λ p h. goes_still fs id stamp c x here on under p (⊎_elim (λ b. w.goes_all p b)
+            (λ d. subst (Goes fs id) d own) (Contains-push_cases work c p h));
+        ahead = λ k e p a o n cut.
+            let b = was_open fs id stamp c x here on under k e a o in
+            ⊎_elim
+            (λ d. inl (subst (Contains (work ++ c ∷ [])) (sym d) (Contains-push work c)))
+            (λ d. ⊎_elim
+            (λ m. inl (Contains-append_left work (c ∷ []) p m))
+            (λ m. inr (m.0, omega (arith, b.0, g.others k m.1 (parent_at fs k e p b.1 n ∙ ap Some m.0))))
+            (w.ahead k e p b.1 o n (was_cut fs id stamp c x here on under p d cut)))
+            (cases_eq p c);
+      }
+
+  module _ (es fs : List (Entry T)) (id stamp left : ℕ) (work : List ℕ) (c : ℕ) (w : Walk es fs id stamp left work (Some c)) where
+    pub here_is : (x : Entry T) × (slice_get fs c ≡ Some x) × (x.parent ≡ Some w.current)
+    here_is =
+        let g : Greatest fs w.current w.bound c = below_some fs w.current w.bound c (sym w.place) in
+        let p = present fs c (omega (arith, g.below, w.inside)) in
+        (p.0, p.1, sym (ap parent_of p.1) ∙ g.child)
+
+    pub under_is : is_under fs c id c ≡ true
+    under_is =
+        let r = rooted_parent fs w.tree c here_is.0 w.current here_is.1 here_is.2 in
+        under_step fs id c here_is.0 w.current here_is.1 here_is.2 r.0 w.goes.up
+
+    pub next_is : (r : Kin) (o : Option ℕ) → Links fs r → slice_get r.older c ≡ Some o → o ≡ child_below fs w.current c
+    next_is r o h a = h.older c o here_is.0 w.current a here_is.1 here_is.2
+
+    -- what the code finds of the child
+    pub child_found : (b v : Bool) → ((e : Entry T) → slice_get fs c ≡ Some e → b ≡ is_open e.status) → b ≡ v →
+        is_open here_is.0.status ≡ v
+    child_found b v says is = sym (says here_is.0 here_is.1) ∙ is
+
+    lost_is : (x : Entry T) → slice_get fs c ≡ Some x → is_open x.status ≡ true → x.left ≤ tally (lost_left fs id) fs
+    lost_is x a o =
+        let lost : lost_left fs id c x ≡ x.left = rw (o, under_is) refl in
+        omega (arith, lost, tally_has (lost_left fs id) c fs x a)
+
+    pub left_fits : (x : Entry T) → slice_get fs c ≡ Some x → is_open x.status ≡ true → left + x.left ≤ tally (lost_left es id) es
+    left_fits x a o = omega (arith, lost_is x a o, w.sum)
+
+    pub work_fits : (x : Entry T) → slice_get fs c ≡ Some x → is_open x.status ≡ true → length work < length es
+    work_fits x a o =
+        let one' : opened c x ≡ 1 = rw o refl in
+        omega (arith, one', tally_has opened c fs x a, w.few, w.size)
+
+  -- The end
+
+  module _ (es fs : List (Entry T)) (id stamp left : ℕ) (w : Walk es fs id stamp left [] None) where
+    not_cut : (k : ℕ) (e : Entry T) (p : ℕ) → slice_get fs k ≡ Some e → is_open e.status ≡ true → e.parent ≡ Some p → Cut fs id p → ⊥
+    not_cut k e p a o n cut = ⊎_elim
+        (λ m. no_work p m)
+        (λ m. below_none fs w.current w.bound k (sym w.place) m.1 (parent_at fs k e p a n ∙ ap Some m.0))
+        (w.ahead k e p a o n cut)
+
+    has_parent : (k : ℕ) (e : Entry T) → slice_get fs k ≡ Some e → is_under fs k id k ≡ true → (o : Option ℕ) → e.parent ≡ o →
+        (p : ℕ) × (e.parent ≡ Some p)
+    has_parent zero e a u o n = absurd (cc)
+    has_parent (suc k) e a u None n =
+        let z : false ≡ true = subst (λ q. is_above (is_under fs k id) id q ≡ true) (ap parent_of a ∙ n) u in absurd (cc)
+    has_parent (suc k) e a u (Some p) n = (p, n)
+
+    -- by the number of places that may stand above
+    none_open : (m k : ℕ) (e : Entry T) → k < m → slice_get fs k ≡ Some e → is_open e.status ≡ true → is_under fs k id k ≡ true → ⊥
+    none_open zero k e lt a o u = omega arith
+    none_open (suc m) k e lt a o u =
+        let n = has_parent k e a u e.parent refl in
+        let r = rooted_parent fs w.tree k e n.0 a n.1 in
+        ⊎_elim
+        (λ d. not_cut k e n.0 a o n.1 (inl d))
+        (λ v. ⊎_elim
+        (λ on. none_open m n.0 r.1 (omega (arith, r.0)) r.2 on v)
+        (λ off. not_cut k e n.0 a o n.1 (inr (λ q b. ap (λ (y : Entry T). is_open y.status) (one_at fs n.0 n.0 r.1 q r.2 b refl) ∙ off)))
+        (cases_Bool (is_open r.1.status)))
+        (under_parent fs w.tree id k e n.0 a n.1 u)
+
+    none_lost : (k : ℕ) (e : Entry T) → slice_get fs k ≡ Some e → is_lost fs id k e ≡ false
+    none_lost k e a = false_from_ne_true (is_lost fs id k e) (λ l.
+        let b = and_parts (is_open e.status) (is_under fs k id k) l in
+        none_open (suc k) k e (omega arith) a b.0 b.1)
+
+    pub walk_done : fs ≡ changed (dropped_at es id stamp) es
+    walk_done = sym (unchanged (dropped_at fs id stamp) fs (λ k e a. rw (none_lost k e a) refl)) ∙ w.becomes
+
+    pub walk_left : left ≡ tally (lost_left es id) es
+    walk_left =
+        let none : tally (lost_left fs id) fs ≡ 0 = tally_same (lost_left fs id) (λ _ _. 0) fs (λ k e a. rw (none_lost k e a) refl)
+        ∙ tally_zero 0 fs in
+        omega (arith, none, w.sum)
+
+  -- That it ends
+
+  place_le : (es : List (Entry T)) (p n : ℕ) → place_of (child_below es p n) ≤ n
+  place_le es p zero = omega arith
+  place_le es p (suc n) = cond_both (is_place (parent_of (slice_get es n)) p) (Some n) (child_below es p n)
+      (λ (o : Option ℕ). place_of o ≤ suc n) (λ _. omega arith) (λ _. omega (arith, place_le es p n))
+
+  pub falls_pop : (fs : List (Entry T)) (work was : List ℕ) (p n : ℕ) (at before : Option ℕ) → was ≡ work ++ p ∷ [] → before ≡ None →
+      n ≤ length fs → at ≡ child_below fs p n → to_walk fs work at < to_walk fs was before
+  falls_pop fs work was p n at before e1 e2 le is = rw (e1, e2)
+      (rank_lower (2 * tally opened fs + length work) (suc (length fs)) (2 * tally opened fs + length (work ++ p ∷ [])) (place_of at) 0
+      (omega (arith, length_push work p)) (omega (arith, ap place_of is, place_le fs p n)))
+
+  pub falls_skip : (fs : List (Entry T)) (work : List ℕ) (p c : ℕ) (at : Option ℕ) → at ≡ child_below fs p c →
+      to_walk fs work at < to_walk fs work (Some c)
+  falls_skip fs work p c at is = omega (arith, ap place_of is, place_le fs p c)
+
+  pub falls_drop : (fs : List (Entry T)) (id stamp c : ℕ) (x : Entry T) (here : slice_get fs c ≡ Some x) (on : is_open x.status ≡ true)
+      (under : is_under fs c id c ≡ true) (work : List ℕ) (p : ℕ) (at : Option ℕ) → at ≡ child_below fs p c →
+      to_walk (changed (λ k e. cond (k == c) (dropped stamp e) e) fs) (work ++ c ∷ []) at < to_walk fs work (Some c)
+  falls_drop fs id stamp c x here on under work p at is =
+      let len : length (gs fs id stamp c x here on under) ≡ length fs = length_changed (drops fs id stamp c x here on under) 0 fs in
+      subst (λ n. (2 * tally opened (gs fs id stamp c x here on under) + length (work ++ c ∷ [])) * suc n + place_of at
+      < to_walk fs work (Some c)) (sym len) (rank_lower (2 * tally opened (gs fs id stamp c x here on under) + length (work ++ c ∷ []))
+      (suc (length fs))
+      (2 * tally opened fs + length work) (place_of at) (suc c)
+      (omega (arith, length_push work c, drop_opened fs id stamp c x here on under))
+      (omega (arith, ap place_of is, place_le fs p c, within fs c x here)))
+
+  -- The code
+
+  pub walk_seen : (es fs gs : List (Entry T)) (id stamp l m : ℕ) (v u : List ℕ) (a b : Option ℕ) → fs ≡ gs → l ≡ m → v ≡ u → a ≡ b →
+      Walk es gs id stamp m u b → Walk es fs id stamp l v a
+  walk_seen es fs gs id stamp l m v u a b e1 e2 e3 e4 h = rw (e1, e2, e3, e4) h
+
+  pub falls_seen : (fs gs : List (Entry T)) (v u : List ℕ) (a b at : Option ℕ) (hs : List (Entry T)) (ps : List ℕ) → fs ≡ gs → v ≡ u →
+      a ≡ b → to_walk gs u at < to_walk hs ps b → to_walk fs v at < to_walk hs ps a
+  falls_seen fs gs v u a b at hs ps e1 e2 e3 h = rw (e1, e2, e3) h
+
+  pub pop_here : (es fs : List (Entry T)) (id stamp left : ℕ) (work : List ℕ) (p : ℕ) → Walk es fs id stamp left (work ++ p ∷ []) None →
+      p < length fs
+  pop_here es fs id stamp left work p w = let g = w.goes_all p (Contains-push work p) in g.here
+
+  pub child_here : (es fs : List (Entry T)) (id stamp left : ℕ) (work : List ℕ) (at : Option ℕ) (c : ℕ) →
+      Walk es fs id stamp left work at → at ≡ Some c → c < length fs
+  child_here es fs id stamp left work at c w is =
+      let v : Walk es fs id stamp left work (Some c) = walk_seen es fs fs id stamp left left work work (Some c) at refl refl refl (sym is) w
+      in
+      let x = here_is es fs id stamp left work c v in
+      within fs c x.0 x.1

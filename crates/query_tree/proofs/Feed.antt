@@ -1,5 +1,5 @@
 -- A child is fed, and a root is added.
-use Rattle.std.proofs.Common.{◌≡◌, ℕ, ◌+◌, ◌-◌, ◌^◌, ◌<◌, ◌≤◌, List, length, Bool, true, false, cond, Some, refl, sym, ap, ◌∙◌, ⊎_elim, arith}
+use Rattle.std.proofs.Common.{◌≡◌, ℕ, ◌+◌, ◌-◌, ◌^◌, ◌<◌, ◌≤◌, List, [], length, Bool, true, false, cond, Some, refl, sym, ap, ◌∙◌, ⊎_elim, arith}
 use Rattle.std.specs.Prelude.{slice_get, ◌==◌}
 use Rattle.std.proofs.lemmas.Bool.{cond_both, and_left, cases_eq, eq-eqb, ne_eqb, false_from_ne_true}
 use Rattle.query_tree.specs.declared.Status.TheVariants.{Running, Dropped}
@@ -188,3 +188,13 @@ module _ {T : Type 0} where
         each = fine_pushed es x (record { holds = tt; held = refl }) h.each;
         ended = ended_pushed es x h.tree (λ n d. absurd (cc)) h.ended;
       }
+
+  pub none_kept : (es : List (Entry T)) → es ≡ [] → IsKept es
+  none_kept es is = rw is (record {
+    tree = record { rooted = λ i e a. absurd (cc) };
+    shut = record { above = λ i e a o. absurd (cc) };
+    leaning = record { leaning = λ i e a l. absurd (cc) };
+    granted = record { granted = λ i e a n. absurd (cc); small = λ r. omega arith; all = refl };
+    each = record { fine = λ i e a. absurd (cc) };
+    ended = record { ended = λ i e n a d. absurd (cc) };
+  })

@@ -1,12 +1,12 @@
 -- Writes to single places are changes of the whole list.
-use Rattle.std.proofs.Common.{◌≡◌, ℕ, ◌<◌, List, Bool, true, false, cond, Option, Some, refl, sym, ap, ◌∙◌, subst, arith}
+use Rattle.std.proofs.Common.{◌≡◌, ℕ, ◌<◌, List, length, Bool, true, false, cond, Option, Some, refl, sym, ap, ◌∙◌, subst, arith}
 use Rattle.std.specs.Prelude.{slice_get, slice_set, get_or, ◌==◌, ◌&&◌}
 use Rattle.std.proofs.lemmas.Bool.{and_right, eq-eqb, ne_eqb, false_from_ne_true}
 use Rattle.std.proofs.lemmas.Option.{get_or_from_slice_get}
 use Rattle.query_tree.specs.declared.Status.{Status}
 use Rattle.query_tree.specs.declared.Entry.{Entry}
 use Rattle.query_tree.specs.Forest.{changed, is_starved, is_place, stir, given, rest_at}
-use Rattle.query_tree.proofs.Lists.{set_changed, changed_changed, changed_same, within}
+use Rattle.query_tree.proofs.Lists.{set_changed, changed_changed, changed_same, length_changed, within}
 use Rattle.query_tree.proofs.Tests.{cond_eq, place_is}
 
 module _ {T : Type 0} where
@@ -46,3 +46,11 @@ module _ {T : Type 0} where
         by_test false true e h = refl
         by_test true false e h = absurd (cc)
         by_test false false e h = refl
+
+  pub rest_here : (es : List (Entry T)) (i : ℕ) (d : Entry T) (st : Status) (left s : ℕ) (p : T) (q : ℕ) → i < length es → q < i →
+      q < length (slice_set es i (given st left s p (get_or es i d)))
+  rest_here es i d st left s p q lt up = omega (
+    arith,
+    ap length (set_changed (given st left s p) es i d lt),
+    length_changed (λ k e. cond (k == i) (given st left s p e) e) 0 es,
+  )

@@ -1,5 +1,5 @@
 -- The forest as the list of its entries, and what each call makes of it.
-use Rattle.std.specs.Prelude.{ℕ, zero, suc, ◌+◌, ◌-◌, ◌/◌, List, [], ◌∷◌, ◌++◌, length, Bool, true, false, cond, ◌&&◌, ◌||◌, not, ◌==◌, nat_lt, Option, Some, None, slice_get}
+use Rattle.std.specs.Prelude.{ℕ, zero, suc, ◌+◌, ◌-◌, ◌/◌, List, [], ◌∷◌, ◌++◌, length, Bool, true, false, cond, ◌&&◌, ◌||◌, ◌==◌, Option, Some, None, slice_get}
 use Rattle.query_tree.specs.declared.Status.{Status}
 use Rattle.query_tree.specs.declared.Status.TheVariants.{Ready, Running, Blocked, Starved, Closed, Dropped}
 use Rattle.query_tree.specs.declared.Rest.{Rest}
@@ -98,10 +98,6 @@ is_above under i (Some p) = (p == i) || under p
 abbrev pub part : ℕ → ℕ
 part m = m / 2
 
-abbrev pub is_cut_by : (ℕ → Bool) → ℕ → Option ℕ → Bool
-is_cut_by opened i None = false
-is_cut_by opened i (Some p) = (p == i) || not (opened p)
-
 module _ {T : Type 0} where
   -- a live child of the query
   abbrev pub is_live_child : ℕ → Entry T → Bool
@@ -196,22 +192,12 @@ module _ {T : Type 0} where
   abbrev pub lost_left : List (Entry T) → ℕ → ℕ → Entry T → ℕ
   lost_left es i k e = cond (is_lost es i k e) e.left 0
 
-  abbrev pub open_at : Option (Entry T) → Bool
-  open_at None = false
-  open_at (Some e) = is_open e.status
+  abbrev pub dropped : ℕ → Entry T → Entry T
+  dropped stamp e = record e { status = Dropped stamp; left = 0 }
 
-  -- an open query whose parent is i, or is not open
-  abbrev pub is_cut : List (Entry T) → ℕ → Entry T → Bool
-  is_cut es i e = is_open e.status && is_cut_by (λ p. open_at (slice_get es p)) i e.parent
-
-  -- the first n entries, with those that are lost dropped
-  abbrev pub dropped_upto : List (Entry T) → ℕ → ℕ → ℕ → ℕ → Entry T → Entry T
-  dropped_upto es i stamp n k e = cond (nat_lt k n && is_lost es i k e)
-      (record e { status = Dropped stamp; left = 0 }) e
-
-  -- what was left of those of the first n that are lost
-  abbrev pub left_upto : List (Entry T) → ℕ → ℕ → ℕ → Entry T → ℕ
-  left_upto es i n k e = cond (nat_lt k n) (lost_left es i k e) 0
+  -- what is lost is dropped
+  abbrev pub dropped_at : List (Entry T) → ℕ → ℕ → ℕ → Entry T → Entry T
+  dropped_at es i stamp k e = cond (is_lost es i k e) (dropped stamp e) e
 
   -- what a close gives to the parent, or a root keeps
   abbrev pub purse : List (Entry T) → Entry T → ℕ → ℕ → ℕ

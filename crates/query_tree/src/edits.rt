@@ -1,12 +1,16 @@
 //! Changes of the entries of a forest.
-ghost use Rattle.std.specs.Prelude.{◌≡◌, ℕ, ◌+◌, ◌-◌, ◌^◌, ◌<◌, ◌≤◌, length, Some, None, cond, ◌==◌, ◌&&◌, slice_get, MatchOption, false, true, IsTrue, ◌↔◌};
+ghost use Rattle.std.specs.Prelude.{◌≡◌, ℕ, ◌+◌, ◌-◌, ◌^◌, ◌<◌, ◌≤◌, length, Some, None, cond, ◌==◌, slice_get, MatchOption, false, true, IsTrue, ◌↔◌};
 ghost use Rattle.query_tree.specs.Takes.{HasNoReady, IsReadyAt};
 ghost use Rattle.query_tree.specs.Forest.{after_take, fed_at, is_none, back_as, part};
-ghost use Rattle.query_tree.specs.Forest.{changed, tally, is_open, is_live, is_starved, is_place, woken, fed, at_rest, stir, given, paid as paid_to, rest_at, after_close, has_live_child, has_live, lost_left, dropped_upto, is_cut};
+ghost use Rattle.query_tree.specs.Forest.{changed, tally, is_open, is_live, is_starved, is_place, woken, fed, at_rest, stir, given, paid as paid_to, rest_at, after_close, has_live_child, lost_left, dropped, dropped_at};
 ghost use Rattle.query_tree.specs.declared.Entry.{Entry};
 ghost use Rattle.query_tree.specs.Kept.{IsTree, IsShut, IsKept};
+ghost use Rattle.query_tree.specs.Kin.{Links};
+ghost use Rattle.query_tree.specs.Live.{Counts};
 ghost use Rattle.query_tree.specs.Ready.{Covers, CoversOthers};
 
+use crate::children::Children;
+use crate::live::LiveCounts;
 use crate::ready::ReadyList;
 use crate::{Entry, Lent, Rest, Status};
 
@@ -74,72 +78,76 @@ pub fn stir<T>(entries: &mut [Entry<T>], parent: Option<u32>)
     }
 }
 
-/// Whether some child of the query is open and not Starved.
-pub fn has_live_child<T>(entries: &[Entry<T>], id: u32) -> bool
-    ensures { result ≡ has_live_child entries.now id }
+/// Whether the query at this place is neither closed nor dropped.
+fn is_open_at<T>(entries: &[Entry<T>], id: u32) -> bool
+    requires { id < length entries.now }
+    ensures { (e : Entry T) → slice_get entries.now id ≡ Some e → result ≡ is_open e.status }
 {
-    for entry in entries {
-        if entry.parent == Some(id) && is_live(entry.status) {
-            return true;
-        }
-    }
-    false
+    is_open(entries[id as usize].status)
 }
 
-/// Whether some query is open and not Starved.
-pub fn has_live<T>(entries: &[Entry<T>]) -> bool
-    ensures { result ≡ has_live entries.now }
+/// Drops a query, and tells what was left of it.
+fn drop_one<T>(entries: &mut [Entry<T>], live: &mut LiveCounts, id: u32, stamp: u64) -> u32
+    requires here { id < length entries.old }
+    requires live { Counts entries.old live.old }
+    ensures entries { entries.new ≡ changed (λ k e. cond (k == id) (dropped stamp e) e)
+        entries.old }
+    ensures left { (e : Entry T) → slice_get entries.old id ≡ Some e → result ≡ e.left }
+    ensures live { Counts entries.new live.new }
+    ensures room { live.new.room ≡ live.old.room }
 {
-    for entry in entries {
-        if is_live(entry.status) {
-            return true;
-        }
-    }
-    false
+    let entry = &mut entries[id as usize];
+    let left = entry.left;
+    live.settle(entry.parent, is_live(entry.status), false);
+    entry.left = 0;
+    entry.status = Status::Dropped { stamp };
+    left
 }
 
-/// Whether an open query stands under a query that closes, or under one that was dropped.
-fn is_cut<T>(entries: &[Entry<T>], id: u32, at: usize) -> bool
-    requires here { at < length entries.now }
-    requires above { (e : Entry T) (p : ℕ) → slice_get entries.now at ≡ Some e → e.parent ≡ Some p →
-        p < length entries.now }
-    ensures { (e : Entry T) → slice_get entries.now at ≡ Some e → result ≡ is_cut entries.now id e }
-{
-    let entry = &entries[at];
-    if !is_open(entry.status) {
-        return false;
-    }
-    match entry.parent {
-        None => false,
-        Some(p) => p == id || !is_open(entries[p as usize].status),
-    }
-}
-
-/// Drops each open query under the query, and tells what was left of them.
-pub fn drop_under<T>(entries: &mut [Entry<T>], id: u32, stamp: u64) -> u32
+/// Drops each open query under the query, and tells what was left of them. The walk goes from what
+/// closes and from what it drops to the children.
+pub fn drop_under<T>(
+    entries: &mut [Entry<T>],
+    live: &mut LiveCounts,
+    kin: &mut Children,
+    id: u32,
+    stamp: u64,
+) -> u32
     requires tree { IsTree entries.old }
     requires shut { IsShut entries.old }
     requires here { id < length entries.old }
     requires fits { tally (lost_left entries.old id) entries.old < 2 ^ 32 }
-    ensures entries { entries.new ≡ changed (dropped_upto entries.old id stamp (length entries.old))
-        entries.old }
+    requires live { Counts entries.old live.old }
+    requires kin { Links entries.old kin.old }
+    requires room { length entries.old ≤ kin.old.room }
+    ensures entries { entries.new ≡ changed (dropped_at entries.old id stamp) entries.old }
     ensures left { result ≡ tally (lost_left entries.old id) entries.old }
+    ensures live { Counts entries.new live.new }
+    ensures kin { Links entries.new kin.new }
+    ensures live_room { live.new.room ≡ live.old.room }
+    ensures kin_room { kin.new.room ≡ kin.old.room }
 {
     let mut left: u32 = 0;
-    for k in 0..entries.len() {
-        if is_cut(entries, id, k) {
-            let entry = &mut entries[k];
-            left += entry.left;
-            entry.left = 0;
-            entry.status = Status::Dropped { stamp };
+    let mut at = kin.start(id);
+    'walk: loop {
+        if let Some(child) = at {
+            at = kin.older(child);
+            if is_open_at(entries, child) {
+                left += drop_one(entries, live, child, stamp);
+                kin.push(child);
+            }
+        } else if let Some(parent) = kin.pop() {
+            at = kin.latest(parent);
+        } else {
+            return left;
         }
     }
-    left
 }
 
 /// Puts a payload back: in this status, with this left and this many more steps.
 pub fn put<T: Drop>(
     entries: &mut [Entry<T>],
+    live: &mut LiveCounts,
     id: u32,
     status: Status,
     left: u32,
@@ -149,10 +157,14 @@ pub fn put<T: Drop>(
     requires here { id < length entries.old }
     requires fits { (own : Entry T) → slice_get entries.old id ≡ Some own →
         own.spent + steps < 2 ^ 32 }
-    ensures { entries.new ≡ changed (λ k e. cond (k == id) (given status left steps payload e) e)
-        entries.old }
+    requires live { Counts entries.old live.old }
+    ensures entries { entries.new ≡ changed (λ k e. cond (k == id)
+        (given status left steps payload e) e) entries.old }
+    ensures live { Counts entries.new live.new }
+    ensures room { live.new.room ≡ live.old.room }
 {
     let entry = &mut entries[id as usize];
+    live.settle(entry.parent, is_live(entry.status), is_live(status));
     entry.status = status;
     entry.left = left;
     entry.spent += steps;
@@ -160,22 +172,29 @@ pub fn put<T: Drop>(
 }
 
 /// Pays to the parent of a query that closed.
-pub fn pay<T>(entries: &mut [Entry<T>], id: u32, paid: u32)
+pub fn pay<T>(entries: &mut [Entry<T>], live: &mut LiveCounts, id: u32, paid: u32)
     requires here { id < length entries.old }
     requires fits { (own : Entry T) → slice_get entries.old id ≡ Some own →
         own.left + paid < 2 ^ 32 }
-    ensures { entries.new ≡ changed (λ k e. cond (k == id) (paid_to paid e) e) entries.old }
+    requires live { Counts entries.old live.old }
+    ensures entries { entries.new ≡ changed (λ k e. cond (k == id) (paid_to paid e) e)
+        entries.old }
+    ensures live { Counts entries.new live.new }
+    ensures room { live.new.room ≡ live.old.room }
 {
     let entry = &mut entries[id as usize];
+    let was = is_live(entry.status);
     entry.left += paid;
     entry.status = fed(entry.left, woken(entry.status));
     entry.stirred = true;
+    live.settle(entry.parent, was, is_live(entry.status));
 }
 
 /// Gives a job back: in this status, with this left and this many more steps. A parent of what
 /// becomes Starved is stirred.
 pub fn rest<T: Drop>(
     entries: &mut [Entry<T>],
+    live: &mut LiveCounts,
     id: u32,
     status: Status,
     left: u32,
@@ -185,13 +204,15 @@ pub fn rest<T: Drop>(
     requires here { id < length entries.old }
     requires fits { (own : Entry T) → slice_get entries.old id ≡ Some own →
         own.spent + steps < 2 ^ 32 }
-    requires above { (own : Entry T) (p : ℕ) → slice_get entries.old id ≡ Some own → own.parent
-        ≡ Some p → p < id }
-    ensures { (own : Entry T) → slice_get entries.old id ≡ Some own → entries.new
+    requires live { Counts entries.old live.old }
+    ensures entries { (own : Entry T) → slice_get entries.old id ≡ Some own → entries.new
         ≡ changed (rest_at own id status left steps payload) entries.old }
+    ensures live { Counts entries.new live.new }
+    ensures room { live.new.room ≡ live.old.room }
 {
     let entry = &mut entries[id as usize];
     let parent = entry.parent;
+    live.settle(parent, is_live(entry.status), is_live(status));
     entry.status = status;
     entry.left = left;
     entry.spent += steps;
@@ -203,23 +224,38 @@ pub fn rest<T: Drop>(
 
 /// Closes a query. What is left of it and of the open queries under it goes to its parent, or a
 /// root keeps it.
-pub fn close<T: Drop>(entries: &mut [Entry<T>], id: u32, steps: u32, payload: T, stamp: u64)
+pub fn close<T: Drop>(
+    entries: &mut [Entry<T>],
+    live: &mut LiveCounts,
+    kin: &mut Children,
+    id: u32,
+    steps: u32,
+    payload: T,
+    stamp: u64,
+)
     requires kept { IsKept entries.old }
     requires here { id < length entries.old }
     requires at_work { (own : Entry T) → slice_get entries.old id ≡ Some own →
         (own.status ≡ Status.Running) × (steps ≤ own.lent) }
-    ensures { (own : Entry T) → slice_get entries.old id ≡ Some own → entries.new
+    requires live { Counts entries.old live.old }
+    requires kin { Links entries.old kin.old }
+    requires room { length entries.old ≤ kin.old.room }
+    ensures entries { (own : Entry T) → slice_get entries.old id ≡ Some own → entries.new
         ≡ after_close entries.old own id steps payload stamp }
+    ensures live { Counts entries.new live.new }
+    ensures kin { Links entries.new kin.new }
+    ensures live_room { live.new.room ≡ live.old.room }
+    ensures kin_room { kin.new.room ≡ kin.old.room }
 {
-    let lost = drop_under(entries, id, stamp);
+    let lost = drop_under(entries, live, kin, id, stamp);
     let own = &entries[id as usize];
     let parent = own.parent;
     let purse = (own.left - steps) + lost;
     match parent {
-        None => put(entries, id, Status::Closed, purse, steps, payload),
+        None => put(entries, live, id, Status::Closed, purse, steps, payload),
         Some(p) => {
-            put(entries, id, Status::Closed, 0, steps, payload);
-            pay(entries, p, purse);
+            put(entries, live, id, Status::Closed, 0, steps, payload);
+            pay(entries, live, p, purse);
         }
     }
 }
@@ -249,8 +285,9 @@ pub fn is_ready(status: Status) -> bool
 }
 
 /// Lends the payload of a Ready query, which becomes Running.
-pub fn lend<T: Drop>(entries: &mut [Entry<T>], id: u32) -> Lent<T>
+pub fn lend<T: Drop>(entries: &mut [Entry<T>], id: u32, waiting: bool) -> Lent<T>
     requires here { id < length entries.old }
+    requires waits { waiting ≡ has_live_child entries.old id }
     requires held { (own : Entry T) → slice_get entries.old id ≡ Some own → is_none own.payload
         ≡ false }
     ensures entries { entries.new ≡ after_take entries.old id }
@@ -259,7 +296,6 @@ pub fn lend<T: Drop>(entries: &mut [Entry<T>], id: u32) -> Lent<T>
         × (result.waiting ≡ has_live_child entries.old id)
         × (own.payload ≡ Some result.payload) }
 {
-    let waiting = has_live_child(entries, id);
     let entry = &mut entries[id as usize];
     entry.status = Status::Running;
     entry.lent = entry.left;
@@ -278,15 +314,20 @@ pub fn lend<T: Drop>(entries: &mut [Entry<T>], id: u32) -> Lent<T>
 }
 
 /// Gives to a child.
-pub fn feed<T>(entries: &mut [Entry<T>], id: u32, part: u32)
+pub fn feed<T>(entries: &mut [Entry<T>], live: &mut LiveCounts, id: u32, part: u32)
     requires here { id < length entries.old }
     requires fits { (own : Entry T) → slice_get entries.old id ≡ Some own →
         own.left + part < 2 ^ 32 }
-    ensures { entries.new ≡ changed (fed_at id part) entries.old }
+    requires live { Counts entries.old live.old }
+    ensures entries { entries.new ≡ changed (fed_at id part) entries.old }
+    ensures live { Counts entries.new live.new }
+    ensures room { live.new.room ≡ live.old.room }
 {
     let entry = &mut entries[id as usize];
+    let was = is_live(entry.status);
     entry.left += part;
     entry.status = fed(entry.left, entry.status);
+    live.settle(entry.parent, was, is_live(entry.status));
 }
 
 /// In which status a job is given back.

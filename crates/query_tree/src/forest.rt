@@ -1,6 +1,8 @@
 //! A forest of queries with payloads.
 ghost use Rattle.std.specs.Prelude.{◌≡◌, ◌-◌, ◌<◌, ◌≤◌, length, Some, None, IfOk, MatchResult};
 
+use crate::children::Children;
+use crate::live::LiveCounts;
 use crate::ready::ReadyList;
 use crate::{Entry, Gone, Lent, OutOfMemory, QueryId, Rest, Status, edits};
 use std::alloc::Global;
@@ -12,6 +14,8 @@ pub struct Forest<T> {
     entries: Vec<Entry<T>>,
     room: usize,
     ready: ReadyList,
+    live: LiveCounts,
+    kin: Children,
 }
 
 impl<T> Model for Forest<T> {
@@ -23,7 +27,8 @@ impl<T> Model for Forest<T> {
 
     ghost view = { λ f. record { room = f.room; entries = f.entries.items } };
 
-    ghost invariant = { λ f. IsSound f.entries.items f.room (vec_capacity f.entries) f.ready };
+    ghost invariant = { λ f. IsSound f.entries.items f.room (vec_capacity f.entries) f.ready f.live
+        f.kin };
 }
 
 impl<T: Drop> Forest<T> {
@@ -43,6 +48,8 @@ impl<T: Drop> Forest<T> {
             entries: Vec::with_capacity(alloc, room as usize)?,
             room: room as usize,
             ready: ReadyList::with_room(alloc, room)?,
+            live: LiveCounts::with_room(alloc, room)?,
+            kin: Children::with_room(alloc, room)?,
         })
     }
 
@@ -68,6 +75,8 @@ impl<T: Drop> Forest<T> {
             payload: Some(payload),
         });
         self.ready.add(id);
+        self.live.add(None, true);
+        self.kin.add(None);
         id
     }
 
@@ -82,7 +91,8 @@ impl<T: Drop> Forest<T> {
             (λ lent. OthersStay self.old.entries self.new.entries lent.id) }
     {
         let id = edits::next_ready(&self.entries, &mut self.ready)?;
-        Some(edits::lend(&mut self.entries, id))
+        let waiting = self.live.has_child(id);
+        Some(edits::lend(&mut self.entries, id, waiting))
     }
 
     /// Gives a job back. `Gone` comes exactly where the query was dropped.
@@ -108,6 +118,7 @@ impl<T: Drop> Forest<T> {
         let status = edits::back_as(rest, own.stirred, left);
         edits::rest(
             &mut self.entries,
+            &mut self.live,
             lent.id,
             status,
             left,
@@ -147,6 +158,7 @@ impl<T: Drop> Forest<T> {
         let keep = left - part;
         edits::rest(
             &mut self.entries,
+            &mut self.live,
             lent.id,
             edits::at_rest(keep),
             keep,
@@ -155,11 +167,12 @@ impl<T: Drop> Forest<T> {
         );
         self.ready.note_job(lent.id, parent);
         let number = self.entries.len() as u32;
+        let status = edits::at_rest(part);
         self.entries.push_reserved(Entry {
             parent: Some(lent.id),
             root,
             grant: 0,
-            status: edits::at_rest(part),
+            status,
             left: part,
             spent: 0,
             lent: 0,
@@ -168,6 +181,8 @@ impl<T: Drop> Forest<T> {
             payload: Some(child),
         });
         self.ready.add(number);
+        self.live.add(Some(lent.id), edits::is_live(status));
+        self.kin.add(Some(lent.id));
         Ok(number)
     }
 
@@ -188,7 +203,15 @@ impl<T: Drop> Forest<T> {
             return Err(Gone { stamp, lent });
         }
         let parent = self.entries[lent.id as usize].parent;
-        edits::close(&mut self.entries, lent.id, steps, lent.payload, stamp);
+        edits::close(
+            &mut self.entries,
+            &mut self.live,
+            &mut self.kin,
+            lent.id,
+            steps,
+            lent.payload,
+            stamp,
+        );
         self.ready.note_above(parent);
         Ok(())
     }
@@ -220,13 +243,14 @@ impl<T: Drop> Forest<T> {
         let keep = left - part;
         edits::rest(
             &mut self.entries,
+            &mut self.live,
             lent.id,
             edits::at_rest(keep),
             keep,
             steps,
             lent.payload,
         );
-        edits::feed(&mut self.entries, child, part);
+        edits::feed(&mut self.entries, &mut self.live, child, part);
         self.ready.note_job(lent.id, parent);
         self.ready.note(child);
         Ok(())
@@ -256,7 +280,7 @@ impl<T: Drop> Forest<T> {
     pub fn has_live(&self) -> bool
         ensures { result ≡ has_live self.now.entries }
     {
-        edits::has_live(&self.entries)
+        self.live.has_any()
     }
 
     /// What the query is doing.

@@ -1,8 +1,10 @@
 //! Queries with payloads, in a forest: budgets, statuses and wakings.
 #![tactic(auto)]
 
+mod children;
 mod edits;
 mod forest;
+mod live;
 mod ready;
 
 pub use forest::Forest;
@@ -42,8 +44,7 @@ pub enum Rest {
 
 /// A query of the forest. `root` is the first query above it, and `grant` is a root's budget, in
 /// steps. `lent` and `waiting` are what the last take said; `stirred` says whether a child closed
-/// or
-/// became Starved since.
+/// or became Starved since.
 #[derive(Drop)]
 pub struct Entry<T> {
     pub parent: Option<u32>,

@@ -15,7 +15,7 @@ unreachable-requires g c =
     let f : true ≡ false = ap is_none (sym none) ∙ c.requires.held o.0 o.1 in absurd (cc)
 
 pub returns-clause-entries : goal.returns-clause-entries
-returns-clause-entries g c = rw (c.take.ensures.after, c.has_live_child-waiting.ensures)
+returns-clause-entries g c = rw (c.take.ensures.after, c.requires.waits)
     (set_changed (λ (e : Entry g.row.T.Denot). record e {
       status = Running;
       lent = e.left;
@@ -30,6 +30,6 @@ returns-clause-lent g c own at =
     let same = get_or_from_slice_get c.args.entries.now c.args.id own c.index-entries-id.result at in (
       refl,
       ap (λ (x : Entry g.row.T.Denot). x.left) same,
-      c.has_live_child-waiting.ensures,
+      c.requires.waits,
       ap (λ (x : Entry g.row.T.Denot). x.payload) (sym same) ∙ (sym c.take.ensures.value ∙ c.in-Some.is),
     )

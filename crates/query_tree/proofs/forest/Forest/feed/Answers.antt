@@ -4,8 +4,10 @@ use Rattle.std.proofs.lemmas.List.{take_at}
 use Rattle.std.proofs.lemmas.Option.{get_or_from_slice_get}
 use Rattle.query_tree.specs.declared.Entry.{Entry}
 use Rattle.query_tree.specs.Forest.{after_feed, less_at, share, changed, at_rest}
+use Rattle.query_tree.specs.Live.{Counts}
 use Rattle.query_tree.specs.Ready.{NotesJob, Covers}
 use Rattle.query_tree.specs.Woods.{Woods}
+use Rattle.query_tree.proofs.Chains.{rest_links, fed_links}
 use Rattle.query_tree.proofs.Lists.{length_changed, within}
 use Rattle.query_tree.proofs.Tests.{one_at}
 use Rattle.query_tree.proofs.Calls.{at_work}
@@ -57,7 +59,7 @@ rest-requires g c =
     rw c.deref_mut.ensures.value (record {
       here = a.here;
       fits = λ x b. omega (arith, a.spent, ap (λ (x : Entry g.row.T.Denot). x.spent) (one_at es l.id l.id own x a.at b refl));
-      above = λ x p b n. a.above p (ap (λ (x : Entry g.row.T.Denot). x.parent) (sym (one_at es l.id l.id own x a.at b refl)) ∙ n);
+      live = c.self.invariant.counts;
     })
 
 pub feed-requires : goal.feed-requires
@@ -74,7 +76,7 @@ feed-requires g c =
     ∙ c.requires.child.at in
     let there = c.index-2.ensures ∙ get_or_from_slice_get es c.args.child ch c.index-2.result.now at_c in
     let part : c.share-part.result ≡ share ch (own.left - c.args.steps) = c.share-part.ensures ∙ rw (there, same) refl in
-    let says = rw (c.deref_mut.ensures.value, c.at_rest.ensures, part, same) at c.rest.ensures in
+    let says = rw (c.deref_mut.ensures.value, c.at_rest.ensures, part, same) at c.rest.ensures.entries in
     let mid : c.rest.new.entries ≡ changed (less_at own l.id c.args.steps l.payload (share ch (own.left - c.args.steps))) es = says own a.at
     in
     let taken = take_at c.rest.new.entries (drop (length c.rest.new.entries) es) c.self.inside.entries.len (omega arith) in
@@ -96,6 +98,8 @@ feed-requires g c =
             feed_fits es own l.id a.at a.running c.args.steps l.payload a.le
                 c.args.child ch at_c c.requires.child.parent c.self.invariant.kept,
           );
+      live = subst (λ (xs : List (Entry g.row.T.Denot)). Counts xs c.rest.new.live) (sym (c.deref_mut-2.ensures.value ∙ taken))
+          c.rest.ensures.live;
     }
 
 pub invariant_of-self : goal.invariant_of-self
@@ -112,14 +116,15 @@ invariant_of-self g c =
     ∙ c.requires.child.at in
     let there = c.index-2.ensures ∙ get_or_from_slice_get es c.args.child ch c.index-2.result.now at_c in
     let part : c.share-part.result ≡ share ch (own.left - c.args.steps) = c.share-part.ensures ∙ rw (there, same) refl in
-    let says = rw (c.deref_mut.ensures.value, c.at_rest.ensures, part, same) at c.rest.ensures in
+    let says = rw (c.deref_mut.ensures.value, c.at_rest.ensures, part, same) at c.rest.ensures.entries in
     let mid : c.rest.new.entries ≡ changed (less_at own l.id c.args.steps l.payload (share ch (own.left - c.args.steps))) es = says own a.at
     in
     let taken = take_at c.rest.new.entries (drop (length c.rest.new.entries) es) c.self.inside.entries.len (omega arith) in
     let mid2 : c.deref_mut-2.result.now ≡ changed (less_at own l.id c.args.steps l.payload (share ch (own.left - c.args.steps))) es =
     c.deref_mut-2.ensures.value ∙ (taken ∙ mid) in
     let len = length_changed (less_at own l.id c.args.steps l.payload (share ch (own.left - c.args.steps))) 0 es in
-    let done : c.feed.new.entries ≡ after_feed es own l.id c.args.steps l.payload c.args.child ch = c.feed.ensures ∙ rw (mid2, part) refl in
+    let done : c.feed.new.entries ≡ after_feed es own l.id c.args.steps l.payload c.args.child ch = c.feed.ensures.entries ∙ rw (mid2, part)
+    refl in
     let taken2 = take_at c.feed.new.entries
     (drop (length c.feed.new.entries) (take c.self.inside.entries.len (c.rest.new.entries ++ drop (length c.rest.new.entries) es)))
     c.self.inside.entries.len (omega (arith, ap length mid2)) in
@@ -137,6 +142,12 @@ invariant_of-self g c =
       small = c.self.invariant.small;
       list_room = c.note.ensures.room ∙ (notes.room ∙ c.self.invariant.list_room);
       covers = fed_covers _ c.args.child (share ch (own.left - c.args.steps)) c.note_job.new.self c.note.new.self c.note.ensures first;
+      live_room = c.feed.ensures.room ∙ (c.rest.ensures.room ∙ c.self.invariant.live_room);
+      counts = subst (λ (xs : List (Entry g.row.T.Denot)). Counts xs c.feed.new.live) done c.feed.ensures.live;
+      kin_room = c.self.invariant.kin_room;
+      links = fed_links _ c.args.child (share ch (own.left - c.args.steps)) c.self.inside.kin (rest_links es own l.id a.at
+          (at_rest ((own.left - c.args.steps) - share ch (own.left - c.args.steps)))
+          ((own.left - c.args.steps) - share ch (own.left - c.args.steps)) c.args.steps l.payload c.self.inside.kin c.self.invariant.links);
     })
 
 pub returns : goal.returns
@@ -153,14 +164,15 @@ returns g c =
     ∙ c.requires.child.at in
     let there = c.index-2.ensures ∙ get_or_from_slice_get es c.args.child ch c.index-2.result.now at_c in
     let part : c.share-part.result ≡ share ch (own.left - c.args.steps) = c.share-part.ensures ∙ rw (there, same) refl in
-    let says = rw (c.deref_mut.ensures.value, c.at_rest.ensures, part, same) at c.rest.ensures in
+    let says = rw (c.deref_mut.ensures.value, c.at_rest.ensures, part, same) at c.rest.ensures.entries in
     let mid : c.rest.new.entries ≡ changed (less_at own l.id c.args.steps l.payload (share ch (own.left - c.args.steps))) es = says own a.at
     in
     let taken = take_at c.rest.new.entries (drop (length c.rest.new.entries) es) c.self.inside.entries.len (omega arith) in
     let mid2 : c.deref_mut-2.result.now ≡ changed (less_at own l.id c.args.steps l.payload (share ch (own.left - c.args.steps))) es =
     c.deref_mut-2.ensures.value ∙ (taken ∙ mid) in
     let len = length_changed (less_at own l.id c.args.steps l.payload (share ch (own.left - c.args.steps))) 0 es in
-    let done : c.feed.new.entries ≡ after_feed es own l.id c.args.steps l.payload c.args.child ch = c.feed.ensures ∙ rw (mid2, part) refl in
+    let done : c.feed.new.entries ≡ after_feed es own l.id c.args.steps l.payload c.args.child ch = c.feed.ensures.entries ∙ rw (mid2, part)
+    refl in
     let taken2 = take_at c.feed.new.entries
     (drop (length c.feed.new.entries) (take c.self.inside.entries.len (c.rest.new.entries ++ drop (length c.rest.new.entries) es)))
     c.self.inside.entries.len (omega (arith, ap length mid2)) in

@@ -5,8 +5,10 @@ use Rattle.query_tree.specs.declared.Rest.{Rest}
 use Rattle.query_tree.specs.declared.Rest.TheVariants.{Ready as RestReady, Blocked as RestBlocked, Starved as RestStarved}
 use Rattle.query_tree.specs.declared.Entry.{Entry}
 use Rattle.query_tree.specs.Forest.{after_back, back_at, back_as}
+use Rattle.query_tree.specs.Live.{Counts}
 use Rattle.query_tree.specs.Ready.{NotesJob}
 use Rattle.query_tree.specs.Woods.{Woods, MayGive}
+use Rattle.query_tree.proofs.Chains.{rest_links}
 use Rattle.query_tree.proofs.Lists.{length_changed}
 use Rattle.query_tree.proofs.Tests.{MayRest, one_at}
 use Rattle.query_tree.proofs.Calls.{at_work}
@@ -41,7 +43,7 @@ rest-requires g c =
     rw c.deref_mut.ensures.value (record {
       here = a.here;
       fits = λ x b. omega (arith, a.spent, ap (λ (x : Entry g.row.T.Denot). x.spent) (one_at es l.id l.id own x a.at b refl));
-      above = λ x p b n. a.above p (ap (λ (x : Entry g.row.T.Denot). x.parent) (sym (one_at es l.id l.id own x a.at b refl)) ∙ n);
+      live = c.self.invariant.counts;
     })
 
 pub invariant_of-self : goal.invariant_of-self
@@ -53,7 +55,7 @@ invariant_of-self g c =
     c.index.result.now c.index.ensures c.in_default.not-Dropped in
     let own = c.requires.lent.own in
     let same = c.index-own.ensures ∙ get_or_from_slice_get es l.id own c.index-own.result.now a.at in
-    let says = rw (c.deref_mut.ensures.value, c.back_as-status.ensures, same) at c.rest.ensures in
+    let says = rw (c.deref_mut.ensures.value, c.back_as-status.ensures, same) at c.rest.ensures.entries in
     let new : c.rest.new.entries ≡ after_back es own l.id c.args.steps c.args.rest l.payload = says own a.at in
     let taken = take_at c.rest.new.entries (drop (length c.rest.new.entries) es) c.self.inside.entries.len (omega arith) in
     let notes : NotesJob c.self.inside.ready c.note_job.new.self l.id own.parent =
@@ -67,6 +69,11 @@ invariant_of-self g c =
       list_room = notes.room ∙ c.self.invariant.list_room;
       covers = rest_covers es own l.id (back_as c.args.rest own.stirred (own.left - c.args.steps)) (own.left - c.args.steps) c.args.steps
           l.payload c.self.inside.ready c.note_job.new.self notes c.self.invariant.covers;
+      live_room = c.rest.ensures.room ∙ c.self.invariant.live_room;
+      counts = subst (λ (xs : List (Entry g.row.T.Denot)). Counts xs c.rest.new.live) new c.rest.ensures.live;
+      kin_room = c.self.invariant.kin_room;
+      links = rest_links es own l.id a.at (back_as c.args.rest own.stirred (own.left - c.args.steps)) (own.left - c.args.steps) c.args.steps
+          l.payload c.self.inside.kin c.self.invariant.links;
     })
 
 pub returns : goal.returns
@@ -78,7 +85,7 @@ returns g c =
     c.index.result.now c.index.ensures c.in_default.not-Dropped in
     let own = c.requires.lent.own in
     let same = c.index-own.ensures ∙ get_or_from_slice_get es l.id own c.index-own.result.now a.at in
-    let says = rw (c.deref_mut.ensures.value, c.back_as-status.ensures, same) at c.rest.ensures in
+    let says = rw (c.deref_mut.ensures.value, c.back_as-status.ensures, same) at c.rest.ensures.entries in
     let new : c.rest.new.entries ≡ after_back es own l.id c.args.steps c.args.rest l.payload = says own a.at in
     let taken = take_at c.rest.new.entries (drop (length c.rest.new.entries) es) c.self.inside.entries.len (omega arith) in
     record {

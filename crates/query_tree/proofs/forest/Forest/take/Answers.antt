@@ -6,7 +6,9 @@ use Rattle.query_tree.specs.declared.Entry.{Entry}
 use Rattle.query_tree.specs.Forest.{after_take, take_at as taken_at, has_live_child, is_none}
 use Rattle.query_tree.specs.Kept.{Held}
 use Rattle.query_tree.specs.Woods.{Woods, IsLent}
-use Rattle.query_tree.proofs.Lists.{length_changed}
+use Rattle.query_tree.proofs.Chains.{take_links}
+use Rattle.query_tree.proofs.Counting.{child_is, take_counts}
+use Rattle.query_tree.proofs.Lists.{length_changed, within}
 use Rattle.query_tree.proofs.Tests.{one_at}
 use Rattle.query_tree.specs.Ready.{Covers, CoversOthers}
 use Rattle.query_tree.proofs.Take.{take_kept}
@@ -28,6 +30,17 @@ lend-requires-clause-held g c own at =
     let h : Held own.status (is_none own.payload) = (c.self.invariant.kept.each.fine c.in_ok-id.id own there).held in
     rw ready at h
 
+pub lend-requires-clause-waits : goal.lend-requires-clause-waits
+lend-requires-clause-waits g c =
+    let es = c.self.inside.entries.items in
+    let id = c.in_ok-id.id in
+    let r = c.in_ok-id.ensures.found.0 in
+    let first : slice_get es id ≡ Some r.own = ap (λ (xs : List (Entry g.row.T.Denot)). slice_get xs id) (sym c.deref.ensures.value)
+    ∙ r.at in
+    child_is es c.self.inside.live id c.has_child-waiting.result c.self.invariant.counts (within es id r.own first)
+    c.has_child-waiting.ensures
+    ∙ ap (λ (xs : List (Entry g.row.T.Denot)). has_live_child xs id) (sym c.deref_mut.ensures.value)
+
 pub invariant_of-self : goal.invariant_of-self
 invariant_of-self g c =
     let es = c.self.inside.entries.items in
@@ -40,6 +53,10 @@ invariant_of-self g c =
       list_room = c.in_err-id.ensures.room ∙ i.list_room;
       covers = subst (λ (xs : List (Entry g.row.T.Denot)). Covers xs c.next_ready.new.ready) c.deref.ensures.value
           c.in_err-id.ensures.found.1;
+      live_room = i.live_room;
+      counts = i.counts;
+      kin_room = i.kin_room;
+      links = i.links;
     }
 
 pub invariant_of-self-2 : goal.invariant_of-self-2
@@ -60,6 +77,11 @@ invariant_of-self-2 g c =
       covers = take_covers es c.in_ok-id.id c.next_ready.new.ready
           (subst (λ (xs : List (Entry g.row.T.Denot)). CoversOthers xs c.next_ready.new.ready c.in_ok-id.id) c.deref.ensures.value
           c.in_ok-id.ensures.found.1);
+      live_room = c.self.invariant.live_room;
+      counts = take_counts es c.in_ok-id.id r.own (has_live_child es c.in_ok-id.id) c.self.inside.live first r.ready
+          c.self.invariant.counts;
+      kin_room = c.self.invariant.kin_room;
+      links = take_links es c.in_ok-id.id (has_live_child es c.in_ok-id.id) c.self.inside.kin c.self.invariant.links;
     })
 
 -- what is lent is that of one entry
