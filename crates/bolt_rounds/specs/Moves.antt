@@ -1,5 +1,5 @@
 -- What a slice of a job comes to, and what the board makes of it.
-use Rattle.std.specs.Prelude.{◌≡◌, ℕ, ◌×◌, length, Some, slice_get}
+use Rattle.std.specs.Prelude.{◌≡◌, ℕ, length, true, Some, slice_get}
 use Rattle.std.specs.Option.{option_map}
 use Rattle.query_rules.specs.Answered.{AreAnswered}
 use Rattle.query_rules.specs.declared.step.Asked.{Asked}

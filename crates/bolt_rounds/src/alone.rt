@@ -1,9 +1,13 @@
 //! One worker.
 
-ghost use Rattle.std.specs.Prelude.{◌≡◌, [], IfOk, false, true};
-ghost use Rattle.bolt_core.specs.Boards.{SameProgram};
+ghost use Rattle.std.specs.Prelude.{◌≡◌, [], IfOk, OnOk, false, true};
+ghost use Rattle.summary_table.specs.Tables.{StartsWith};
+ghost use Rattle.bolt_core.specs.Boards.{SameProgram, Shown, most_queries};
+ghost use Rattle.bolt_core.specs.Keeps.{IsNow};
 ghost use Rattle.bolt_core.specs.Machine.{is_over};
 ghost use Rattle.bolt_core.specs.States.{reads};
+ghost use Rattle.bolt_rounds.specs.Moves.{IsJustTaken};
+ghost use Rattle.bolt_rounds.specs.steps.Turning.{AreBack, GivesBack, IsTurned};
 
 use crate::moves::{hand_in, work_on};
 use bolt_core::board::Board;
@@ -17,12 +21,16 @@ const WORKER: u32 = 0;
 
 /// Makes the slice of a job that was just taken, and gives it back. Nobody else works at the board,
 /// so it isn't gone.
-fn do_job(
-    alloc: Global,
-    board: &mut Board,
-    known: &Table,
-    job: Job,
-) -> Result<(), OutOfMemory> {
+fn do_job(alloc: Global, board: &mut Board, known: &Table, job: Job) -> Result<(), OutOfMemory>
+    ghost shown: { Shown }
+    requires shown { board.old ≡ shown }
+    requires known { known.now.summaries ≡ board.old.core.table }
+    requires job { IsJustTaken board.old job }
+    requires running { IsNow board.old.core job.id job.taken }
+    ensures same { SameProgram board.old board.new }
+    ensures back { OnOk result (GivesBack board.old job.id board.new) }
+{
+    board.reached();
     let worked = work_on(alloc, board.graphs(), known, job, u32::MAX)?;
     let Ok(()) = hand_in(board, WORKER, worked) else {
         unreachable!();
@@ -31,8 +39,18 @@ fn do_job(
 }
 
 /// Takes a query, makes its slice and gives it back: two events. Whether there was one; else the
-/// board is over or was stopped.
-fn turn(alloc: Global, board: &mut Board, known: &mut Table) -> Result<bool, OutOfMemory> {
+/// board is over.
+fn turn(alloc: Global, board: &mut Board, known: &mut Table) -> Result<bool, OutOfMemory>
+    requires back { AreBack board.old.core.history }
+    requires going { board.old.core.is_stopped ≡ false }
+    requires room { known.old.room ≡ most_queries board.old }
+    requires front { StartsWith board.old.core.table known.old.summaries }
+    ensures same { SameProgram board.old board.new }
+    ensures room { known.new.room ≡ known.old.room }
+    ensures turned { IfOk result
+        (λ more. IsTurned board.old known.new.summaries more board.new) }
+{
+    board.reached();
     board.bring(known)?;
     match board.take(WORKER, known) {
         Taken::Over => Ok(false),
@@ -52,6 +70,7 @@ pub fn alone(alloc: Global, mut board: Board) -> Result<Board, OutOfMemory>
     ensures over { IfOk result (λ b. is_over (reads b.graphs) b.core ≡ true) }
     ensures going { IfOk result (λ b. b.core.is_stopped ≡ false) }
 {
+    board.reached();
     let mut known = Table::with_room(alloc, board.room())?;
     loop {
         match turn(alloc, &mut board, &mut known) {

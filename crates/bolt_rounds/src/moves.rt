@@ -1,8 +1,10 @@
 //! A job's slice, and the call of the board that gives the job back.
 
-ghost use Rattle.std.specs.Prelude.{◌≡◌, ◌×◌, ◌≤◌, IfOk, MatchResult};
-ghost use Rattle.bolt_core.specs.Boards.{IsBoard, IsGone, SameProgram, Shown};
+ghost use Rattle.std.specs.Prelude.{◌≡◌, ◌≤◌, ◌++◌, ◌∷◌, [], IfOk, MatchResult, map};
+ghost use Rattle.std.specs.Option.{option_map};
+ghost use Rattle.bolt_core.specs.Boards.{HandsIn, IsBoard, IsGone, SameProgram, Shown};
 ghost use Rattle.bolt_rounds.specs.Moves.{IsJustTaken, IsMoved, MayMove};
+ghost use Rattle.bolt_rounds.specs.steps.Moving.{HasAskedLast, IsAskOf, IsMoveOf, MayEnd};
 
 use bolt_core::board::Board;
 use bolt_core::job::{Gone, Job};
@@ -27,7 +29,9 @@ pub enum Move {
         query: Arc<Query>,
     },
     /// Its last step fed the asked query of this number.
-    Feed { asked: u32 },
+    Feed {
+        asked: u32,
+    },
     /// It is to be taken again, waits, or has nothing left.
     Park(Rest),
     /// Its state is closed so, with the summary that comes of it.
@@ -45,7 +49,10 @@ pub struct Worked {
 }
 
 /// The queries above a child of the state's query.
-fn above_child(alloc: Global, state: &QueryState) -> Result<Vec<Arc<Query>>, OutOfMemory> {
+fn above_child(alloc: Global, state: &QueryState) -> Result<Vec<Arc<Query>>, OutOfMemory>
+    ensures { IfOk result
+        (λ all. map (λ a. a.value) all.items ≡ state.now.ancestors ++ state.now.query ∷ []) }
+{
     let above = state.ancestors();
     let mut all = Vec::with_capacity(alloc, above.len() + 1)?;
     for query in above {
@@ -56,7 +63,10 @@ fn above_child(alloc: Global, state: &QueryState) -> Result<Vec<Arc<Query>>, Out
 }
 
 /// The state of the query that the state's last step asked.
-fn asked_by(alloc: Global, graphs: &Graphs, state: &QueryState) -> Result<Move, OutOfMemory> {
+fn asked_by(alloc: Global, graphs: &Graphs, state: &QueryState) -> Result<Move, OutOfMemory>
+    requires { HasAskedLast graphs.now.graphs state.now }
+    ensures { IfOk result (IsAskOf graphs.now.graphs state.now) }
+{
     let asked = state.asked();
     let query = Arc::new(alloc, asked[asked.len() - 1].query.copy(alloc)?)?;
     let own = query.clone()?;
@@ -70,7 +80,9 @@ fn summary_of(
     alloc: Global,
     query: &Query,
     how: &Closing,
-) -> Result<Option<Arc<Summary>>, OutOfMemory> {
+) -> Result<Option<Arc<Summary>>, OutOfMemory>
+    ensures { IfOk result (λ s. HandsIn query.now how.now (option_map (λ a. a.value) s)) }
+{
     match how {
         Closing::NotMay => Ok(Some(Arc::new(alloc, Summary::NotMay(query.copy(alloc)?))?)),
         Closing::Must(path) => Ok(Some(Arc::new(alloc, Summary::Must(path.copy(alloc)?))?)),
@@ -84,7 +96,10 @@ fn move_of(
     graphs: &Graphs,
     state: &QueryState,
     end: SliceEnd,
-) -> Result<Move, OutOfMemory> {
+) -> Result<Move, OutOfMemory>
+    requires { MayEnd graphs.now.graphs state.now end }
+    ensures { IfOk result (IsMoveOf graphs.now.graphs state.now end) }
+{
     match end {
         SliceEnd::Goes => Ok(Move::Park(Rest::Ready)),
         SliceEnd::Asked => asked_by(alloc, graphs, state),

@@ -1,0 +1,4 @@
+pub mod Slicing
+pub mod Sliced
+pub mod Moving
+pub mod Turning

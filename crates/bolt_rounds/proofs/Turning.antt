@@ -1,0 +1,258 @@
+-- Turns of a worker who works alone: what is taken is given back.
+use Rattle.std.proofs.Common.{◌≡◌, ℕ, suc, ◌+◌, ◌*◌, ◌≤◌, List, [], ◌∷◌, ◌++◌, length, Bool, true, false, Some, refl, sym, ap, ◌∙◌, subst, inl, ⊎_elim, arith}
+use Rattle.std.specs.Prelude.{slice_get}
+use Rattle.std.proofs.lemmas.Bool.{eq-eqb}
+use Rattle.std.proofs.lemmas.List.{append-nil, length_push}
+use Rattle.query_tree.proofs.Lists.{from_pushed, to_pushed, within}
+use Rattle.query_tree.proofs.Marks.{get_pushed}
+use Rattle.query_rules.specs.Seen.{Seen}
+use Rattle.summary_form.specs.declared.summary.Summary.{Summary}
+use Rattle.summary_table.specs.Tables.{StartsWith}
+use Rattle.bolt_core.specs.declared.job.Gone.{Gone as GoneJob}
+use Rattle.bolt_core.specs.declared.job.Job.{Job as Given}
+use Rattle.bolt_core.specs.Boards.{IsBoard, IsBusy, IsGone, IsTaken, SameProgram, Shown, most_queries}
+use Rattle.bolt_core.specs.Histories.{Told, asked, closed, fed, gives_back, parked, said, stopped, took}
+use Rattle.bolt_core.specs.Keeps.{IsNow}
+use Rattle.bolt_core.specs.Machine.{Core, Event, Reached, Reads, closed_how, empty_board, opening}
+use Rattle.bolt_core.specs.States.{reads}
+use Rattle.bolt_core.proofs.BoardKeeps.{board_keeps, nodes_of}
+use Rattle.bolt_core.proofs.Going.{board_queries, goes_on}
+use Rattle.bolt_core.proofs.Nodes.{table_within}
+use Rattle.bolt_core.proofs.Reserve.{event_history}
+use Rattle.bolt_rounds.specs.declared.moves.Move.{Move}
+use Rattle.bolt_rounds.specs.declared.moves.Move.TheVariants as move
+use Rattle.bolt_rounds.specs.Moves.{IsJustTaken, IsMoved}
+use Rattle.bolt_rounds.specs.steps.Turning.{AreBack, GivesBack, HasTurned, IsBack}
+
+-- What is given back
+module _ (old new : Shown) (w : ℕ) (j : Given) where
+  pub record IsGiven : Type 0 where
+    pub told : Told
+    pub event : Event (reads old.graphs) old.core told new.core
+    pub back : gives_back j.id told ≡ true
+
+  moved_back : (m : Move) → IsMoved old w j m new → IsGiven
+  moved_back (move.Ask child query) e =
+      record { told = asked w j.id j.spent (length old.core.entries) query.value; event = e; back = eq-eqb j.id j.id refl }
+  moved_back (move.Feed number) e =
+      record { told = fed w j.id j.spent e.entry.child; event = e.event; back = eq-eqb j.id j.id refl }
+  moved_back (move.Park r) e = record { told = parked w j.id j.spent r; event = e; back = eq-eqb j.id j.id refl }
+  moved_back (move.Close how summary) e = record {
+    told = closed w j.id j.spent (closed_how (reads old.graphs) e.level j.state how) e.summaries;
+    event = e.event;
+    back = eq-eqb j.id j.id refl;
+  }
+
+  pub given_back : IsBoard old → IsNow old.core j.id j.taken → (m : Move) → IsMoved old w j m new → GivesBack old j.id new
+  given_back h v m e =
+      let g = moved_back m e in
+      record {
+        told = g.told;
+        event = g.event;
+        back = g.back;
+        fits = (goes_on old g.told new.core h g.event (omega (arith, within old.core.entries j.id v.own v.at))).fits;
+      }
+
+-- a job whose query is Running since its take isn't gone
+pub not_gone : (old new : Shown) (j : Given) (gone : GoneJob) → IsBoard old → IsNow old.core j.id j.taken → IsGone old new j gone → ⊥
+not_gone old new j gone h v g = (board_keeps old h).ended.going j.taken j.id v gone.event g.first.after g.first.is_end
+
+-- A take
+
+module _ (old new : Shown) (w : ℕ) (j : Given) (h : IsBoard old) (t : IsTaken old w new j) where
+  abbrev pub e : Told
+  e = took w j.id j.left t.stored t.waiting
+
+  pub history_is : new.core.history ≡ old.core.history ++ e ∷ []
+  history_is = event_history (reads old.graphs) old.core new.core e t.event
+
+  take_stands : slice_get new.core.history j.taken ≡ Some e
+  take_stands =
+      ap (λ l. slice_get l j.taken) history_is
+      ∙ (ap (slice_get (old.core.history ++ e ∷ [])) t.place ∙ get_pushed old.core.history e)
+
+  pub taken_now : IsNow new.core j.id j.taken
+  taken_now =
+      let g = goes_on old e new.core h t.event (omega (arith, within old.core.entries j.id t.event.own t.event.at)) in
+      let k = board_keeps (record old { core = new.core }) g.board in
+      ⊎_elim (λ n. n)
+      (λ x. absurd (omega (
+        arith,
+        x.1,
+        within new.core.history x.0 x.2.event x.2.at,
+        ap (λ l. length l) history_is,
+        length_push old.core.history e,
+        t.place,
+      )))
+      (k.ended.ended j.taken w j.id j.left t.stored t.waiting take_stands)
+
+  pub just_taken : IsJustTaken new j
+  just_taken =
+      let s = t.sound in
+      let here : Some (took s.worker j.id j.left s.stored s.waiting) ≡ Some e = sym s.take_at ∙ take_stands in
+      let same : s.waiting ≡ t.waiting = cc in
+      record {
+        sound = t.sound;
+        none = t.none;
+        answered = t.answered;
+        waits = λ i a at is. same ∙ t.waits i a at is;
+      }
+
+-- Histories
+
+more_back : (h : List Told) (e : Told) (i t : ℕ) → IsBack h i t → IsBack (h ++ e ∷ []) i t
+more_back h e i t b = record {
+  place = b.place;
+  event = b.event;
+  after = b.after;
+  at = to_pushed h e b.place b.event b.at;
+  back = b.back;
+}
+
+-- a take, and the event that gives it back
+back_twice : (h : List Told) (w i left steps : ℕ) (waiting : Bool) (e : Told) → AreBack h → gives_back i e ≡ true →
+    AreBack ((h ++ took w i left steps waiting ∷ []) ++ e ∷ [])
+back_twice h w i left steps waiting e b g = record { all = each } where
+  d : Told
+  d = took w i left steps waiting
+
+  mid : List Told
+  mid = h ++ d ∷ []
+
+  no_take : (v k n m : ℕ) (u : Bool) → took v k n m u ≡ e → ⊥
+  no_take v k n m u is = let f : false ≡ true = ap (gives_back i) is ∙ g in absurd (cc)
+
+  each : (t v k n m : ℕ) (u : Bool) → slice_get (mid ++ e ∷ []) t ≡ Some (took v k n m u) → IsBack (mid ++ e ∷ []) k t
+  each t v k n m u at = ⊎_elim
+      (λ a. ⊎_elim
+      (λ o. more_back mid e k t (more_back h d k t (b.all t v k n m u o)))
+      (λ o.
+      let is : took v k n m u ≡ d = o.1 in
+      let same : i ≡ k = cc in
+      record {
+        place = length mid;
+        event = e;
+        after = omega (arith, o.0, length_push h d);
+        at = get_pushed mid e;
+        back = subst (λ x. gives_back x e ≡ true) same g;
+      })
+      (from_pushed h d t (took v k n m u) a))
+      (λ a. absurd (no_take v k n m u a.1))
+      (from_pushed mid e t (took v k n m u) at)
+
+pub none_back : (h : List Told) → h ≡ [] → AreBack h
+none_back h e = record {
+  all = λ t w i left steps waiting at.
+      let no' : slice_get [] t ≡ Some (took w i left steps waiting) = ap (λ (l : List Told). slice_get l t) (sym e) ∙ at in absurd (cc);
+}
+
+-- where all was given back no query is Running
+pub never_idle : (b : Shown) → IsBoard b → AreBack b.core.history → IsBusy b.core.entries → ⊥
+never_idle b h back y =
+    let k = board_keeps b h in
+    let l = k.linked.linked y.id y.own y.at y.running in
+    let x = back.all l.taken l.worker y.id y.own.lent y.own.spent y.own.waiting l.at in
+    k.ended.going l.taken y.id (record { own = y.own; at = y.at; running = y.running; last = l.last }) x.place x.after
+    (record { event = x.event; at = x.at; ends = inl x.back })
+
+-- Events
+
+starts_all : (ts ss : List Summary) → StartsWith (ts ++ ss) ts
+starts_all ts ss = record { rest = ss; is = refl }
+
+pub starts_self : (ts : List Summary) → StartsWith ts ts
+starts_self ts = record { rest = []; is = sym (append-nil ts) }
+
+module _ {S : Type 0} (R : Reads S) (old new : Core S) where
+  back_going : (i : ℕ) (e : Told) → Event R old e new → gives_back i e ≡ true → new.is_stopped ≡ old.is_stopped
+  back_going i (took w k left steps waiting) t g = absurd (cc)
+  back_going i (said w k s) t g = absurd (cc)
+  back_going i (asked w k n c q) t g = ap (λ (c : Core S). c.is_stopped) t.new_is
+  back_going i (fed w k n c) t g = ap (λ (c : Core S). c.is_stopped) t.new_is
+  back_going i (parked w k n r) t g = ap (λ (c : Core S). c.is_stopped) t.new_is
+  back_going i (closed w k n how ss) t g = ap (λ (c : Core S). c.is_stopped) t.new_is
+  back_going i (stopped w) t g = absurd (cc)
+
+  grown_by : (ss : List Summary) → new.table ≡ old.table ++ ss → StartsWith new.table old.table
+  grown_by ss e = record { rest = ss; is = e }
+
+  same_table : new.table ≡ old.table → StartsWith new.table old.table
+  same_table e = grown_by [] (e ∙ sym (append-nil old.table))
+
+  back_front : (i : ℕ) (e : Told) → Event R old e new → gives_back i e ≡ true → StartsWith new.table old.table
+  back_front i (took w k left steps waiting) t g = absurd (cc)
+  back_front i (said w k s) t g = absurd (cc)
+  back_front i (asked w k n c q) t g = grown_by [] (ap (λ (c : Core S). c.table) t.new_is)
+  back_front i (fed w k n c) t g = same_table (ap (λ (c : Core S). c.table) t.new_is)
+  back_front i (parked w k n r) t g = same_table (ap (λ (c : Core S). c.table) t.new_is)
+  back_front i (closed w k n how ss) t g = grown_by ss (ap (λ (c : Core S). c.table) t.new_is)
+  back_front i (stopped w) t g = absurd (cc)
+
+pub same_most : (a b : Shown) → SameProgram a b → most_queries b ≡ most_queries a
+same_most a b s = ap (λ n. n * b.budget + n) s.asserts ∙ ap (λ m. a.asserts * m + a.asserts) s.budget
+
+pub same_program : (a b c : Shown) → SameProgram a b → SameProgram b c → SameProgram a c
+same_program a b c s t = record {
+  graphs = t.graphs ∙ s.graphs;
+  main = t.main ∙ s.main;
+  asserts = t.asserts ∙ s.asserts;
+  budget = t.budget ∙ s.budget;
+}
+
+-- A turn
+module _ (old mid new : Shown) (w : ℕ) (j : Given) (known : List Summary) (h : IsBoard old) (t : IsTaken old w mid j)
+    (g : GivesBack mid j.id new) where
+  event_is : new.core.history ≡ mid.core.history ++ g.told ∷ []
+  event_is = event_history (reads mid.graphs) mid.core new.core g.told g.event
+
+  histories : new.core.history ≡ (old.core.history ++ took w j.id j.left t.stored t.waiting ∷ []) ++ g.told ∷ []
+  histories = event_is ∙ ap (λ l. l ++ g.told ∷ []) (history_is old mid w j h t)
+
+  mid_length : length mid.core.history ≡ suc (length old.core.history)
+  mid_length =
+      let d : Told = took w j.id j.left t.stored t.waiting in
+      omega (arith, ap (λ (l : List Told). length l) (history_is old mid w j h t), length_push old.core.history d)
+
+  new_length : length new.core.history ≡ suc (length mid.core.history)
+  new_length = omega (arith, ap (λ (l : List Told). length l) event_is, length_push mid.core.history g.told)
+
+  pub has_turned : AreBack old.core.history → old.core.is_stopped ≡ false → SameProgram mid new → known ≡ old.core.table →
+      HasTurned old known new
+  has_turned back going same is = record {
+    back = subst AreBack (sym histories)
+        (back_twice old.core.history w j.id j.left t.stored t.waiting g.told back g.back);
+    going = back_going (reads mid.graphs) mid.core new.core j.id g.told g.event g.back
+        ∙ (ap (λ (c : Core Seen). c.is_stopped) t.event.new_is ∙ going);
+    front = subst (StartsWith new.core.table) (ap (λ (c : Core Seen). c.table) t.event.new_is ∙ sym is)
+        (back_front (reads mid.graphs) mid.core new.core j.id g.told g.event g.back);
+    more = omega (arith, mid_length, new_length);
+    few = omega (arith, new_length, g.fits, same_most mid new same);
+  }
+
+-- A board without history
+
+opening_going : {S : Type 0} (R : Reads S) (grant : ℕ) (ss : List S) (c : Core S) → (opening R grant ss c).is_stopped ≡ c.is_stopped
+opening_going R grant [] c = refl
+opening_going R grant (s ∷ ss) c = opening_going R grant ss _
+
+reached_none : {S : Type 0} (R : Reads S) (old new : Core S) (h : List Told) → h ≡ [] → Reached R old h new → new ≡ old
+reached_none R old new [] e r = r
+reached_none R old new (x ∷ h) e r = absurd (let no' : x ∷ h ≡ [] = e in cc)
+
+pub begun_going : (b : Shown) → IsBoard b → b.core.history ≡ [] → b.core.is_stopped ≡ false
+begun_going b h e =
+    let R = reads b.graphs in
+    let o = h.opening in
+    ap (λ (c : Core Seen). c.is_stopped) (reached_none R h.opened b.core b.core.history e h.reached ∙ o.is)
+    ∙ opening_going R b.budget o.roots (empty_board R)
+
+-- there is room for the board's table
+pub table_few : (b : Shown) → IsBoard b → length b.core.table ≤ most_queries b
+table_few b h =
+    let k = board_keeps b h in
+    omega (
+      arith,
+      table_within (reads b.graphs) b.core (nodes_of (reads b.graphs) b.asserts b.core k),
+      k.paired.count,
+      board_queries b h,
+    )

@@ -1,0 +1,41 @@
+-- Turns of a worker who works alone.
+use Rattle.std.specs.Prelude.{◌≡◌, ℕ, suc, ◌*◌, ◌<◌, ◌≤◌, List, length, Bool, true, false, Some, slice_get}
+use Rattle.summary_form.specs.declared.summary.Summary.{Summary}
+use Rattle.summary_table.specs.Tables.{StartsWith}
+use Rattle.bolt_core.specs.Boards.{Shown, most_queries}
+use Rattle.bolt_core.specs.Histories.{Told, gives_back, took}
+use Rattle.bolt_core.specs.Machine.{Event, is_over}
+use Rattle.bolt_core.specs.States.{reads}
+
+-- an event after this place gives the query back
+pub record IsBack (h : List Told) (id taken : ℕ) : Type 0 where
+  pub place : ℕ
+  pub event : Told
+  pub after : taken < place
+  pub at : slice_get h place ≡ Some event
+  pub back : gives_back id event ≡ true
+
+-- each query that was taken was given back
+pub record AreBack (h : List Told) : Type 0 where
+  pub all : (t w i left steps : ℕ) (waiting : Bool) →
+      slice_get h t ≡ Some (took w i left steps waiting) → IsBack h i t
+
+-- one event, which gives the query back, and there was room for it
+pub record GivesBack (old : Shown) (id : ℕ) (new : Shown) : Type 0 where
+  pub told : Told
+  pub event : Event (reads old.graphs) old.core told new.core
+  pub back : gives_back id told ≡ true
+  pub fits : length old.core.history < 16 * most_queries old
+
+-- two events, the second of which gives back what the first took
+pub record HasTurned (old : Shown) (known : List Summary) (new : Shown) : Type 0 where
+  pub back : AreBack new.core.history
+  pub going : new.core.is_stopped ≡ false
+  pub front : StartsWith new.core.table known
+  pub more : length new.core.history ≡ suc (suc (length old.core.history))
+  pub few : length new.core.history ≤ 16 * most_queries new
+
+abbrev pub IsTurned : Shown → (known : List Summary) → (more : Bool) → Shown → Type 0
+IsTurned old known true new = HasTurned old known new
+IsTurned old known false new =
+    (is_over (reads new.graphs) new.core ≡ true) × (new.core.is_stopped ≡ false)
