@@ -1,17 +1,27 @@
-use Rattle.std.proofs.Common.{◌≡◌, ◌+◌, List, None, false, refl, sym, ap, ◌∙◌, subst, arith}
+use Rattle.std.proofs.Common.{◌≡◌, ◌+◌, List, [], None, false, refl, sym, ap, ◌∙◌, subst, arith}
 use Rattle.std.specs.Prelude.{slice_get}
 use Rattle.flow_graph.specs.declared.graphs.Graphs.{Graphs}
 use Rattle.summary_form.specs.declared.query.Query.{Query}
 use Rattle.query_tree.specs.Forest.{after_root}
 use Rattle.bolt_core.specs.declared.slot.Slot.{Slot}
 use Rattle.bolt_core.specs.Boards.{IsRootOf, node_of}
-use Rattle.bolt_core.proofs.Beginning.{AreBegun, begun_board, begun_roomy, one_begun}
+use Rattle.bolt_core.proofs.Beginning.{AreBegun, begun_board, begun_roomy, none_begun, one_begun}
 use Rattle.bolt_core.proofs.board.Board.begin.Goals as goal
 
 pub root_of-requires : goal.root_of-requires
 root_of-requires c =
     let g = c.requires.main in
     (g.0, ap (λ (x : Graphs). slice_get x.graphs c.args.main) c.deref.ensures ∙ g.1)
+
+pub loop-id-init : goal.loop-id-init
+loop-id-init c =
+    let gs = c.args.graphs.value.graphs in (
+      subst (λ es. AreBegun gs c.args.main c.args.budget 0 es c.in_ok-slots.slots.items) (sym c.in_ok-forest.ensures.1)
+          (subst (λ (ss : List Slot). AreBegun gs c.args.main c.args.budget 0 [] ss) (sym c.in_ok-slots.ensures.items)
+          (none_begun gs c.args.main c.args.budget)),
+      c.in_ok-forest.ensures.0,
+      omega (arith, c.in_ok-slots.ensures.capacity),
+    )
 
 pub loop-id-preserved : goal.loop-id-preserved
 loop-id-preserved c =
