@@ -47,7 +47,10 @@ fn board_of(alloc: Global, program: &Program, budget: u32) -> Result<Board, OutO
 {
     let graphs = Arc::new(alloc, build(alloc, program)?)?;
     let count = program.asserts.len() as u32;
-    let board = alone(alloc, Board::begin(alloc, graphs, program.main, count, budget)?)?;
+    let board = alone(
+        alloc,
+        Board::begin(alloc, graphs, program.main, count, budget)?,
+    )?;
     board.reached();
     Ok(board)
 }

@@ -7,8 +7,8 @@ mod tables;
 use self::agreement::{tally_alone, tally_calling};
 use self::analyses::{ANALYSES, CALLS, OPEN};
 use self::tables::{
-    BLANKS, BODIES, CHECKS, COMMANDS, FAULTS, Fault, LIMITS, Limit, NO_COMMANDS, REFUSALS,
-    REPLAYS, Row, SUM, WORKED,
+    BLANKS, BODIES, CHECKS, COMMANDS, FAULTS, Fault, LIMITS, Limit, NO_COMMANDS, REFUSALS, REPLAYS,
+    Row, SUM, WORKED,
 };
 use crate::run::run;
 use crate::words::{Command, command_from, one_command};
@@ -127,11 +127,7 @@ fn report_with(alloc: Global, told: &str, lines: &[&str]) -> Result<String, Fail
 }
 
 /// Each source has these lines, or other ones that they allow.
-fn agree_on_open(
-    rt: &impl Abort,
-    alloc: Global,
-    rows: &[(&str, &[&str])],
-) -> Result<(), Fail> {
+fn agree_on_open(rt: &impl Abort, alloc: Global, rows: &[(&str, &[&str])]) -> Result<(), Fail> {
     for (text, lines) in rows {
         let got = told_of(alloc, "check|--budget|20000", text)?;
         let wanted = report_with(alloc, got.as_str(), lines)?;
