@@ -1,11 +1,11 @@
 -- Where nothing fails, an accepted source is answered.
-use Rattle.std.proofs.Common.{◌≡◌, ◌⊎◌, ℕ, ◌≤◌, List, ◌++◌, length, Bool, true, false, cond, Option, Some, None, sym, ap, ◌∙◌, subst, arith, append-nil, length-append}
+use Rattle.std.proofs.Common.{◌≡◌, ℕ, ◌≤◌, List, ◌++◌, length, Bool, true, false, cond, Option, Some, None, sym, ap, ◌∙◌, subst, arith, append-nil, length-append}
 use Rattle.std.specs.Io.KnownBytes.{Consumes, IsAtEnd}
 use Rattle.std.specs.List.{list_any}
 use mathlib.Core.Logic.{inl, inr}
 use Rattle.c_tree.specs.Syntax.{PureProgram}
 use Rattle.c_tree.specs.Meaning.{ReplayOutcome, Comes, Starved, Fuel, Returned, Stopped, Failed}
-use Rattle.smash_main.specs.declared.verdict.Verdict.{Verdict}
+use Rattle.bolt_core.specs.declared.job.Verdict.{Verdict}
 use Rattle.smash_main.specs.Report.{status_of, is_found, is_unknown}
 use Rattle.smash_main.specs.Analysis.{Witness}
 use Rattle.smash_main.specs.Words.{Command, check, replay}
@@ -31,19 +31,15 @@ at_most (Some xs) (Some ys) all bytes told h =
     let same : xs ≡ all = cc in
     omega (arith, length-append bytes ys, ap length h, ap length same)
 
--- a verdict's status, or want of memory
-abbrev Ends : ℕ → Type 0
-Ends status = (status ≡ 0) ⊎ ((status ≡ 1) ⊎ ((status ≡ 2) ⊎ (status ≡ 7)))
-
-check_ends : (vs : List Verdict) (status : ℕ) → status ≡ status_of vs → Ends status
+check_ends : (vs : List Verdict) (status : ℕ) → status ≡ status_of vs → IsVerdictStatus status
 check_ends vs status e = at (list_any is_found vs) (list_any is_unknown vs) e
   where
-    at : (found unknown : Bool) → status ≡ cond found 1 (cond unknown 2 0) → Ends status
+    at : (found unknown : Bool) → status ≡ cond found 1 (cond unknown 2 0) → IsVerdictStatus status
     at true unknown h = inr (inl h)
     at false true h = inr (inr (inl h))
     at false false h = inl h
 
-replay_ends : (o : ReplayOutcome) (status : ℕ) → status ≡ replay_status o → Ends status
+replay_ends : (o : ReplayOutcome) (status : ℕ) → status ≡ replay_status o → IsVerdictStatus status
 replay_ends (Comes (Returned v)) status e = inl e
 replay_ends (Comes Stopped) status e = inl e
 replay_ends (Comes (Failed id)) status e = inr (inl e)
@@ -51,15 +47,9 @@ replay_ends Starved status e = inr (inr (inl e))
 replay_ends Fuel status e = inr (inr (inl e))
 
 -- the status of an answer is one of a verdict
-answered : (c : Command) (P : PureProgram) (status : ℕ) (text : List ℕ) (w : Witness) → Answers c P status text w →
-    IsVerdictStatus c P status
-answered (check budget) P status text w (inl u) = λ no_calls. absurd (let e = u.more in cc)
-answered (check budget) P status text w (inr k) = λ no_calls. check_ends k.reported.verdicts status k.reported.ended
+answered : (c : Command) (P : PureProgram) (status : ℕ) (text : List ℕ) (w : Witness) → Answers c P status text w → IsVerdictStatus status
+answered (check budget) P status text w k = check_ends k.verdicts status k.ended
 answered (replay fuel list) P status text w k = replay_ends k.outcome status k.ended
-
-no_memory : (c : Command) (P : PureProgram) (status : ℕ) → status ≡ 7 → IsVerdictStatus c P status
-no_memory (check budget) P status e = λ no_calls. inr (inr (inr e))
-no_memory (replay fuel list) P status e = inr (inr (inr e))
 
 pub completes : (c : Command) (status : ℕ) (source sink : Change) (w : Witness) → Obeys c status source sink w →
     Completes c status source sink
@@ -68,11 +58,11 @@ completes c status source sink w (inl k) all P told fits accepted read_well writ
     same : k.bytes ≡ all
     same = whole source.before source.after all k.bytes told k.read.consumed k.read.at_end
 
-    ended : EndsWith status sink k.due k.text → IsVerdictStatus c P status
-    ended (inl e) = subst (IsVerdictStatus c P) (sym e.0)
+    ended : EndsWith status sink k.due k.text → IsVerdictStatus status
+    ended (inl e) = subst IsVerdictStatus (sym e.0)
         (answered c P k.due k.text w (k.settled P (subst (λ z. IsAccepted z P) (sym same) accepted)))
     ended (inr e) = absurd (write_well e.1)
 completes c status source sink w (inr (inl l)) all P told fits accepted read_well write_well =
     absurd (omega (arith, at_most source.before source.after all l.taken.0 told l.taken.1, l.taken.2))
 completes c status source sink w (inr (inr (inl b))) all P told fits accepted read_well write_well = absurd (read_well b.failed)
-completes c status source sink w (inr (inr (inr m))) all P told fits accepted read_well write_well = no_memory c P status m.is_seven
+completes c status source sink w (inr (inr (inr m))) all P told fits accepted read_well write_well = inr (inr (inr m.is_seven))

@@ -1,14 +1,9 @@
 pub mod Accepted
 pub mod Bounded
-pub mod CallLoops
 pub mod Completed
-pub mod InputValues
 pub mod Judging
 pub mod ListText
-pub mod NoCalls
 pub mod Placed
-pub mod Pushed
-pub mod TermValues
 pub mod WordsCommand
 pub mod WordsForms
 pub mod WordsLists

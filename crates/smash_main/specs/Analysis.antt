@@ -1,5 +1,5 @@
 -- The verdicts of an analysis, and the board at which they were come to.
-use Rattle.std.specs.Prelude.{◌≡◌, ℕ, ◌×◌, List, length, true, false, ℤ, Option, None, Some, slice_get}
+use Rattle.std.specs.Prelude.{◌≡◌, ℕ, List, length, true, false, ℤ, Option, None, Some, slice_get}
 use Rattle.c_tree.specs.Meaning.{Reaches}
 use Rattle.c_tree.specs.Syntax.{PureProgram}
 use Rattle.flow_build.specs.Promises.{AreBounded, SameRuns}

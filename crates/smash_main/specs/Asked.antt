@@ -1,5 +1,5 @@
 -- What a source asks for under a command: a status, a whole text, and what is handed back.
-use Rattle.std.specs.Prelude.{◌≡◌, ℕ, ◌<◌, List, [], ◌∷◌, ◌++◌, ◌⊎◌, codes, true, false, ℤ, slice_get, Some, Option, None}
+use Rattle.std.specs.Prelude.{◌≡◌, ℕ, ◌<◌, List, [], ◌∷◌, ◌++◌, ◌⊎◌, codes, ℤ, slice_get, Some, Option, None}
 use Rattle.std.specs.Fmt.{decimal, signed_decimal}
 use Rattle.c_tree.specs.declared.tree.Pos.{Pos}
 use Rattle.c_tree.specs.declared.tree.AssertPlace.{AssertPlace}

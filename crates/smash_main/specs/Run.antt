@@ -1,10 +1,10 @@
 -- What the program owes to its words, its source and its sink.
-use Rattle.std.specs.Prelude.{◌≡◌, ℕ, ◌+◌, ◌≤◌, List, [], ◌∷◌, ◌++◌, length, codes, ◌⊎◌, Some, false}
+use Rattle.std.specs.Prelude.{◌≡◌, ℕ, ◌+◌, ◌≤◌, List, [], ◌∷◌, ◌++◌, length, codes, ◌⊎◌, Some}
 use Rattle.std.specs.declared.option.Option.{Option}
 use Rattle.std.specs.Io.KnownBytes.{Consumes, Appends, IsAtEnd, Keeps}
 use Rattle.outer_io.specs.Causes.{Rose, Took, TookAtMost, WritesFront}
 use Rattle.c_tree.specs.Syntax.{PureProgram}
-use Rattle.smash_main.specs.Words.{Command, check, replay}
+use Rattle.smash_main.specs.Words.{Command}
 use Rattle.smash_main.specs.Source.{IsAccepted, source_limit}
 use Rattle.smash_main.specs.Analysis.{Witness, no_witness}
 use Rattle.smash_main.specs.Asked.{AsksFor, Answers}

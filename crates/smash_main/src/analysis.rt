@@ -1,10 +1,11 @@
 //! The analysis of a program: a board with a root for each assertion, worked at until it is over.
 
-ghost use Rattle.std.specs.Prelude.{◌≡◌, ◌≤◌, ◌<◌, length, IfOk, false, true};
+ghost use Rattle.std.specs.Prelude.{◌≡◌, ◌≤◌, IfOk, false, true};
 ghost use Rattle.c_tree.specs.Whole.{program_of};
 ghost use Rattle.bolt_core.specs.Machine.{is_over};
 ghost use Rattle.bolt_core.specs.States.{reads};
 ghost use Rattle.smash_main.specs.Analysis.{IsAnalysis, IsBoardOf};
+ghost use Rattle.smash_main.specs.Words.{max_budget};
 ghost use Rattle.smash_main.specs.steps.Judging.{AreVerdicts};
 
 use bolt_core::board::Board;
@@ -41,18 +42,23 @@ fn verdicts_of(alloc: Global, board: &Board, count: u32) -> Result<Vec<Verdict>,
 /// over.
 fn board_of(alloc: Global, program: &Program, budget: u32) -> Result<Board, OutOfMemory>
     requires some { 1 ≤ budget }
-    requires most { budget ≤ 20000 }
+    requires most { budget ≤ max_budget }
     ensures { IfOk result (IsBoardOf (program_of program.now) budget) }
 {
     let graphs = Arc::new(alloc, build(alloc, program)?)?;
     let count = program.asserts.len() as u32;
-    alone(alloc, Board::begin(alloc, graphs, program.main, count, budget)?)
+    let board = alone(
+        alloc,
+        Board::begin(alloc, graphs, program.main, count, budget)?,
+    )?;
+    board.reached();
+    Ok(board)
 }
 
-/// Analyses each assertion of a program with a budget of legal steps of its own, from 1 to 20,000.
+/// Analyses each assertion of a program with a budget of legal steps of its own.
 pub fn analyse(alloc: Global, program: &Program, budget: u32) -> Result<Analysis, OutOfMemory>
     requires some { 1 ≤ budget }
-    requires most { budget ≤ 20000 }
+    requires most { budget ≤ max_budget }
     ensures { IfOk result (λ a. IsAnalysis (program_of program.now) budget a.board
         a.verdicts.items) }
 {

@@ -1,16 +1,16 @@
 //! What a source asks for under a command.
 
-ghost use Rattle.std.specs.Prelude.{◌≡◌, ◌≤◌, length, false, IfOk, Some, string_bytes};
+ghost use Rattle.std.specs.Prelude.{◌≡◌, ◌≤◌, length, IfOk, Some, string_bytes};
 ghost use Rattle.c_tree.specs.Syntax.{PureProgram};
 ghost use Rattle.c_tree.specs.Whole.{program_of};
 ghost use Rattle.run_replay.specs.Outcome.{replay_outcome};
 ghost use Rattle.smash_main.specs.Analysis.{no_witness};
 ghost use Rattle.smash_main.specs.Asked.{AsksFor, Answers, IsReported, IsReplayed, HasPlace, failed_text, replay_status, replay_text};
 ghost use Rattle.smash_main.specs.Source.{IsAccepted, refusal_line, source_limit};
-ghost use Rattle.smash_main.specs.Words.{Command as PureCommand};
+ghost use Rattle.smash_main.specs.Words.{max_budget};
 ghost use Rattle.smash_main.specs.steps.Accepting.{reason_text};
 ghost use Rattle.smash_main.specs.steps.Handing.{handed_in};
-ghost use Rattle.smash_main.specs.steps.WordsView.{command_of};
+ghost use Rattle.smash_main.specs.steps.WordsView.{HasFitBudget, command_of};
 
 use crate::accept::{Reason, Rejection, accept};
 use crate::analysis::{Analysis, analyse};
@@ -56,7 +56,7 @@ fn bare_reply(status: u8, text: String) -> Reply
 /// The report of a program.
 fn check_program(alloc: Global, program: &Program, budget: u32) -> Result<Reply, AllocError>
     requires some { 1 ≤ budget }
-    requires most { budget ≤ 20000 }
+    requires most { budget ≤ max_budget }
     ensures { IfOk result (λ a. IsReported (program_of program.now) budget a.status
         (string_bytes a.text) (handed_in a)) }
 {
@@ -128,6 +128,7 @@ fn replay_program(
 
 /// The answer to a program.
 fn answer(alloc: Global, command: &Command, program: &Program) -> Result<Reply, AllocError>
+    requires { HasFitBudget (command_of command.now) }
     ensures { IfOk result (λ a. Answers (command_of command.now) (program_of program.now) a.status
         (string_bytes a.text) (handed_in a)) }
 {
@@ -139,7 +140,8 @@ fn answer(alloc: Global, command: &Command, program: &Program) -> Result<Reply, 
 
 /// The reply to a source, by its bytes.
 pub fn reply_to(alloc: Global, command: &Command, bytes: &[u8]) -> Result<Reply, AllocError>
-    requires { length bytes.now ≤ source_limit }
+    requires fits { length bytes.now ≤ source_limit }
+    requires budget { HasFitBudget (command_of command.now) }
     ensures asked { IfOk result (λ a. AsksFor (command_of command.now) bytes.now a.status
         (string_bytes a.text) (handed_in a)) }
     ensures settled { IfOk result (λ a. (P : PureProgram) → IsAccepted bytes.now P →

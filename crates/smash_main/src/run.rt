@@ -6,7 +6,7 @@ ghost use Rattle.smash_main.specs.Analysis.{no_witness};
 ghost use Rattle.smash_main.specs.Source.{source_limit};
 ghost use Rattle.smash_main.specs.Words.{IsCommand, IsNoCommand, Command as PureCommand};
 ghost use Rattle.smash_main.specs.steps.Handing.{handed_by, handed_in};
-ghost use Rattle.smash_main.specs.steps.WordsView.{command_of};
+ghost use Rattle.smash_main.specs.steps.WordsView.{HasFitBudget, command_of};
 ghost use Rattle.smash_main.specs.Run.{change, EndsWith, EndsUsage, Obeys, Completes};
 
 use crate::reply::{Reply, reply_to};
@@ -81,6 +81,7 @@ fn obey<S: Source, K: Sink>(
     source: &mut S,
     sink: &mut K,
 ) -> Finish
+    requires { HasFitBudget (command_of command.now) }
     ensures { Obeys (command_of command.now) result.status
         (change (S.left source.old) (S.left source.new) (S.faults source.old) (S.faults source.new))
         (change (K.taken sink.old) (K.taken sink.new) (K.faults sink.old) (K.faults sink.new))

@@ -1,12 +1,14 @@
 //! Tables of commands on sources and sinks in memory, each with its status and its whole output.
 
 mod agreement;
+mod analyses;
 mod tables;
 
-use self::agreement::tally_all;
+use self::agreement::{tally_alone, tally_calling};
+use self::analyses::{ANALYSES, CALLS, OPEN};
 use self::tables::{
-    ANALYSES, BLANKS, BODIES, CHECKS, COMMANDS, FAULTS, Fault, LIMITS, Limit, NO_COMMANDS,
-    REFUSALS, REPLAYS, Row, SUM, WORKED,
+    BLANKS, BODIES, CHECKS, COMMANDS, FAULTS, Fault, LIMITS, Limit, NO_COMMANDS, REFUSALS, REPLAYS,
+    Row, SUM, WORKED,
 };
 use crate::run::run;
 use crate::words::{Command, command_from, one_command};
@@ -76,6 +78,67 @@ fn answers_checks(rt: HostRuntime) -> Result<(), Fail> {
 #[test]
 fn answers_analyses(rt: HostRuntime) -> Result<(), Fail> {
     agree(&rt, rt.alloc(), &ANALYSES)
+}
+
+#[test]
+fn answers_programs_with_calls(rt: HostRuntime) -> Result<(), Fail> {
+    agree(&rt, rt.alloc(), &CALLS)
+}
+
+/// What may be told in place of a line that says `proved`.
+fn unknown_for(alloc: Global, line: &str) -> Result<Option<String>, Fail> {
+    let Some(place) = line.strip_suffix("proved") else {
+        return Ok(None)
+    };
+    Ok(Some(format!(in alloc; "{place}unknown (budget 20000 spent)\n")?))
+}
+
+/// These lines, with those in place of them that are told, and the summary and the status that
+/// follow.
+fn report_with(alloc: Global, told: &str, lines: &[&str]) -> Result<String, Fail> {
+    let mut text = String::new(alloc);
+    let (mut proved, mut found, mut unknown) = (0_u32, 0_u32, 0_u32);
+    for line in lines {
+        match unknown_for(alloc, line)? {
+            None => {
+                found = found.saturating_add(1);
+                writeln!(text, "{line}")?;
+            }
+            Some(other) if told.contains(other.as_str()) => {
+                unknown = unknown.saturating_add(1);
+                text.push_str(other.as_str())?;
+            }
+            Some(_) => {
+                proved = proved.saturating_add(1);
+                writeln!(text, "{line}")?;
+            }
+        }
+    }
+    let status = if found > 0 {
+        1
+    } else if unknown > 0 {
+        2
+    } else {
+        0
+    };
+    Ok(format!(in alloc;
+        "{status} {text}summary: {proved} proved, {found} found, {unknown} unknown\n"
+    )?)
+}
+
+/// Each source has these lines, or other ones that they allow.
+fn agree_on_open(rt: &impl Abort, alloc: Global, rows: &[(&str, &[&str])]) -> Result<(), Fail> {
+    for (text, lines) in rows {
+        let got = told_of(alloc, "check|--budget|20000", text)?;
+        let wanted = report_with(alloc, got.as_str(), lines)?;
+        assert_eq!(rt; got.as_str(), wanted.as_str(), "{text}");
+    }
+    Ok(())
+}
+
+#[test]
+fn answers_with_much_budget(rt: HostRuntime) -> Result<(), Fail> {
+    agree_on_open(&rt, rt.alloc(), &OPEN)
 }
 
 #[test]
@@ -235,8 +298,16 @@ fn lists_of_many_values(rt: HostRuntime) -> Result<(), Fail> {
 
 #[test]
 fn checks_and_replays_agree(rt: HostRuntime) -> Result<(), Fail> {
-    let tally = tally_all(rt.alloc())?;
+    let tally = tally_alone(rt.alloc())?;
     assert_eq!(rt; tally.wrong, 0, "{tally:?}");
     assert!(rt; tally.found > 100 && tally.proved > 50, "{tally:?}");
+    Ok(())
+}
+
+#[test]
+fn checks_and_replays_of_calls_agree(rt: HostRuntime) -> Result<(), Fail> {
+    let tally = tally_calling(rt.alloc())?;
+    assert_eq!(rt; tally.wrong, 0, "{tally:?}");
+    assert!(rt; tally.found > 60 && tally.proved > 20, "{tally:?}");
     Ok(())
 }

@@ -17,6 +17,11 @@ abbrev pub command_of : Command → words.Command
 command_of (declared.Check budget) = words.check budget
 command_of (declared.Replay fuel list) = words.replay fuel list.items
 
+-- the budget of a check is one that may be given
+abbrev pub HasFitBudget : words.Command → Type 0
+HasFitBudget (words.check budget) = (1 ≤ budget) × (budget ≤ max_budget)
+HasFitBudget (words.replay fuel list) = Unit {0}
+
 -- Stretches of bytes
 
 abbrev pub test_of : Class → ℕ → Bool

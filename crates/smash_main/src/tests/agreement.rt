@@ -1,4 +1,4 @@
-//! Checks and replays of many small programs with two inputs agree.
+//! Checks and replays of many small programs with two inputs agree, with calls and without.
 
 use super::told_of;
 use std::alloc::Global;
@@ -14,13 +14,75 @@ const HEADS: [&str; 6] = [
     "if (x != y && y > 0) y = 0;",
 ];
 
-const BODIES: [&str; 6] = [
-    "",
-    "x = x + y; y = x - y;",
-    "while (x > 0) x = x - 1;",
-    "int i = 0; while (i < 2) { i++; y = y + x; }",
-    "if (x == 1 || y == 1) { x = 1; y = 1; }",
-    "do { y = y - 1; if (y < -2) break; } while (y > x); if (y < x) y = x;",
+/// What stands before the head, between it and the assertion, and behind the assertion.
+type Shape = (&'static str, &'static str, &'static str);
+
+const BODIES: [Shape; 6] = [
+    ("int main() { int x = input(); int y = input();", "", "}"),
+    (
+        "int main() { int x = input(); int y = input();",
+        "x = x - 1; y = x - y;",
+        "}",
+    ),
+    (
+        "int main() { int x = input(); int y = input();",
+        "while (x > 0) x = x - 1;",
+        "}",
+    ),
+    (
+        "int main() { int x = input(); int y = input();",
+        "int i = 0; while (i < 2) { i++; y = y + x; }",
+        "}",
+    ),
+    (
+        "int main() { int x = input(); int y = input();",
+        "if (x == 1 || y == 1) { x = 1; y = 1; }",
+        "}",
+    ),
+    (
+        "int main() { int x = input(); int y = input();",
+        "do { y = y - 1; if (y < -2) break; } while (y > x); if (y < x) y = x;",
+        "}",
+    ),
+];
+
+const CALLING: [Shape; 6] = [
+    // one parameter
+    (
+        "int f(int a) { if (a > 0) return a - 1; return a; } int main() { int x = input(); int y = input();",
+        "x = f(f(x));",
+        "}",
+    ),
+    // two parameters, and an input of the called procedure
+    (
+        "int f(int a, int b) { if (a < b) return b; return a + input(); } int main() { int x = input(); int y = 1;",
+        "y = f(x, y);",
+        "}",
+    ),
+    // recursion
+    (
+        "int f(int n) { if (n <= 0) return n; return f(n - 1); } int main() { int x = input(); int y = input();",
+        "x = f(x);",
+        "}",
+    ),
+    // recursion with work behind the call
+    (
+        "int f(int a, int b) { if (a <= 0) return b; return f(a - 1, b) + 1; } int main() { int x = input(); int y = input();",
+        "y = f(x, y);",
+        "}",
+    ),
+    // two that call each other
+    (
+        "int g(int n); int f(int n) { if (n <= 0) return 1; return g(n - 1); } int g(int n) { if (n <= 0) return 0; return f(n - 1); } int main() { int x = input(); int y = input();",
+        "y = f(x) + y;",
+        "}",
+    ),
+    // an assertion of a procedure that calls itself
+    (
+        "int f(int x, int y) {",
+        "if (x > 1) return f(x - 1, y);",
+        "return y; } int main() { int x = input(); return f(x, input()); }",
+    ),
 ];
 
 const TESTS: [&str; 6] = [
@@ -48,10 +110,9 @@ pub struct Tally {
 }
 
 /// The assertion stands at 2:1.
-fn program(alloc: Global, head: &str, body: &str, test: &str) -> Result<String, Fail> {
-    Ok(format!(in alloc;
-        "int main() {{ int x = input(); int y = input(); {head} {body}\nassert({test}); }}"
-    )?)
+fn program(alloc: Global, shape: Shape, head: &str, test: &str) -> Result<String, Fail> {
+    let (before, body, behind) = shape;
+    Ok(format!(in alloc; "{before} {head} {body}\nassert({test}); {behind}")?)
 }
 
 /// Whether the program fails at its assertion on a list.
@@ -100,32 +161,47 @@ fn count(alloc: Global, tally: &mut Tally, text: &str) -> Result<(), Fail> {
     Ok(())
 }
 
-/// The programs of a head and a body.
-fn count_tests(alloc: Global, tally: &mut Tally, head: &str, body: &str) -> Result<(), Fail> {
+/// The programs of a head and a shape.
+fn count_tests(alloc: Global, tally: &mut Tally, head: &str, shape: Shape) -> Result<(), Fail> {
     for test in TESTS {
-        let text = program(alloc, head, body, test)?;
+        let text = program(alloc, shape, head, test)?;
         count(alloc, tally, text.as_str())?;
     }
     Ok(())
 }
 
-fn count_bodies(alloc: Global, tally: &mut Tally, head: &str) -> Result<(), Fail> {
-    for body in BODIES {
-        count_tests(alloc, tally, head, body)?;
-    }
-    Ok(())
-}
-
-/// All 216 programs.
-pub fn tally_all(alloc: Global) -> Result<Tally, Fail> {
+/// The programs of so many heads and all shapes.
+fn tally_of(alloc: Global, heads: usize, shapes: &[Shape]) -> Result<Tally, Fail> {
     let mut tally = Tally {
         found: 0,
         proved: 0,
         unknown: 0,
         wrong: 0,
     };
-    for head in HEADS {
-        count_bodies(alloc, &mut tally, head)?;
+    for head in HEADS.iter().take(heads) {
+        count_shapes(alloc, &mut tally, head, shapes)?;
     }
     Ok(tally)
+}
+
+fn count_shapes(
+    alloc: Global,
+    tally: &mut Tally,
+    head: &str,
+    shapes: &[Shape],
+) -> Result<(), Fail> {
+    for shape in shapes {
+        count_tests(alloc, tally, head, *shape)?;
+    }
+    Ok(())
+}
+
+/// 216 programs without calls.
+pub fn tally_alone(alloc: Global) -> Result<Tally, Fail> {
+    tally_of(alloc, 6, &BODIES)
+}
+
+/// 108 programs with calls.
+pub fn tally_calling(alloc: Global) -> Result<Tally, Fail> {
+    tally_of(alloc, 3, &CALLING)
 }

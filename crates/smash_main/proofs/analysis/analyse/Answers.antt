@@ -1,24 +1,14 @@
-use Rattle.std.proofs.Common.{◌≡◌, List, [], ◌∷◌, ◌++◌, map, ap, ◌∙◌, Vec, Global}
-use Rattle.std.proofs.lemmas.List.{map-append}
+use Rattle.std.proofs.Common.{◌≡◌, ℕ, length, rules, subst}
 use Rattle.c_tree.specs.Whole.{program_of}
-use Rattle.smash_main.proofs.Pushed.{more_judged}
-use Rattle.smash_main.specs.Analysis.{IsJudged}
-use Rattle.query_rules.specs.Seen.{Seen}
+use Rattle.smash_main.specs.steps.Judging.{AreVerdicts}
+use Rattle.smash_main.proofs.Judging.{analysed}
 use Rattle.smash_main.proofs.analysis.analyse.Goals as goal
 
-abbrev lists : List (Vec Seen Global) → List (List Seen)
-lists xs = map (λ s. s.items) xs
-
-pub loop-id-preserved : goal.loop-id-preserved
-loop-id-preserved c =
-    let P = program_of c.args.program.now in
-    let gs = c.in_ok-graphs.graphs.graphs in
-    let j = c.in_ok-verdict.field-0 in
-    let judged : IsJudged P c.args.budget gs c.loop-id.id j.verdict j.state = c.in_ok-verdict.ensures in
-    let verdicts : c.push.new.self.items ≡ c.loop-id.verdicts.items ++ j.verdict ∷ [] = c.in_ok-push.ensures.items in
-    let states : c.push-in-loop-id.new.self.items ≡ c.loop-id.states.items ++ c.in_ok-vec.field-0 ∷ [] = c.in_ok-push-2.ensures.items in
-    let one : c.in_ok-vec.field-0.items ≡ j.state ∷ [] = c.in_ok-vec.ensures.items in
-    more_judged P c.args.budget gs c.loop-id.id (lists c.loop-id.states.items) (lists c.push-in-loop-id.new.self.items)
-    c.loop-id.verdicts.items c.push.new.self.items j.verdict j.state c.loop-id.invariant judged
-    (ap lists states ∙ map-append (λ s. s.items) c.loop-id.states.items (c.in_ok-vec.field-0 ∷ [])
-    ∙ ap (λ z. lists c.loop-id.states.items ++ z ∷ []) one) verdicts
+pub returns : goal.returns
+returns c =
+    let program = c.args.program.now in
+    let board = c.in_ok-board.board in
+    let verdicts = c.in_ok-verdicts.verdicts.items in
+    let all : c.len.result ≡ length program.asserts.items = search rules in
+    analysed (program_of program) c.args.budget board verdicts program.well_formed c.in_ok-board.ensures
+    (subst (λ (n : ℕ). AreVerdicts board n verdicts) all c.in_ok-verdicts.ensures)

@@ -1,6 +1,0 @@
-use Rattle.std.proofs.Common.{◌≡◌, false, take}
-use Rattle.query_rules.specs.Paths.{is_marked}
-use Rattle.smash_main.proofs.analysis.inputs_found.Given as goal
-
-abbrev pub invariant-loop-mark : goal.invariant-loop-mark
-invariant-loop-mark l = is_marked (take l.mark-index l.mark-items) l.target ≡ false
