@@ -1,5 +1,5 @@
 -- From the faults of the lexer, the parser and the check of types to the refusal of a source.
-use Rattle.std.proofs.Common.{◌≡◌, List, ℕ, Result, Ok, Err, Vec, Global, sym, subst}
+use Rattle.std.proofs.Common.{◌≡◌, List, ℕ, Result, Ok, Err, Vec, Global, refl, sym, subst, ◌∙◌}
 use Rattle.std.specs.Prelude.{IsErrAnd}
 use Rattle.c_tree.specs.declared.tree.Pos.{Pos}
 use Rattle.c_tree.specs.declared.tree.Program.{Program}
@@ -10,20 +10,26 @@ use Rattle.c_lexer.specs.declared.token.Token.{Token}
 use Rattle.c_lexer.specs.declared.token.LexError.{LexError}
 use Rattle.c_lexer.specs.declared.token.LexError.TheVariants as lex_error
 use Rattle.c_lexer.specs.Lexing.{IsTokens, HasFault}
+use Rattle.c_lexer.specs.Faults.{lex_error_text}
 use Rattle.c_lexer.specs.Pure.{pure_tokens}
 use Rattle.c_parser.specs.declared.fault.ParseError.{ParseError}
 use Rattle.c_parser.specs.declared.fault.ParseError.TheVariants as parse_error
+use Rattle.c_parser.specs.Faults.{parse_error_text}
 use Rattle.c_parser.specs.Answer as parser
 use Rattle.c_typing.specs.declared.fault.TypeFault.{TypeFault}
 use Rattle.c_typing.specs.declared.fault.TypeError.{TypeError}
 use Rattle.c_typing.specs.declared.fault.TypeError.TheVariants as type_error
 use Rattle.c_typing.specs.Answer.{IsFirstFault}
-use Rattle.smash_main.specs.declared.accept.Reason.{Reason}
-use Rattle.smash_main.specs.declared.accept.Reason.TheVariants.{Lexing, Parsing, Typing}
+use Rattle.c_typing.specs.Texts.{type_fault_text}
+use Rattle.report_text.specs.declared.fault.Refusal.{Refusal}
+use Rattle.report_text.specs.declared.fault.Refusal.TheVariants.{Lex, Parse, Types}
+use Rattle.report_text.specs.Refused.{refusal_text}
+use Rattle.smash_main.specs.Analysis.{Witness, no_witness}
+use Rattle.smash_main.specs.Asked.{AsksRefusal}
 use Rattle.smash_main.specs.declared.accept.Rejection.{Rejection}
 use Rattle.smash_main.specs.declared.accept.Rejection.TheVariants.{Refused, Memory}
-use Rattle.smash_main.specs.Source.{IsRefused, bad_byte, open_comment, too_wide, unexpected, unfinished, too_deep, ill_typed}
-use Rattle.smash_main.specs.steps.Accepting.{reason_text, lex_rejection, parse_rejection, type_rejection, Gives}
+use Rattle.smash_main.specs.Source.{bad_byte, open_comment, too_wide, unexpected, unfinished, too_deep, ill_typed}
+use Rattle.smash_main.specs.steps.Accepting.{IsRefusedFor, lex_rejection, parse_rejection, type_rejection, Gives}
 
 -- what is known of an error is known of this one
 pub told : {A : Type 0} (res : Result A Rejection) (F : Rejection → Type 0) → IsErrAnd res F → (r : Rejection) → res ≡ Err r → F r
@@ -40,53 +46,88 @@ module _ (bytes : List ℕ) (res : Result (Vec Token Global) LexError)
     (bad : (at : Pos) → res ≡ Err (lex_error.BadByte at) → HasFault bytes (lex_error.BadByte at))
     (unclosed : (at : Pos) → res ≡ Err (lex_error.OpenComment at) → HasFault bytes (lex_error.OpenComment at))
     (wide : (at : Pos) → res ≡ Err (lex_error.TooWide at) → HasFault bytes (lex_error.TooWide at)) where
-  pub lex_refused : (e : LexError) → res ≡ Err e → (why : Reason) (at : Pos) → Refused why at ≡ lex_rejection e →
-      IsRefused bytes at (reason_text why)
-  lex_refused (lex_error.BadByte p) was why at same =
-      let w : why ≡ Lexing (lex_error.BadByte p) = cc in let a : p ≡ at = cc in
-      subst (λ z. IsRefused bytes at (reason_text z)) (sym w) (subst (λ z. IsRefused bytes z (reason_text (Lexing (lex_error.BadByte p)))) a
-      (bad_byte (bad p was)))
-  lex_refused (lex_error.OpenComment p) was why at same =
-      let w : why ≡ Lexing (lex_error.OpenComment p) = cc in let a : p ≡ at = cc in
-      subst (λ z. IsRefused bytes at (reason_text z)) (sym w)
-      (subst (λ z. IsRefused bytes z (reason_text (Lexing (lex_error.OpenComment p))))
-      a (open_comment (unclosed p was)))
-  lex_refused (lex_error.TooWide p) was why at same =
-      let w : why ≡ Lexing (lex_error.TooWide p) = cc in let a : p ≡ at = cc in
-      subst (λ z. IsRefused bytes at (reason_text z)) (sym w) (subst (λ z. IsRefused bytes z (reason_text (Lexing (lex_error.TooWide p)))) a
-      (too_wide (wide p was)))
-  lex_refused lex_error.Memory was why at same = absurd (cc)
+  pub lex_refused : (e : LexError) → res ≡ Err e → (why : Refusal) → Refused why ≡ lex_rejection e → IsRefusedFor bytes why
+  lex_refused (lex_error.BadByte p) was why same =
+      let w : why ≡ Lex (lex_error.BadByte p) = cc in
+      subst (IsRefusedFor bytes) (sym w)
+      (record { at = p; text = lex_error_text (lex_error.BadByte p); refused = bad_byte (bad p was); told = refl; of_source = tt })
+  lex_refused (lex_error.OpenComment p) was why same =
+      let w : why ≡ Lex (lex_error.OpenComment p) = cc in
+      subst (IsRefusedFor bytes) (sym w)
+      (record {
+        at = p;
+        text = lex_error_text (lex_error.OpenComment p);
+        refused = open_comment (unclosed p was);
+        told = refl;
+        of_source = tt;
+      })
+  lex_refused (lex_error.TooWide p) was why same =
+      let w : why ≡ Lex (lex_error.TooWide p) = cc in
+      subst (IsRefusedFor bytes) (sym w)
+      (record { at = p; text = lex_error_text (lex_error.TooWide p); refused = too_wide (wide p was); told = refl; of_source = tt })
+  lex_refused lex_error.Memory was why same = absurd (cc)
 
 module _ (bytes : List ℕ) (tokens : List Token) (lexed : IsTokens bytes tokens) (res : Result Tree ParseError)
     (never : (at : Pos) → res ≡ Err (parse_error.Unexpected at) → parser.IsUnexpected (pure_tokens bytes tokens) at)
     (unclosed : (at : Pos) → res ≡ Err (parse_error.End at) → parser.IsUnfinished bytes (pure_tokens bytes tokens) at)
     (deep : (at : Pos) → res ≡ Err (parse_error.TooDeep at) → parser.IsFirstTooDeep (pure_tokens bytes tokens) at) where
-  pub parse_refused : (e : ParseError) → res ≡ Err e → (why : Reason) (at : Pos) → Refused why at ≡ parse_rejection e →
-      IsRefused bytes at (reason_text why)
-  parse_refused (parse_error.Unexpected p) was why at same =
-      let w : why ≡ Parsing (parse_error.Unexpected p) = cc in let a : p ≡ at = cc in
-      subst (λ z. IsRefused bytes at (reason_text z)) (sym w)
-      (subst (λ z. IsRefused bytes z (reason_text (Parsing (parse_error.Unexpected p))))
-      a (unexpected tokens lexed (never p was)))
-  parse_refused (parse_error.End p) was why at same =
-      let w : why ≡ Parsing (parse_error.End p) = cc in let a : p ≡ at = cc in
-      subst (λ z. IsRefused bytes at (reason_text z)) (sym w) (subst (λ z. IsRefused bytes z (reason_text (Parsing (parse_error.End p)))) a
-      (unfinished tokens lexed (unclosed p was)))
-  parse_refused (parse_error.TooDeep p) was why at same =
-      let w : why ≡ Parsing (parse_error.TooDeep p) = cc in let a : p ≡ at = cc in
-      subst (λ z. IsRefused bytes at (reason_text z)) (sym w)
-      (subst (λ z. IsRefused bytes z (reason_text (Parsing (parse_error.TooDeep p))))
-      a (too_deep tokens lexed (deep p was)))
-  parse_refused parse_error.Memory was why at same = absurd (cc)
+  pub parse_refused : (e : ParseError) → res ≡ Err e → (why : Refusal) → Refused why ≡ parse_rejection e → IsRefusedFor bytes why
+  parse_refused (parse_error.Unexpected p) was why same =
+      let w : why ≡ Parse (parse_error.Unexpected p) = cc in
+      subst (IsRefusedFor bytes) (sym w)
+      (record {
+        at = p;
+        text = parse_error_text (parse_error.Unexpected p);
+        refused = unexpected tokens lexed (never p was);
+        told = refl;
+        of_source = tt;
+      })
+  parse_refused (parse_error.End p) was why same =
+      let w : why ≡ Parse (parse_error.End p) = cc in
+      subst (IsRefusedFor bytes) (sym w)
+      (record {
+        at = p;
+        text = parse_error_text (parse_error.End p);
+        refused = unfinished tokens lexed (unclosed p was);
+        told = refl;
+        of_source = tt;
+      })
+  parse_refused (parse_error.TooDeep p) was why same =
+      let w : why ≡ Parse (parse_error.TooDeep p) = cc in
+      subst (IsRefusedFor bytes) (sym w)
+      (record {
+        at = p;
+        text = parse_error_text (parse_error.TooDeep p);
+        refused = too_deep tokens lexed (deep p was);
+        told = refl;
+        of_source = tt;
+      })
+  parse_refused parse_error.Memory was why same = absurd (cc)
 
 module _ (bytes : List ℕ) (tokens : List Token) (lexed : IsTokens bytes tokens) (items : List FileItem)
     (parsed : parser.IsShallowFile (pure_tokens bytes tokens) items)
     (res : Result Program TypeError) (first : (f : TypeFault) (at : Pos) → res ≡ Err (type_error.Refused f at) →
     IsFirstFault items f at) where
-  pub type_refused : (e : TypeError) → res ≡ Err e → (why : Reason) (at : Pos) → Refused why at ≡ type_rejection e →
-      IsRefused bytes at (reason_text why)
-  type_refused (type_error.Refused f p) was why at same =
-      let w : why ≡ Typing f = cc in let a : p ≡ at = cc in
-      subst (λ z. IsRefused bytes at (reason_text z)) (sym w) (subst (λ z. IsRefused bytes z (reason_text (Typing f))) a
-      (ill_typed tokens lexed items parsed f (first f p was)))
-  type_refused type_error.Memory was why at same = absurd (cc)
+  pub type_refused : (e : TypeError) → res ≡ Err e → (why : Refusal) → Refused why ≡ type_rejection e → IsRefusedFor bytes why
+  type_refused (type_error.Refused f p) was why same =
+      let w : why ≡ Types f p = cc in
+      subst (IsRefusedFor bytes) (sym w) (record {
+        at = p;
+        text = type_fault_text f;
+        refused = ill_typed tokens lexed items parsed f (first f p was);
+        told = refl;
+        of_source = tt;
+      })
+  type_refused type_error.Memory was why same = absurd (cc)
+
+-- what is told of a refusal is what the bytes ask for
+pub asks_refusal : (bytes : List ℕ) (why : Refusal) → IsRefusedFor bytes why → (status : ℕ) (text : List ℕ) (w : Witness) → status ≡ 3 →
+    text ≡ refusal_text why → w ≡ no_witness → AsksRefusal bytes status text w
+asks_refusal bytes why h status text w three told nothing = record {
+  at = h.at;
+  why = h.text;
+  refused = h.refused;
+  is_three = three;
+  told = told ∙ h.told;
+  nothing = nothing;
+}

@@ -6,11 +6,11 @@ use mathlib.Core.Logic.{inl, inr}
 use Rattle.c_tree.specs.Syntax.{PureProgram}
 use Rattle.c_tree.specs.Meaning.{ReplayOutcome, Comes, Starved, Fuel, Returned, Stopped, Failed}
 use Rattle.bolt_core.specs.declared.job.Verdict.{Verdict}
-use Rattle.smash_main.specs.Report.{status_of, is_found, is_unknown}
+use Rattle.report_text.specs.Report.{is_found, is_unknown}
 use Rattle.smash_main.specs.Analysis.{Witness}
 use Rattle.smash_main.specs.Words.{Command, check, replay}
 use Rattle.smash_main.specs.Source.{IsAccepted}
-use Rattle.smash_main.specs.Asked.{Answers, replay_status}
+use Rattle.smash_main.specs.Asked.{Answers, replay_status, status_of}
 use Rattle.smash_main.specs.Run.{Change, EndsWith, Obeys, Completes, IsVerdictStatus}
 
 -- what was read whole is all that there was

@@ -2,7 +2,6 @@ pub mod Accepted
 pub mod Bounded
 pub mod Completed
 pub mod Judging
-pub mod ListText
 pub mod Placed
 pub mod WordsCommand
 pub mod WordsForms

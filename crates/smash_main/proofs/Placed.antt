@@ -8,7 +8,7 @@ use Rattle.c_tree.specs.Syntax.{Expression, literal, read, input, call, negate, 
 use Rattle.c_tree.specs.Meaning.{State, World, Progress, goes, ends, Ending, stopped, failed, starved, spent, Flow, normal, broken, continued, returned, Relation, Gives, Ends, Onward, Then, Ticked, Counted, Choice, is_value, ExactOrStopped, decided, Applied, is_zero, RightSide, TakesInput, Callee, Eval, Evals, Returns, Turns, DoTurns, AfterNormal, AfterBody, Exec, Execs, UnlessZero, entered, returned_value, Enters, Run, Replays, ReplayOutcome, replay_of}
 use Rattle.c_tree.specs.WellFormed.{statements_nodes, IsWellFormed, runs_well_scoped, all_well_scoped, is_well_formed_procedure}
 use Rattle.run_replay.proofs.Keeps.{and_left, and_right}
-use Rattle.smash_main.specs.Asked.{HasPlace}
+use Rattle.report_text.specs.Replay.{HasPlace}
 
 -- where it fails, it is at one of n assertions
 abbrev pub FailsBelow : {A : Type 0} → ℕ → Progress A → Type 0

@@ -1,16 +1,17 @@
 -- What a source asks for under a command: a status, a whole text, and what is handed back.
-use Rattle.std.specs.Prelude.{◌≡◌, ℕ, ◌<◌, List, [], ◌∷◌, ◌++◌, ◌⊎◌, codes, ℤ, slice_get, Some, Option, None}
-use Rattle.std.specs.Fmt.{decimal, signed_decimal}
+use Rattle.std.specs.Prelude.{◌≡◌, ℕ, List, ◌⊎◌, ℤ, Some, if◌then◌else◌}
+use Rattle.std.specs.List.{list_any}
 use Rattle.c_tree.specs.declared.tree.Pos.{Pos}
-use Rattle.c_tree.specs.declared.tree.AssertPlace.{AssertPlace}
 use Rattle.c_tree.specs.Syntax.{PureProgram}
 use Rattle.c_tree.specs.Meaning.{Returned, Stopped, Failed, ReplayOutcome, Comes, Starved, Fuel, Replays}
 use Rattle.bolt_core.specs.Boards.{Shown}
 use Rattle.bolt_core.specs.declared.job.Verdict.{Verdict}
+use Rattle.report_text.specs.Refused.{refusal_line}
+use Rattle.report_text.specs.Replay.{replay_text}
+use Rattle.report_text.specs.Report.{is_found, is_unknown, report_of}
 use Rattle.smash_main.specs.Words.{Command, check, replay}
-use Rattle.smash_main.specs.Source.{IsAccepted, IsRefused, refusal_line}
+use Rattle.smash_main.specs.Source.{IsAccepted, IsRefused}
 use Rattle.smash_main.specs.Analysis.{IsAnalysis, Witness, no_witness}
-use Rattle.smash_main.specs.Report.{report_of, status_of}
 
 -- the first refusal of the bytes
 pub record AsksRefusal (bytes : List ℕ) (status : ℕ) (text : List ℕ) (w : Witness) : Type 0 where
@@ -23,6 +24,10 @@ pub record AsksRefusal (bytes : List ℕ) (status : ℕ) (text : List ℕ) (w : 
 
 -- Checks
 
+-- 1 where an assertion is found, else 2 where one is unknown, and else 0
+abbrev pub status_of : List Verdict → ℕ
+status_of vs = if list_any is_found vs then 1 else (if list_any is_unknown vs then 2 else 0)
+
 -- the report of an analysis, with its status and its board
 pub record IsReported (program : PureProgram) (budget status : ℕ) (text : List ℕ) (w : Witness) :
     Type 0 where
@@ -34,31 +39,6 @@ pub record IsReported (program : PureProgram) (budget status : ℕ) (text : List
   pub told : text ≡ report_of program.asserts verdicts
 
 -- Replays
-
-abbrev pub used_text : ℕ → List ℕ
-used_text used = codes ", inputs used " ++ (decimal used ++ 10 ∷ [])
-
--- the place of the assertion that failed
-abbrev pub failed_text : Option AssertPlace → ℕ → List ℕ
-failed_text None used = []
-failed_text (Some a) used = codes "failed "
-    ++ (decimal a.at.line ++ (codes ":" ++ (decimal a.at.column ++ used_text used)))
-
--- an assertion that failed has a place
-abbrev pub HasPlace : ℕ → ReplayOutcome → Type 0
-HasPlace n (Comes (Failed id)) = id < n
-HasPlace n (Comes (Returned v)) = Unit {0}
-HasPlace n (Comes Stopped) = Unit {0}
-HasPlace n Starved = Unit {0}
-HasPlace n Fuel = Unit {0}
-
-abbrev pub replay_text : PureProgram → ℕ → ReplayOutcome → ℕ → List ℕ
-replay_text P fuel (Comes (Returned v)) used = codes "returned "
-    ++ (signed_decimal v ++ used_text used)
-replay_text P fuel (Comes (Failed id)) used = failed_text (slice_get P.asserts id) used
-replay_text P fuel (Comes Stopped) used = codes "stopped" ++ used_text used
-replay_text P fuel Starved used = codes "starved" ++ used_text used
-replay_text P fuel Fuel used = codes "fuel " ++ (decimal fuel ++ (codes " spent" ++ 10 ∷ []))
 
 abbrev pub replay_status : ReplayOutcome → ℕ
 replay_status (Comes (Returned v)) = 0

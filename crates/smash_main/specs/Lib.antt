@@ -1,6 +1,5 @@
 pub mod Analysis
 pub mod Asked
-pub mod Report
 pub mod Run
 pub mod Source
 pub mod Words

@@ -1,22 +1,15 @@
 -- What the program owes to its words, its source and its sink.
-use Rattle.std.specs.Prelude.{◌≡◌, ℕ, ◌+◌, ◌≤◌, List, [], ◌∷◌, ◌++◌, length, codes, ◌⊎◌, Some}
+use Rattle.std.specs.Prelude.{◌≡◌, ℕ, ◌+◌, ◌≤◌, List, length, ◌⊎◌, Some}
 use Rattle.std.specs.declared.option.Option.{Option}
 use Rattle.std.specs.Io.KnownBytes.{Consumes, Appends, IsAtEnd, Keeps}
 use Rattle.outer_io.specs.Causes.{Rose, Took, TookAtMost, WritesFront}
 use Rattle.c_tree.specs.Syntax.{PureProgram}
+use Rattle.report_text.specs.Refused.{too_long_text}
+use Rattle.report_text.specs.Usage.{usage_text}
 use Rattle.smash_main.specs.Words.{Command}
 use Rattle.smash_main.specs.Source.{IsAccepted, source_limit}
 use Rattle.smash_main.specs.Analysis.{Witness, no_witness}
 use Rattle.smash_main.specs.Asked.{AsksFor, Answers}
-
-abbrev pub usage_text : List ℕ
-usage_text =
-    codes "usage: smash check [--budget n] [--workers n]" ++
-    (10 ∷ codes "       smash replay [--fuel n] list" ++
-    (10 ∷ codes "       smash workload n [--budget n] [--workers n]" ++ 10 ∷ []))
-
-abbrev pub too_long_text : List ℕ
-too_long_text = codes "refused: source longer than 65536 bytes" ++ 10 ∷ []
 
 -- a source or a sink before and after: what is known of its bytes, and its count of faults
 pub record Change : Type 0 where

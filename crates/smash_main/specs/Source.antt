@@ -1,6 +1,5 @@
 -- What a source is, by its bytes alone: the program of an accepted source, or its first refusal.
-use Rattle.std.specs.Prelude.{ℕ, List, ◌∷◌, ◌++◌, [], codes}
-use Rattle.std.specs.Fmt.{decimal}
+use Rattle.std.specs.Prelude.{ℕ, List}
 use Rattle.c_tree.specs.declared.tree.Pos.{Pos}
 use Rattle.c_tree.specs.Syntax.{PureProgram}
 use Rattle.c_tree.specs.SourceTree.{FileItem}
@@ -49,8 +48,3 @@ pub data IsRefused : List ℕ → Pos → List ℕ → Type 0 where
   ill_typed : {bytes : List ℕ} {at : Pos} → (tokens : List Token) → IsTokens bytes tokens →
       (items : List FileItem) → IsShallowFile (pure_tokens bytes tokens) items →
       (f : TypeFault) → IsFirstFault items f at → IsRefused bytes at (type_fault_text f)
-
-abbrev pub refusal_line : Pos → List ℕ → List ℕ
-refusal_line at text =
-    codes "refused " ++ (decimal at.line ++ (codes ":" ++ (decimal at.column ++
-    (codes ": " ++ (text ++ 10 ∷ [])))))

@@ -4,11 +4,10 @@
 mod accept;
 mod analysis;
 mod reply;
-mod report;
 mod run;
+mod statuses;
 #[cfg(test)]
 mod tests;
-mod verdict;
 mod words;
 
 use crate::run::run;

@@ -1,30 +1,25 @@
 //! The top call: words, a source and a sink.
 
-ghost use Rattle.std.specs.Prelude.{◌≡◌, ◌+◌, string_bytes};
+ghost use Rattle.std.specs.Prelude.{◌≡◌, ◌+◌, ◌⊎◌};
 ghost use Rattle.outer_io.specs.Causes.{TookAtMost};
+ghost use Rattle.report_text.specs.Refused.{too_long_text};
 ghost use Rattle.smash_main.specs.Analysis.{no_witness};
 ghost use Rattle.smash_main.specs.Source.{source_limit};
 ghost use Rattle.smash_main.specs.Words.{IsCommand, IsNoCommand, Command as PureCommand};
 ghost use Rattle.smash_main.specs.steps.Handing.{handed_by, handed_in};
 ghost use Rattle.smash_main.specs.steps.WordsView.{HasFitBudget, command_of};
-ghost use Rattle.smash_main.specs.Run.{change, EndsWith, EndsUsage, Obeys, Completes};
+ghost use Rattle.smash_main.specs.Run.{change, EndsWith, EndsUsage, StaysAsItWas, Obeys, Completes};
 
 use crate::reply::{Reply, reply_to};
 use crate::words::{Command, command_from};
 use bolt_core::board::Board;
 use outer_io::{ReadError, Sink, Source, read_all, write_all};
+use report_text::fault::Refusal;
+use report_text::{refusal, usage};
 use std::alloc::Global;
 
 /// The most bytes that a source may have, `source_limit` of the clauses.
 const SOURCE_LIMIT: usize = 65_536;
-
-const TOO_LONG: &str = "refused: source longer than 65536 bytes\n";
-
-const USAGE: &str = "\
-usage: smash check [--budget n] [--workers n]
-       smash replay [--fuel n] list
-       smash workload n [--budget n] [--workers n]
-";
 
 /// How the program ended: 0 and 1 are verdicts, 3 a refusal of the source, 4 of the words, 5 a
 /// failed read, 6 a failed write, 7 want of memory. Where an analysis came to its end, its board is
@@ -60,7 +55,7 @@ fn tell<K: Sink>(sink: &mut K, status: u8, text: &[u8]) -> u8
 /// Writes a reply, and hands back what it does.
 fn tell_reply<K: Sink>(sink: &mut K, reply: Reply) -> Finish
     ensures ends { EndsWith result.status (change (K.taken sink.old) (K.taken sink.new)
-        (K.faults sink.old) (K.faults sink.new)) reply.status (string_bytes reply.text) }
+        (K.faults sink.old) (K.faults sink.new)) reply.status reply.text.items }
     ensures handed { handed_by result ≡ handed_in reply }
 {
     let Reply {
@@ -69,8 +64,22 @@ fn tell_reply<K: Sink>(sink: &mut K, reply: Reply) -> Finish
         board,
     } = reply;
     Finish {
-        status: tell(sink, status, text.as_bytes()),
+        status: tell(sink, status, &text),
         board,
+    }
+}
+
+/// Refuses a source that is too long, unless memory runs out.
+fn tell_too_long<K: Sink>(alloc: Global, sink: &mut K) -> Finish
+    ensures ends { EndsWith result.status (change (K.taken sink.old) (K.taken sink.new)
+        (K.faults sink.old) (K.faults sink.new)) 3 too_long_text
+        ⊎ ((result.status ≡ 7) × StaysAsItWas (change (K.taken sink.old) (K.taken sink.new)
+        (K.faults sink.old) (K.faults sink.new))) }
+    ensures nothing { handed_by result ≡ no_witness }
+{
+    match refusal(alloc, &Refusal::Long) {
+        Ok(text) => end(tell(sink, 3, &text)),
+        Err(_) => end(7),
     }
 }
 
@@ -92,7 +101,7 @@ fn obey<S: Source, K: Sink>(
             Ok(reply) => tell_reply(sink, reply),
             Err(_) => end(7),
         },
-        Err(ReadError::TooLong) => end(tell(sink, 3, TOO_LONG.as_bytes())),
+        Err(ReadError::TooLong) => tell_too_long(alloc, sink),
         Err(ReadError::ReadFault) => end(5),
         Err(ReadError::Memory) => end(7),
     }
@@ -126,7 +135,7 @@ pub fn run<S: Source, K: Sink>(
 {
     match command_from(alloc, words) {
         Ok(Some(given)) => obey(alloc, &given, source, sink),
-        Ok(None) => end(tell(sink, 4, USAGE.as_bytes())),
+        Ok(None) => end(tell(sink, 4, usage())),
         Err(_) => end(7),
     }
 }

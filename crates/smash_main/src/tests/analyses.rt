@@ -133,8 +133,8 @@ int main() { int r = even(input()); assert(r == 0 || r == 1); return 0; }
 const TWO_FOUND: &str = "\
 int f(int n) { if (n <= 0) return n; return g(n); }
 int g(int n) { return f(n - 1); }
-int main() { int k = input(); int v = input(); if (k == 1) { assert(f(v) != -3); }
-    if (k == 2) { assert(g(v) != -3); } return 0; }
+int main() { int k = input(); int v = input(); if (k == 1) { assert(f(v) != -3); } \
+if (k == 2) { assert(g(v) != -3); } return 0; }
 ";
 
 /// A file with comments, loops and calls.

@@ -10,9 +10,9 @@ use Rattle.smash_main.proofs.Accepted.{told, only_memory, lex_refused, parse_ref
 use Rattle.smash_main.proofs.accept.accept.Goals as goal
 
 pub returns-in_err-tokens-clause-refused : goal.returns-in_err-tokens-clause-refused
-returns-in_err-tokens-clause-refused c why at e =
+returns-in_err-tokens-clause-refused c why e =
     lex_refused c.args.bytes.now c.lex.result c.lex.ensures.bad_byte c.lex.ensures.open_comment c.lex.ensures.too_wide
-    c.in_err-tokens.field-0.0 (c.in_err-tokens.was) why at (told _ _ c.from_residual.ensures.1 (Refused why at) e)
+    c.in_err-tokens.field-0.0 (c.in_err-tokens.was) why (told _ _ c.from_residual.ensures.1 (Refused why) e)
 
 pub returns-in_err-tree-clause-only : goal.returns-in_err-tree-clause-only
 returns-in_err-tree-clause-only c P k =
@@ -23,12 +23,11 @@ returns-in_err-tree-clause-only c P k =
     (sym tokens) k.parsed))) P
 
 pub returns-in_err-tree-clause-refused : goal.returns-in_err-tree-clause-refused
-returns-in_err-tree-clause-refused c why at e =
+returns-in_err-tree-clause-refused c why e =
     parse_refused c.args.bytes.now c.deref.result.now (subst (IsTokens c.args.bytes.now) (sym c.deref.ensures.value)
     c.in_ok-tokens.ensures.ok)
     c.parse.result c.parse.ensures.unexpected c.parse.ensures.end c.parse.ensures.too_deep c.in_err-tree.field-0.0 (c.in_err-tree.was) why
-    at
-    (told _ _ c.from_residual-in_err-tree.ensures.1 (Refused why at) e)
+    (told _ _ c.from_residual-in_err-tree.ensures.1 (Refused why) e)
 
 pub returns-in_err-program-clause-only : goal.returns-in_err-program-clause-only
 returns-in_err-program-clause-only c P k =
@@ -40,12 +39,12 @@ returns-in_err-program-clause-only c P k =
     (λ r h. h ∙ ap type_rejection (c.in_err-program.ensures.only P (subst (λ is. typing.IsProgram is P) (sym items) k.typed))) P
 
 pub returns-in_err-program-clause-refused : goal.returns-in_err-program-clause-refused
-returns-in_err-program-clause-refused c why at e =
+returns-in_err-program-clause-refused c why e =
     type_refused c.args.bytes.now c.deref.result.now (subst (IsTokens c.args.bytes.now) (sym c.deref.ensures.value)
     c.in_ok-tokens.ensures.ok)
     (file_of c.in_ok-tree.tree) c.in_ok-tree.ensures.ok c.check_types.result c.check_types.ensures.refused c.in_err-program.field-0.0
-    (c.in_err-program.was) why at
-    (told _ _ c.from_residual-in_err-program.ensures.1 (Refused why at) e)
+    (c.in_err-program.was) why
+    (told _ _ c.from_residual-in_err-program.ensures.1 (Refused why) e)
 
 pub returns-clause-only : goal.returns-clause-only
 returns-clause-only c P k =

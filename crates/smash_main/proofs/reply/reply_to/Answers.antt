@@ -1,4 +1,5 @@
-use Rattle.std.proofs.Common.{subst, string_bytes}
+use Rattle.std.proofs.Common.{subst, ap, Err}
+use mathlib.Core.Logic.{inl}
 use Rattle.std.proofs.lemmas.Result.{IfOk-weaker}
 use Rattle.smash_main.specs.Asked.{Answers}
 use Rattle.smash_main.specs.steps.Handing.{handed_in}
@@ -8,13 +9,22 @@ use Rattle.smash_main.proofs.reply.reply_to.Goals as goal
 pub returns-in-Ok-clause-settled : goal.returns-in-Ok-clause-settled
 returns-in-Ok-clause-settled c =
     IfOk-weaker c.answer.result _ _
-    (λ a h P accepted. subst (λ z. Answers (command_of c.args.command.now) z a.status (string_bytes a.text) (handed_in a))
+    (λ a h P accepted. subst (λ z. Answers (command_of c.args.command.now) z a.status a.text.items (handed_in a))
     (c.in-Ok.ensures.only P accepted)
     h)
     c.answer.ensures
 
+pub refused-requires : goal.refused-requires
+refused-requires c = (c.in-Err-Refused.ensures.refused c.in-Err-Refused.why (ap Err c.in-Err-Refused.field-0-is)).of_source
+
+pub returns-in-Err-Refused-clause-asked : goal.returns-in-Err-Refused-clause-asked
+returns-in-Err-Refused-clause-asked c =
+    IfOk-weaker c.refused.result _ _ (λ a h. inl h) (c.refused.ensures c.args.bytes.now
+    (c.in-Err-Refused.ensures.refused c.in-Err-Refused.why (ap Err c.in-Err-Refused.field-0-is)))
+
 pub returns-in-Err-Refused-clause-settled : goal.returns-in-Err-Refused-clause-settled
 returns-in-Err-Refused-clause-settled c =
-    IfOk-weaker c.refusal.result _ _
+    IfOk-weaker c.refused.result _ _
     (λ a h P accepted. absurd (let e = c.in-Err-Refused.ensures.only P accepted in let f = c.in-Err-Refused.field-0-is in cc))
-    c.refusal.ensures.status
+    (c.refused.ensures c.args.bytes.now
+    (c.in-Err-Refused.ensures.refused c.in-Err-Refused.why (ap Err c.in-Err-Refused.field-0-is)))

@@ -1,15 +1,21 @@
-use Rattle.std.proofs.Common.{Err, sym, ◌∙◌, ap, subst}
+use Rattle.std.proofs.Common.{Err, ◌+◌, ◌∙◌, ap, arith, ⊎_elim}
 use mathlib.Core.Logic.{inl, inr}
-use Rattle.smash_main.specs.Run.{change, EndsWith, too_long_text}
+use Rattle.smash_main.specs.Source.{source_limit}
 use Rattle.smash_main.proofs.run.obey.Goals as goal
 
 pub returns-in-Err-TooLong : goal.returns-in-Err-TooLong
 returns-in-Err-TooLong g c =
-    let sink = change (g.K.Sink.taken c.args.sink.now) (g.K.Sink.taken c.tell.new.sink) (g.K.Sink.faults c.args.sink.now)
-    (g.K.Sink.faults c.tell.new.sink) in
-    inr (inl (record {
-      taken = c.read_all.ensures.long (c.in-Err-TooLong.is ∙ ap Err c.in-Err-TooLong.field-0-is);
-      ends = subst (λ status. EndsWith status sink 3 too_long_text) (sym c.end-in-Err-TooLong.ensures.status)
-          (subst (λ text. EndsWith c.tell.result sink 3 text) c.as_bytes.ensures.value c.tell.ensures);
-      nothing = c.end-in-Err-TooLong.ensures.nothing;
-    }))
+    let took = c.read_all.ensures.long (c.in-Err-TooLong.is ∙ ap Err c.in-Err-TooLong.field-0-is) in
+    ⊎_elim
+    (λ e. inr (inl (record {
+      taken = took;
+      ends = e;
+      nothing = c.tell_too_long.ensures.nothing;
+    })))
+    (λ z. inr (inr (inr (record {
+      taken = (source_limit + 1, omega arith, took);
+      is_seven = z.0;
+      silent = z.1;
+      nothing = c.tell_too_long.ensures.nothing;
+    }))))
+    c.tell_too_long.ensures.ends

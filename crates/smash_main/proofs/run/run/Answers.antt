@@ -4,7 +4,8 @@ use Rattle.std.specs.Prelude.{map, string_bytes, IfSome}
 use Rattle.smash_main.specs.Words.{IsCommand}
 use Rattle.smash_main.specs.steps.Handing.{handed_by}
 use Rattle.smash_main.specs.steps.WordsView.{command_of}
-use Rattle.smash_main.specs.Run.{change, EndsWith, Obeys, usage_text}
+use Rattle.report_text.specs.Usage.{usage_text}
+use Rattle.smash_main.specs.Run.{change, EndsWith, Obeys}
 use Rattle.smash_main.proofs.Bounded.{bounded, took_none}
 use Rattle.smash_main.proofs.WordsCommand.{one_command}
 use Rattle.smash_main.proofs.Completed.{completes}
@@ -39,6 +40,6 @@ returns-in-Ok-None-clause-usage g c _ =
     (g.K.Sink.faults c.tell.new.sink) in
     record {
       ends = inl (subst (λ status. EndsWith status sink 4 usage_text) (sym c.end.ensures.status)
-          (subst (λ text. EndsWith c.tell.result sink 4 text) c.as_bytes.ensures.value c.tell.ensures));
+          (subst (λ text. EndsWith c.tell.result sink 4 text) c.usage.ensures c.tell.ensures));
       nothing = c.end.ensures.nothing;
     }

@@ -1,8 +1,8 @@
 use Rattle.std.proofs.Common.{◌≡◌, ◌++◌, OnOk, Some, ap, subst, sym, ◌∙◌, codes, string_bytes}
 use Rattle.std.specs.Fmt.{AppendsText, ◌++?◌}
-use Rattle.smash_main.specs.Report.{verdict_text}
-use Rattle.smash_main.proofs.ListText.{list_shown}
-use Rattle.smash_main.proofs.verdict.push_verdict.Goals as goal
+use Rattle.report_text.specs.Report.{verdict_text}
+use Rattle.report_text.proofs.ListText.{list_shown}
+use Rattle.report_text.proofs.verdicts.push_verdict.Goals as goal
 
 pub returns-in-Found : goal.returns-in-Found
 returns-in-Found c =

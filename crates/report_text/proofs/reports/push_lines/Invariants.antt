@@ -1,7 +1,7 @@
 use Rattle.std.proofs.Common.{◌≡◌, ◌++◌, length, drop}
 use Rattle.std.specs.Prelude.{string_bytes}
-use Rattle.smash_main.specs.Report.{lines_of}
-use Rattle.smash_main.proofs.report.push_lines.Given as goal
+use Rattle.report_text.specs.Report.{lines_of}
+use Rattle.report_text.proofs.reports.push_lines.Given as goal
 
 abbrev pub invariant-loop-place : goal.invariant-loop-place
 invariant-loop-place l =

@@ -1,16 +1,16 @@
-//! The text of a report, and its status.
+//! The text of a report.
 
 ghost use Rattle.std.specs.Prelude.{◌≡◌, ◌++◌, length, IfOk, OnOk, string_bytes, count_by};
-ghost use Rattle.std.specs.List.{list_any};
-ghost use Rattle.smash_main.specs.Report.{is_proved, is_found, is_unknown, line_of, lines_of, report_of, status_of};
+ghost use Rattle.report_text.specs.Report.{is_proved, is_found, is_unknown, line_of, lines_of, report_of};
 
-use crate::verdict::{is_found, is_proved, is_unknown, push_verdict};
+use crate::OutOfMemory;
+use crate::verdicts::{is_found, is_proved, is_unknown, push_verdict};
 use bolt_core::job::Verdict;
-use c_tree::tree::AssertPlace;
-use std::alloc::{AllocError, Global};
+use c_tree::tree::{AssertPlace, Program};
+use std::alloc::Global;
 
 /// Appends the line of an assertion.
-fn push_line(text: &mut String, place: AssertPlace, verdict: &Verdict) -> Result<(), AllocError>
+fn push_line(text: &mut String, place: AssertPlace, verdict: &Verdict) -> Result<(), OutOfMemory>
     ensures { OnOk result (string_bytes text.new
         ≡ string_bytes text.old ++ line_of place verdict.now) }
 {
@@ -24,7 +24,7 @@ fn push_lines(
     text: &mut String,
     places: &[AssertPlace],
     verdicts: &[Verdict],
-) -> Result<(), AllocError>
+) -> Result<(), OutOfMemory>
     requires { length places.now ≡ length verdicts.now }
     ensures { OnOk result (string_bytes text.new ≡ string_bytes text.old ++ lines_of places.now
         verdicts.now) }
@@ -53,29 +53,18 @@ fn unknown_count(verdicts: &[Verdict]) -> usize
     verdicts.iter().filter(|v| is_unknown(v)).count()
 }
 
-fn is_any_found(verdicts: &[Verdict]) -> bool
-    ensures { result ≡ list_any is_found verdicts.now }
-{
-    verdicts.iter().any(|v| is_found(v))
-}
-
-fn is_any_unknown(verdicts: &[Verdict]) -> bool
-    ensures { result ≡ list_any is_unknown verdicts.now }
-{
-    verdicts.iter().any(|v| is_unknown(v))
-}
-
-/// The text of a report.
+/// The report of a program: a line for each of its assertions, with its verdict, and how many there
+/// are of each kind.
 pub fn report(
     alloc: Global,
-    places: &[AssertPlace],
+    program: &Program,
     verdicts: &[Verdict],
-) -> Result<String, AllocError>
-    requires { length places.now ≡ length verdicts.now }
-    ensures { IfOk result (λ text. string_bytes text ≡ report_of places.now verdicts.now) }
+) -> Result<Vec<u8>, OutOfMemory>
+    requires { length program.now.asserts.items ≡ length verdicts.now }
+    ensures { IfOk result (λ text. text.items ≡ report_of program.now.asserts.items verdicts.now) }
 {
     let mut text = String::new(alloc);
-    push_lines(&mut text, places, verdicts)?;
+    push_lines(&mut text, &program.asserts, verdicts)?;
     let proved = proved_count(verdicts);
     let found = found_count(verdicts);
     let unknown = unknown_count(verdicts);
@@ -83,18 +72,5 @@ pub fn report(
         text,
         "summary: {proved} proved, {found} found, {unknown} unknown"
     )?;
-    Ok(text)
-}
-
-/// The status that verdicts end with.
-pub fn status(verdicts: &[Verdict]) -> u8
-    ensures { result ≡ status_of verdicts.now }
-{
-    if is_any_found(verdicts) {
-        1
-    } else if is_any_unknown(verdicts) {
-        2
-    } else {
-        0
-    }
+    Ok(text.into_bytes())
 }

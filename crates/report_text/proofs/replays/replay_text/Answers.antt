@@ -3,8 +3,8 @@ use Rattle.std.proofs.lemmas.Option.{slice_get_read}
 use Rattle.std.proofs.lemmas.Result.{IfOk-weaker}
 use Rattle.c_tree.specs.Whole.{program_of}
 use Rattle.run_replay.specs.Outcome.{replay_outcome}
-use Rattle.smash_main.specs.Asked.{HasPlace, failed_text, replay_text}
-use Rattle.smash_main.proofs.reply.replay_text.Goals as goal
+use Rattle.report_text.specs.Replay.{HasPlace, failed_text, replay_text}
+use Rattle.report_text.proofs.replays.replay_text.Goals as goal
 
 pub returns-in-Failed : goal.returns-in-Failed
 returns-in-Failed c =

@@ -1,7 +1,7 @@
 -- The text of a list of values, as std writes it.
 use Rattle.std.proofs.Common.{◌≡◌, List, [], ◌∷◌, Some, ℤ, refl, ap}
 use Rattle.std.specs.Fmt.{signed_decimal, debug_items, debug_list, ◌++?◌, comma_space}
-use Rattle.smash_main.specs.Report.{more_text, values_text, list_text}
+use Rattle.report_text.specs.Report.{more_text, values_text, list_text}
 
 -- the values behind the first one
 more_shown : (zs : List ℤ) → debug_items (λ z. Some (signed_decimal z)) comma_space zs ≡ Some (more_text zs)

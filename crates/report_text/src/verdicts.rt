@@ -1,11 +1,11 @@
 //! The texts of verdicts.
 
 ghost use Rattle.std.specs.Prelude.{◌≡◌, ◌++◌, OnOk, string_bytes};
-ghost use Rattle.smash_main.specs.Report.{is_proved, is_found, is_unknown, kind_text, verdict_text};
+ghost use Rattle.report_text.specs.Report.{is_proved, is_found, is_unknown, kind_text, verdict_text};
 
+use crate::OutOfMemory;
 use bolt_core::job::Verdict;
 use shadow_elim::limit::LimitKind;
-use std::alloc::AllocError;
 
 pub fn is_proved(verdict: &Verdict) -> bool
     ensures { result ≡ is_proved verdict.now }
@@ -39,7 +39,7 @@ fn kind_text(kind: LimitKind) -> &'static str
 }
 
 /// Appends the text of a verdict.
-pub fn push_verdict(text: &mut String, verdict: &Verdict) -> Result<(), AllocError>
+pub fn push_verdict(text: &mut String, verdict: &Verdict) -> Result<(), OutOfMemory>
     ensures { OnOk result (string_bytes text.new
         ≡ string_bytes text.old ++ verdict_text verdict.now) }
 {

@@ -1,6 +1,5 @@
 -- The text of a report.
-use Rattle.std.specs.Prelude.{ℕ, ℤ, List, [], ◌∷◌, ◌++◌, codes, Bool, true, false, count_by, if◌then◌else◌}
-use Rattle.std.specs.List.{list_any}
+use Rattle.std.specs.Prelude.{ℕ, ℤ, List, [], ◌∷◌, ◌++◌, codes, Bool, true, false, count_by}
 use Rattle.std.specs.Fmt.{decimal, signed_decimal}
 use Rattle.c_tree.specs.declared.tree.AssertPlace.{AssertPlace}
 use Rattle.shadow_elim.specs.declared.limit.LimitKind.{LimitKind}
@@ -67,7 +66,3 @@ summary_of vs =
 
 abbrev pub report_of : List AssertPlace → List Verdict → List ℕ
 report_of places vs = lines_of places vs ++ summary_of vs
-
--- 1 where an assertion is found, else 2 where one is unknown, and else 0
-abbrev pub status_of : List Verdict → ℕ
-status_of vs = if list_any is_found vs then 1 else (if list_any is_unknown vs then 2 else 0)

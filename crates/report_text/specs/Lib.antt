@@ -1,0 +1,4 @@
+pub mod Refused
+pub mod Replay
+pub mod Report
+pub mod Usage

@@ -1,0 +1,8 @@
+-- What is told of words that are no command.
+use Rattle.std.specs.Prelude.{ℕ, List, [], ◌∷◌, ◌++◌, codes}
+
+abbrev pub usage_text : List ℕ
+usage_text =
+    codes "usage: smash check [--budget n] [--workers n]" ++
+    (10 ∷ codes "       smash replay [--fuel n] list" ++
+    (10 ∷ codes "       smash workload n [--budget n] [--workers n]" ++ 10 ∷ []))

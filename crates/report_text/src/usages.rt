@@ -1,0 +1,17 @@
+//! The usage text.
+
+ghost use Rattle.std.specs.Prelude.{◌≡◌};
+ghost use Rattle.report_text.specs.Usage.{usage_text};
+
+const USAGE: &str = "\
+usage: smash check [--budget n] [--workers n]
+       smash replay [--fuel n] list
+       smash workload n [--budget n] [--workers n]
+";
+
+/// What is told of words that are no command.
+pub fn usage() -> &'static [u8]
+    ensures { result.now ≡ usage_text }
+{
+    USAGE.as_bytes()
+}
