@@ -8,6 +8,7 @@ pub mod eliminate;
 pub mod elimination;
 pub mod laws;
 pub mod limit;
+mod lists;
 mod pairing;
 pub mod projection;
 mod reduction;
