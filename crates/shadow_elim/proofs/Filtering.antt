@@ -22,7 +22,7 @@ no_way h = cc
 abbrev pub Respects : (LinearSum → Bool) → Type 0
 Respects p = (s t : LinearSum) → same_parts s t ≡ true → p s ≡ p t
 
-any-filter : (p q : LinearSum → Bool) (bs : List LinearSum) → ((s : LinearSum) → q s ≡ true → p s ≡ true) →
+pub any-filter : (p q : LinearSum → Bool) (bs : List LinearSum) → ((s : LinearSum) → q s ≡ true → p s ≡ true) →
     list_any q bs ≡ list_any q (filter p bs)
 any-filter p q [] f = refl
 any-filter p q (b ∷ bs) f = by_test (p b) (q b) refl refl (any-filter p q bs f) where
@@ -32,7 +32,7 @@ any-filter p q (b ∷ bs) f = by_test (p b) (q b) refl refl (any-filter p q bs f
   by_test false true e g r = absurd (no_way (sym (f b g) ∙ e))
   by_test false false e g r = r
 
-passes : (p : LinearSum → Bool) → Respects p → (s t : LinearSum) → same_parts s t ≡ true → p t ≡ true → p s ≡ true
+pub passes : (p : LinearSum → Bool) → Respects p → (s t : LinearSum) → same_parts s t ≡ true → p t ≡ true → p s ≡ true
 passes p h s t e f = h s t e ∙ f
 
 stays-filter : (p : LinearSum → Bool) → Respects p → (bs ts : List LinearSum) (t : LinearSum) → p t ≡ true →
@@ -85,7 +85,7 @@ or_false : (b : Bool) → (b || false) ≡ b
 or_false true = refl
 or_false false = refl
 
-among-any : (p : LinearSum → Bool) (xs : List LinearSum) (t : LinearSum) → Among t xs → p t ≡ true → list_any p xs ≡ true
+pub among-any : (p : LinearSum → Bool) (xs : List LinearSum) (t : LinearSum) → Among t xs → p t ≡ true → list_any p xs ≡ true
 among-any p [] t h e = absurd h
 among-any p (x ∷ xs) t (inl s) e = ap (λ z. z || list_any p xs) (ap p s ∙ e)
 among-any p (x ∷ xs) t (inr h) e =

@@ -305,7 +305,7 @@ staying-step es rows i d n m b a h e k =
 
 -- Candidates that are added one after the other
 
-all-left : (P : Candidate → Type 0) (cs ds : List Candidate) → All P (cs ++ ds) → All P cs
+pub all-left : (P : Candidate → Type 0) (cs ds : List Candidate) → All P (cs ++ ds) → All P cs
 all-left P cs ds h = λ k d lt. subst P (get_or_append_left cs ds d k lt) (h k d (omega (arith, lt, length-append cs ds)))
 
 all-right : (P : Candidate → Type 0) (cs ds : List Candidate) → All P (cs ++ ds) → All P ds

@@ -30,3 +30,5 @@ pub mod SplitLimit
 pub mod Filtering
 pub mod Holding
 pub mod Standing
+pub mod Needless
+pub mod Weaker

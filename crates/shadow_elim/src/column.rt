@@ -6,6 +6,7 @@ ghost use Rattle.linear_formula.specs.LinearSum.{is_within};
 ghost use Rattle.shadow_elim.specs.Elimination.{is_upper, is_lower, pair_sum, pair_sums};
 ghost use Rattle.shadow_elim.specs.steps.Making.{uppers, lowers, frees, known, made, made_of_all, candidates, step_of, steps_of, numbered, AreTerms};
 ghost use Rattle.shadow_elim.specs.steps.Lists.{AreAdded, AreTaken};
+ghost use Rattle.shadow_elim.specs.steps.Marks.{IsSmall, AreMarked};
 ghost use Rattle.shadow_elim.specs.Stages.{terms_of, IsStage};
 
 use crate::elimination::Stage;
@@ -14,6 +15,7 @@ use crate::pairing::{Candidate, Making, Origin, combine};
 use crate::reduction::Reduction;
 use crate::row::Row;
 use crate::shadow::ShadowError;
+use crate::skipping::{are_both_small, is_skipped, marks_of};
 use infeasible_cert::certificate::{Derived, Multiples};
 use linear_formula::error::{LinError, OutOfMemory};
 use linear_formula::formula::Atom;
@@ -86,10 +88,13 @@ fn add_pairs_of(
     column: u32,
     upper: &Row,
     lowers: &[Row],
+    marks: &[bool],
 ) -> Result<(), LinError>
     requires lists { length others.now < length lists.old.items }
     requires upper { IsTrue (is_upper column upper.now.term) }
     requires lowers { All (λ l. IsTrue (is_lower column l.term)) lowers.now }
+    requires marks { AreMarked (IsSmall column upper.now.term
+        × All (λ l. IsSmall column l.term) lowers.now) lowers.now marks.now }
     ensures within { OnOk result
         (All (λ l. IsTrue (is_within (pair_sum column (upper.now.term, l.term)))) lowers.now) }
     ensures added { OnOk result (AreAdded others.now (map (made column upper.now) lowers.now)
@@ -97,9 +102,11 @@ fn add_pairs_of(
     ensures wide { IsErrOf result LinError.Wide → ¬ All
         (λ l. IsTrue (is_within (pair_sum column (upper.now.term, l.term)))) lowers.now }
 {
-    for lower in lowers {
-        let row = combine(alloc, column, upper, lower)?;
-        add_row(lists, alloc, others, row)?;
+    for (place, lower) in lowers.iter().enumerate() {
+        if !marks[place] {
+            let row = combine(alloc, column, upper, lower)?;
+            add_row(lists, alloc, others, row)?;
+        }
     }
     Ok(())
 }
@@ -124,8 +131,12 @@ fn add_pairs(
         (λ u. All (λ l. IsTrue (is_within (pair_sum column (u.term, l.term)))) lowers.now)
         uppers.now }
 {
-    for upper in uppers {
-        add_pairs_of(lists, alloc, others, column, upper, lowers)?;
+    let are_small = are_both_small(column, uppers, lowers);
+    let marks = marks_of(alloc, lowers, are_small)?;
+    for (place, upper) in uppers.iter().enumerate() {
+        if !is_skipped(uppers, place, are_small) {
+            add_pairs_of(lists, alloc, others, column, upper, lowers, &marks)?;
+        }
     }
     Ok(())
 }

@@ -14,4 +14,5 @@ pub mod projection;
 mod reduction;
 pub mod row;
 pub mod shadow;
+mod skipping;
 pub mod sum;
