@@ -1,28 +1,25 @@
 -- What is left after a column, from what its pairs gave.
-use Rattle.std.proofs.Common.{◌≡◌, ℕ, ◌+◌, ◌≤◌, ◌<◌, Bool, true, false, ◌&&◌, List, [], ◌∷◌, ◌++◌, length, map, Result, Err, arith, refl, sym, ap, subst, ◌∙◌}
-use Rattle.std.specs.Prelude.{IsTrue, All, Contains, filter, flat_map, if◌then◌else◌}
+use Rattle.std.proofs.Common.{◌≡◌, ℕ, Bool, true, false, ◌&&◌, List, [], ◌∷◌, ◌++◌, map, Result, Err, refl, sym, ap, subst, ◌∙◌}
+use Rattle.std.specs.Prelude.{IsTrue, All, filter, flat_map, if◌then◌else◌}
 use Rattle.std.specs.List.{list_all}
 use Rattle.std.proofs.lemmas.List.{map-append}
-use Rattle.std.proofs.lemmas.List.Elements.{All-nil, All-cons, All-head, All-tail, All-weaker, All-contains, filter_passes}
+use Rattle.std.proofs.lemmas.List.Elements.{All-nil, All-cons, All-head, All-tail, filter_passes}
 use Rattle.std.proofs.lemmas.List.Folds.{list_all-append}
 use Rattle.linear_formula.specs.LinearSum.{LinearSum, is_within}
 use Rattle.linear_formula.specs.declared.error.LinError.{LinError}
 use Rattle.linear_formula.specs.declared.error.LinError.TheVariants as lin
-use Rattle.infeasible_cert.specs.Right.{AreRightSteps, rows_after}
-use Rattle.infeasible_cert.specs.declared.certificate.Derived.{Derived}
 use Rattle.shadow_elim.specs.declared.row.Row.{Row}
 use Rattle.shadow_elim.specs.declared.pairing.Candidate.{Candidate}
 use Rattle.shadow_elim.specs.declared.shadow.ShadowError.{ShadowError}
 use Rattle.shadow_elim.specs.declared.shadow.ShadowError.TheVariants as shadow
 use Rattle.shadow_elim.specs.Errors.{shadow_error_of}
 use Rattle.shadow_elim.specs.Division.{tightened}
-use Rattle.shadow_elim.specs.Reduction.{reduced}
-use Rattle.shadow_elim.specs.Elimination.{is_upper, is_lower, is_free, pair_sum, pairs, pair_sums, remains, wide, too_many, counted, after_column}
-use Rattle.shadow_elim.specs.steps.Making.{candidate_terms, uppers, lowers, frees, known, made, made_of_all, candidates, steps_of, next_after, numbered, AreTerms}
-use Rattle.shadow_elim.specs.Stages.{terms_of, AreNumbered}
-use Rattle.shadow_elim.proofs.Reductions.{IsGathered, gathered-more, same-reduced}
-use Rattle.shadow_elim.proofs.MadeRight.{kept-right_after, rows_after-append, length-rows_after}
-use Rattle.shadow_elim.proofs.Tests.{at_most_no, at_most_yes, both_true, first_true, second_true}
+use Rattle.shadow_elim.specs.Elimination.{is_upper, is_lower, is_free, pair_sum, pairs, pair_sums}
+use Rattle.shadow_elim.specs.steps.Making.{candidate_terms, uppers, lowers, frees, known, made, made_of_all, candidates, next_after, numbered}
+use Rattle.shadow_elim.specs.Stages.{terms_of}
+use Rattle.shadow_elim.specs.steps.Lists.{AreAdded}
+use Rattle.shadow_elim.proofs.Holding.{added-then}
+use Rattle.shadow_elim.proofs.Tests.{both_true, first_true, second_true}
 
 -- The terms of the rows and of the candidates
 
@@ -65,7 +62,7 @@ pairs-of_rows x rows =
     ap (λ (us : List LinearSum). pairs_of us (terms_of (lowers x rows))) (terms-filter (is_upper x) rows)
     ∙ ap (λ (ls : List LinearSum). pairs_of (filter (is_upper x) (terms_of rows)) ls) (terms-filter (is_lower x) rows)
 
-terms-candidates : (x : ℕ) (rows : List Row) → candidate_terms (candidates x rows) ≡ filter (is_free x) (terms_of rows) ++ map tightened
+pub terms-candidates : (x : ℕ) (rows : List Row) → candidate_terms (candidates x rows) ≡ filter (is_free x) (terms_of rows) ++ map tightened
     (pair_sums x (terms_of rows))
 terms-candidates x rows =
     map-append (λ (c : Candidate). c.term) (map known (frees x rows)) (made_of_all x (uppers x rows) (lowers x rows))
@@ -137,87 +134,29 @@ sums-within x rows us ls e f =
     (ap (λ (vs : List Row). pairs_of (terms_of vs) (terms_of ls)) e
     ∙ (ap (λ (ks : List Row). pairs_of (terms_of (uppers x rows)) (terms_of ks)) f ∙ pairs-of_rows x rows))
 
--- What is kept after the column
+pub sums-all-within : (x : ℕ) (rows us ls : List Row) → us ≡ uppers x rows → ls ≡ lowers x rows → AreWithin x us ls →
+    list_all is_within (pair_sums x (terms_of rows)) ≡ true
+sums-all-within x rows us ls hu hl w = sym (sums-within x rows us ls hu hl) ∙ within-all x us ls w
 
-pub record IsKept (x : ℕ) (rows : List Row) (kept : List Candidate) : Type 0 where
-  pub terms : candidate_terms kept ≡ reduced (filter (is_free x) (terms_of rows) ++ map tightened (pair_sums x (terms_of rows)))
-  pub among : All (λ c. Contains (candidates x rows) c) kept
-
-pub kept-is : (x : ℕ) (rows us ls fs : List Row) (none first second kept : List Candidate) → us ≡ uppers x rows → ls ≡ lowers x rows →
-    fs ≡ frees x rows → none ≡ [] → IsGathered (none ++ map known fs) first → IsGathered (first ++ made_of_all x us ls) second →
-    candidate_terms kept ≡ reduced (candidate_terms second) → All (λ c. Contains second c) kept → IsKept x rows kept
-kept-is x rows us ls fs none first second kept hu hl hf hn g k e among = record {
-  terms = e ∙ (sym (same-reduced (candidate_terms (candidates x rows)) (candidate_terms second) whole.same)
-      ∙ ap reduced (terms-candidates x rows));
-  among = All-weaker (λ c. Contains second c) (λ c. Contains (candidates x rows) c)
-      (λ c here. All-contains (λ d. Contains (candidates x rows) d) second c whole.among here) kept among;
-} where
-  whole : IsGathered (candidates x rows) second
-  whole = subst (λ (us' : List Row). IsGathered (map known (frees x rows) ++ made_of_all x us' (lowers x rows)) second) hu
-      (subst (λ (ls' : List Row). IsGathered (map known (frees x rows) ++ made_of_all x us ls') second) hl
-      (subst (λ (fs' : List Row). IsGathered (map known fs' ++ made_of_all x us ls) second) hf
-      (subst (λ (cs : List Candidate). IsGathered ((cs ++ map known fs) ++ made_of_all x us ls) second) hn
-      (gathered-more (none ++ map known fs) first (made_of_all x us ls) second g k))))
-
--- What the column leaves
-
-after-counted : (x : ℕ) (rows us ls : List Row) (kept : List Candidate) → us ≡ uppers x rows → ls ≡ lowers x rows → AreWithin x us ls →
-    IsKept x rows kept → after_column x (terms_of rows) ≡ counted (candidate_terms kept)
-after-counted x rows us ls kept hu hl w k =
-    ap (λ (b : Bool). if b then counted (reduced (filter (is_free x) (terms_of rows) ++ map tightened (pair_sums x (terms_of rows)))) else
-    wide)
-    (sym (sums-within x rows us ls hu hl) ∙ within-all x us ls w) ∙ ap counted (sym k.terms)
-
-length-terms : (cs : List Candidate) → length (candidate_terms cs) ≡ length cs
-length-terms [] = refl
-length-terms (c ∷ cs) = omega (arith, length-terms cs)
-
-pub after-remains : (x : ℕ) (rows us ls : List Row) (kept : List Candidate) → us ≡ uppers x rows → ls ≡ lowers x rows → AreWithin x us ls →
-    IsKept x rows kept → length kept ≤ 4096 → after_column x (terms_of rows) ≡ remains (candidate_terms kept)
-after-remains x rows us ls kept hu hl w k h =
-    after-counted x rows us ls kept hu hl w k ∙ ap (λ (b : Bool). if b then remains (candidate_terms kept) else too_many)
-    (at_most_yes (length (candidate_terms kept)) 4096 (omega (arith, length-terms kept)))
-
-pub after-too_many : (x : ℕ) (rows us ls : List Row) (kept : List Candidate) → us ≡ uppers x rows → ls ≡ lowers x rows → AreWithin x us ls →
-    IsKept x rows kept → 4096 < length kept → after_column x (terms_of rows) ≡ too_many
-after-too_many x rows us ls kept hu hl w k h =
-    after-counted x rows us ls kept hu hl w k ∙ ap (λ (b : Bool). if b then remains (candidate_terms kept) else too_many)
-    (at_most_no (length (candidate_terms kept)) 4096 (omega (arith, length-terms kept)))
-
-pub after-wide : (x : ℕ) (rows us ls : List Row) → us ≡ uppers x rows → ls ≡ lowers x rows → (AreWithin x us ls → ⊥) →
-    after_column x (terms_of rows) ≡ wide
-after-wide x rows us ls hu hl h =
-    ap (λ (b : Bool). if b then counted (reduced (filter (is_free x) (terms_of rows) ++ map tightened (pair_sums x (terms_of rows)))) else
-    wide)
-    (sym (sums-within x rows us ls hu hl) ∙ by_test (list_all is_within (map (pair_sum x) (pairs_of (terms_of us) (terms_of ls))))
-    (λ e. h (all-within x us ls e))) where
+pub sums-not-within : (x : ℕ) (rows us ls : List Row) → us ≡ uppers x rows → ls ≡ lowers x rows → (AreWithin x us ls → ⊥) →
+    list_all is_within (pair_sums x (terms_of rows)) ≡ false
+sums-not-within x rows us ls hu hl h =
+    sym (sums-within x rows us ls hu hl) ∙ by_test (list_all is_within (map (pair_sum x) (pairs_of (terms_of us) (terms_of ls))))
+    (λ e. h (all-within x us ls e)) where
       by_test : (b : Bool) → (b ≡ true → ⊥) → b ≡ false
       by_test true k = absurd (k refl)
       by_test false k = refl
 
--- The steps of the column
+-- All candidates of the column were added
 
-pub record AreSteps (base : List LinearSum) (old new : List Derived) (left : List Row) : Type 0 where
-  pub more : List Derived
-  pub same : new ≡ old ++ more
-  pub right : AreRightSteps (rows_after base old) more
-  pub numbers : AreNumbered (rows_after base new) left
-
-pub steps-are : (base : List LinearSum) (first : ℕ) (x : ℕ) (rows : List Row) (kept : List Candidate) (old new : List Derived)
-    (left : List Row) → length base ≡ first → AreNumbered (rows_after base old) rows → AreTerms rows → IsKept x rows kept →
-    new ≡ old ++ steps_of kept → left ≡ numbered (first + length old) kept → AreSteps base old new left
-steps-are base first x rows kept old new left h n t k e f =
-    let r = kept-right_after (rows_after base old) x rows kept n t k.among in
-    record {
-      more = steps_of kept;
-      same = e;
-      right = r.0;
-      numbers = subst (λ (rs : List Row). AreNumbered (rows_after base new) rs) (ap (λ (m : ℕ). numbered m kept) next ∙ sym f)
-          (subst (λ (ts : List LinearSum). AreNumbered ts (numbered (length (rows_after base old)) kept))
-          (sym (ap (rows_after base) e ∙ rows_after-append base old (steps_of kept))) r.1);
-    } where
-      next : length (rows_after base old) ≡ first + length old
-      next = length-rows_after base old ∙ ap (λ (m : ℕ). m + length old) h
+pub added-all_candidates : (x : ℕ) (xs : List ℕ) (rows us ls fs : List Row) (old mid new : List (List Candidate)) → us ≡ uppers x rows →
+    ls ≡ lowers x rows → fs ≡ frees x rows → AreAdded xs (map known fs) old mid → AreAdded xs (made_of_all x us ls) mid new →
+    AreAdded xs (candidates x rows) old new
+added-all_candidates x xs rows us ls fs old mid new hu hl hf g k =
+    added-then xs (map known (frees x rows)) (made_of_all x (uppers x rows) (lowers x rows)) old mid new
+    (subst (λ (rs : List Row). AreAdded xs (map known rs) old mid) hf g)
+    (subst (λ (vs : List Row). AreAdded xs (made_of_all x vs (lowers x rows)) mid new) hu
+    (subst (λ (ks : List Row). AreAdded xs (made_of_all x us ks) mid new) hl k))
 
 -- The error that is passed on is `Wide` only where that of the terms was
 

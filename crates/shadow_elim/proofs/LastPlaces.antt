@@ -75,7 +75,7 @@ kept_tests : (a b c f : Bool) → b ≡ false → not c ≡ f → (not a && (not
 kept_tests a b c f e g =
     ap (λ z. not a && (not z && not c)) e ∙ ap (λ z. not a && z) g
 
-stays-is_kept : (es : List (Vec (ℕ × ℤ) Global × ℕ)) (rows : List Candidate) (i : ℕ) (d : Candidate) → AreLastPlaces es rows →
+pub stays-is_kept : (es : List (Vec (ℕ × ℤ) Global × ℕ)) (rows : List Candidate) (i : ℕ) (d : Candidate) → AreLastPlaces es rows →
     i < length rows → stays (candidate_terms (take i rows)) (get_or rows i d).term (candidate_terms (drop (i + 1) rows))
     ≡ is_kept es i (get_or rows i d).term
 stays-is_kept es rows i d a h =
@@ -112,13 +112,13 @@ next-is rows kept rest i row s =
     let e : row ∷ rest ≡ get_or rows i row ∷ drop (i + 1) rows = s.left ∙ drop_more rows i row l in
     record { bound = l; here = cc; behind = cc }
 
-reduced_after-step : (bs ts : List LinearSum) (t : LinearSum) (b : Bool) → stays bs t ts ≡ b → reduced_after bs (t ∷ ts)
+pub reduced_after-step : (bs ts : List LinearSum) (t : LinearSum) (b : Bool) → stays bs t ts ≡ b → reduced_after bs (t ∷ ts)
     ≡ (if b then (t ∷ reduced_after (bs ++ t ∷ []) ts) else reduced_after (bs ++ t ∷ []) ts)
 reduced_after-step bs ts t b e =
     ap (λ (z : Bool). if z then (t ∷ reduced_after (bs ++ t ∷ []) ts) else reduced_after (bs ++ t ∷ []) ts) e
 
 -- the terms before the next row, and with it
-with_next : (rows : List Candidate) (i : ℕ) (row : Candidate) → i < length rows → row ≡ get_or rows i row →
+pub with_next : (rows : List Candidate) (i : ℕ) (row : Candidate) → i < length rows → row ≡ get_or rows i row →
     candidate_terms (take (i + 1) rows) ≡ candidate_terms (take i rows) ++ row.term ∷ []
 with_next rows i row h e =
     map_more (λ (c : Candidate). c.term) rows i row h ∙ ap (λ (c : Candidate). candidate_terms (take i rows) ++ c.term ∷ []) (sym e)

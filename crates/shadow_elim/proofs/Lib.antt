@@ -27,3 +27,8 @@ pub mod PlanValues
 pub mod Summing
 pub mod Projecting
 pub mod SplitLimit
+pub mod Filtering
+pub mod Holding
+pub mod Standing
+pub mod Needless
+pub mod Weaker

@@ -1,9 +1,9 @@
 -- The rows made of pairs are right steps, and have their numbers.
 use Rattle.std.proofs.Common.{◌≡◌, ℕ, ◌<◌, ◌≤◌, ◌+◌, ◌*◌, ◌^◌, true, List, [], ◌∷◌, ◌++◌, length, map, get_or, ℤ, pos, ◌+ℤ◌, ◌*ℤ◌, arith, refl, sym, ap, subst, ◌∙◌}
-use Rattle.std.specs.Prelude.{IsTrue, ◌≤ℤ◌, unsigned_abs, All, Contains}
+use Rattle.std.specs.Prelude.{IsTrue, ◌≤ℤ◌, unsigned_abs, All}
 use Rattle.std.proofs.lemmas.Int.{ints}
 use Rattle.std.proofs.lemmas.List.{get_or_append_left, get_or_at, append_assoc, length_push, length-append}
-use Rattle.std.proofs.lemmas.List.Elements.{All-nil, All-cons, All-head, All-tail, All-append, All-map, All-filter, All-contains, filter_passes, All-weaker}
+use Rattle.std.proofs.lemmas.List.Elements.{All-nil, All-cons, All-head, All-tail, All-append, All-map, All-filter, filter_passes}
 use Rattle.std.proofs.Math.Nat.{mul-le-mul}
 use Rattle.linear_formula.specs.LinearSum.{LinearSum, coefficient, is_term}
 use Rattle.linear_formula.specs.Results.{combination}
@@ -12,14 +12,13 @@ use Rattle.linear_formula.proofs.Finishing.{product_wide}
 use Rattle.linear_formula.proofs.Merging.{product_small}
 use Rattle.infeasible_cert.specs.declared.certificate.Derived.{Derived}
 use Rattle.infeasible_cert.specs.Right.{row_at, summands, AreMultiples, Is128, FitsAlong, column_products, constant_products, IsRoundedUp, IsRightStep, AreRightSteps, rows_after}
-use Rattle.infeasible_cert.proofs.Deriving.{after-is}
 use Rattle.shadow_elim.specs.declared.row.Row.{Row}
 use Rattle.shadow_elim.specs.declared.pairing.Candidate.{Candidate}
 use Rattle.shadow_elim.specs.declared.pairing.Origin.{Origin}
 use Rattle.shadow_elim.specs.declared.pairing.Origin.TheVariants.{Known, Made}
 use Rattle.shadow_elim.specs.Division.{common_divisor, tightened, row_divisor}
 use Rattle.shadow_elim.specs.Elimination.{is_upper, is_lower, is_free, size_of, upper_multiple, lower_multiple, pair_sum}
-use Rattle.shadow_elim.specs.steps.Making.{uppers, lowers, frees, known, making, made, made_of_all, candidates, step_of, with_step, steps_of, number_of, next_after, numbered, AreTerms}
+use Rattle.shadow_elim.specs.steps.Making.{uppers, lowers, frees, known, making, made, made_of_all, candidates, step_of, with_step, steps_of, number_of, next_after, numbered, AreTerms, IsFounded}
 use Rattle.shadow_elim.specs.Stages.{AreNumbered}
 use Rattle.shadow_elim.proofs.Tightening.{tightened-is}
 use Rattle.shadow_elim.proofs.PairSums.{IsUpper, IsLower, upper-is, lower-is, balance}
@@ -163,12 +162,7 @@ made-right base x u l hu eu hl el tu tl up_ low_ =
 
 -- Candidates
 
--- a known row has its number, and a made one follows
-abbrev pub IsFounded : List LinearSum → LinearSum → Origin → Type 0
-IsFounded base t (Known n) = (n < length base) × (row_at base n ≡ t)
-IsFounded base t (Made m) = IsRightStep base (step_of t m)
-
-founded-grows : (base more : List LinearSum) (t : LinearSum) (o : Origin) → IsFounded base t o → IsFounded (base ++ more) t o
+pub founded-grows : (base more : List LinearSum) (t : LinearSum) (o : Origin) → IsFounded base t o → IsFounded (base ++ more) t o
 founded-grows base more t (Known n) h = (length-grown base more n h.0, at-grown base more n h.0 ∙ h.1)
 founded-grows base more t (Made m) h = step-grows base more (step_of t m) h
 
@@ -263,21 +257,6 @@ candidates-founded base x rows h k =
     (All-filter (λ r. is_lower x r.term) (λ r. IsPlaced base r) rows p) (filter_passes (λ r. is_upper x r.term) rows)
     (filter_passes (λ r. is_lower x r.term) rows))
 
--- what is kept among the candidates follows, and has its numbers
-pub kept-founded : (base : List LinearSum) (x : ℕ) (rows : List Row) (cs : List Candidate) → AreNumbered base rows → AreTerms rows →
-    All (λ c. Contains (candidates x rows) c) cs → AreFounded base cs
-kept-founded base x rows cs h k among =
-    founded-from_all base cs (All-weaker (λ c. Contains (candidates x rows) c) (λ c. IsFounded base c.term c.origin)
-    (λ c here. All-contains (λ d. IsFounded base d.term d.origin) (candidates x rows) c (candidates-founded base x rows h k) here) cs among)
-
-pub kept-right : (base : List LinearSum) (x : ℕ) (rows : List Row) (cs : List Candidate) → AreNumbered base rows → AreTerms rows →
-    All (λ c. Contains (candidates x rows) c) cs → AreRightSteps base (steps_of cs)
-    × AreNumbered (base ++ map (λ d. d.row.term) (steps_of cs))
-    (numbered (length base) cs)
-kept-right base x rows cs h k among =
-    let f = kept-founded base x rows cs h k among in
-    (steps-right base cs f, numbers-right base cs f)
-
 -- More steps
 
 pub rows_after-append : (base : List LinearSum) (ds es : List Derived) → rows_after base (ds ++ es) ≡ rows_after (rows_after base ds) es
@@ -293,11 +272,3 @@ pub right-append : (base : List LinearSum) (ds es : List Derived) → AreRightSt
     AreRightSteps base (ds ++ es)
 right-append base [] es h k = k
 right-append base (d ∷ ds) es h k = (h.0, right-append (base ++ d.row.term ∷ []) ds es h.1 k)
-
--- the same as after a column, with `rows_after`
-pub kept-right_after : (base : List LinearSum) (x : ℕ) (rows : List Row) (cs : List Candidate) → AreNumbered base rows → AreTerms rows →
-    All (λ c. Contains (candidates x rows) c) cs → AreRightSteps base (steps_of cs) × AreNumbered (rows_after base (steps_of cs))
-    (numbered (length base) cs)
-kept-right_after base x rows cs h k among =
-    let r = kept-right base x rows cs h k among in
-    (r.0, subst (λ (ts : List LinearSum). AreNumbered ts (numbered (length base) cs)) (sym (after-is base (steps_of cs))) r.1)

@@ -2,14 +2,10 @@
 use Rattle.std.proofs.Common.{◌≡◌, ℕ, suc, ◌+◌, ◌<◌, List, [], ◌∷◌, ◌++◌, length, get_or, take, drop, drop-cons, Result, Err, refl, sym, ap, subst, ◌∙◌}
 use Rattle.std.proofs.lemmas.List.{take_more, take-append-drop}
 use Rattle.linear_formula.specs.LinearSum.{LinearSum}
-use Rattle.infeasible_cert.specs.Right.{AreRightSteps, rows_after}
-use Rattle.infeasible_cert.specs.declared.certificate.Derived.{Derived}
-use Rattle.shadow_elim.specs.declared.row.Row.{Row}
 use Rattle.shadow_elim.specs.declared.shadow.ShadowError.{ShadowError}
 use Rattle.shadow_elim.specs.declared.elimination.Stage.{Stage}
 use Rattle.shadow_elim.specs.Elimination.{after_column, and_then, elimination, Remainder, remains}
-use Rattle.shadow_elim.specs.Stages.{IsStage, AreStages, AreNumbered}
-use Rattle.shadow_elim.proofs.MadeRight.{right-append}
+use Rattle.shadow_elim.specs.Stages.{IsStage, AreStages}
 
 -- one more column
 pub stages-push : (xs : List ℕ) (rows : List LinearSum) (ss : List Stage) (mid : List LinearSum) (x : ℕ) (s : Stage)
@@ -68,14 +64,6 @@ pub passing-stop : (columns : List ℕ) (i : ℕ) (rows : List LinearSum) (ss : 
 passing-stop columns i rows ss mid end h a e =
     ap (λ (xs : List ℕ). elimination xs rows) (sym (take-append-drop i columns) ∙ ap (λ (xs : List ℕ). take i columns ++ xs)
     (drop-cons columns i 0 h)) ∙ stages-stop (take i columns) (get_or columns i 0) (drop (suc i) columns) rows ss mid end a e
-
--- The steps of one more column
-
-pub passing-steps : (base : List LinearSum) (old new : List Derived) (mid left : List Row) → AreRightSteps base old
-    × AreNumbered (rows_after base old) mid → ((more : List Derived) × (new ≡ old ++ more) × AreRightSteps (rows_after base old) more
-    × AreNumbered (rows_after base new) left) → AreRightSteps base new × AreNumbered (rows_after base new) left
-passing-steps base old new mid left h k =
-    (subst (λ (ds : List Derived). AreRightSteps base ds) (sym k.1) (right-append base old k.0 h.0 k.2), k.3)
 
 -- An error is passed on as it is
 

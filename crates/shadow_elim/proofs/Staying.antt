@@ -76,7 +76,7 @@ pub trivial-parts : (t : LinearSum) → IsTrue (is_trivial t) → t.parts ≡ []
 trivial-parts t h = (same_parts-decides t.parts []).0 (first_true (has_no_parts t) (int_le t.constant (pos 0)) h)
 
 -- a row that is at least as strong as one that can fail can fail
-can-fail : (s t : LinearSum) → IsAtLeast s t → is_trivial t ≡ false → is_trivial s ≡ false
+pub can-fail : (s t : LinearSum) → IsAtLeast s t → is_trivial t ≡ false → is_trivial s ≡ false
 can-fail s t h n = by_value (is_trivial s) refl where
   by_value : (b : Bool) → is_trivial s ≡ b → b ≡ false
   by_value false e = refl

@@ -1,2 +1,4 @@
 pub mod Making
 pub mod Places
+pub mod Lists
+pub mod Marks

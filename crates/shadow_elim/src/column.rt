@@ -1,20 +1,21 @@
 //! The elimination of one column.
 
-ghost use Rattle.std.specs.Prelude.{◌≡◌, ◌+◌, ◌++◌, List, map, length, All, Contains, IfOk, OnOk, IsErrOf, IsTrue};
-ghost use Rattle.linear_formula.specs.LinearSum.{LinearSum, is_within};
-ghost use Rattle.infeasible_cert.specs.Right.{AreRightSteps, rows_after};
-ghost use Rattle.infeasible_cert.specs.declared.certificate.Derived.{Derived};
-ghost use Rattle.shadow_elim.specs.Elimination.{is_upper, is_lower, pair_sum, after_column, remains, wide, too_many};
-ghost use Rattle.shadow_elim.specs.steps.Making.{candidate_terms, uppers, lowers, frees, known, made, made_of_all, step_of, steps_of, numbered, AreTerms};
-ghost use Rattle.shadow_elim.specs.Stages.{terms_of, IsStage, AreNumbered};
-ghost use Rattle.shadow_elim.specs.Reduction.{SameReduced};
+ghost use Rattle.std.specs.Prelude.{◌≡◌, ◌+◌, ◌<◌, ◌++◌, map, length, false, All, IfOk, OnOk, IsErrOf, IsTrue};
+ghost use Rattle.std.specs.List.{list_all};
+ghost use Rattle.linear_formula.specs.LinearSum.{is_within};
+ghost use Rattle.shadow_elim.specs.Elimination.{is_upper, is_lower, pair_sum, pair_sums};
+ghost use Rattle.shadow_elim.specs.steps.Making.{uppers, lowers, frees, known, made, made_of_all, candidates, step_of, steps_of, numbered, AreTerms};
+ghost use Rattle.shadow_elim.specs.steps.Lists.{AreAdded, AreTaken};
+ghost use Rattle.shadow_elim.specs.steps.Marks.{IsSmall, AreMarked};
+ghost use Rattle.shadow_elim.specs.Stages.{terms_of, IsStage};
 
 use crate::elimination::Stage;
-use crate::limit::MAX_ROWS;
+use crate::lists::add_row;
 use crate::pairing::{Candidate, Making, Origin, combine};
 use crate::reduction::Reduction;
 use crate::row::Row;
 use crate::shadow::ShadowError;
+use crate::skipping::{are_both_small, is_skipped, marks_of};
 use infeasible_cert::certificate::{Derived, Multiples};
 use linear_formula::error::{LinError, OutOfMemory};
 use linear_formula::formula::Atom;
@@ -54,17 +55,23 @@ fn split_rows(alloc: Global, column: u32, rows: Vec<Row>) -> Result<Sides, OutOf
     })
 }
 
-fn add_free(reduction: &mut Reduction, alloc: Global, rows: Vec<Row>) -> Result<(), OutOfMemory>
-    ensures same { OnOk result
-        (SameReduced (candidate_terms (reduction.old ++ map known rows.items))
-        (candidate_terms reduction.new)) }
-    ensures among { OnOk result (All (λ c. Contains (reduction.old ++ map known rows.items) c)
-        reduction.new) }
+/// Adds the rows that don't name the column to the lists of the others.
+fn add_free(
+    lists: &mut Vec<Reduction>,
+    alloc: Global,
+    others: &[u32],
+    rows: Vec<Row>,
+) -> Result<(), OutOfMemory>
+    requires { length others.now < length lists.old.items }
+    ensures { OnOk result (AreAdded others.now (map known rows.items) lists.old.items
+        lists.new.items) }
 {
     for row in rows {
         let Row { term, number } = row;
-        reduction.add(
+        add_row(
+            lists,
             alloc,
+            others,
             Candidate {
                 term,
                 origin: Origin::Known(number),
@@ -75,56 +82,61 @@ fn add_free(reduction: &mut Reduction, alloc: Global, rows: Vec<Row>) -> Result<
 }
 
 fn add_pairs_of(
-    reduction: &mut Reduction,
+    lists: &mut Vec<Reduction>,
     alloc: Global,
+    others: &[u32],
     column: u32,
     upper: &Row,
     lowers: &[Row],
+    marks: &[bool],
 ) -> Result<(), LinError>
+    requires lists { length others.now < length lists.old.items }
     requires upper { IsTrue (is_upper column upper.now.term) }
     requires lowers { All (λ l. IsTrue (is_lower column l.term)) lowers.now }
+    requires marks { AreMarked (IsSmall column upper.now.term
+        × All (λ l. IsSmall column l.term) lowers.now) lowers.now marks.now }
     ensures within { OnOk result
         (All (λ l. IsTrue (is_within (pair_sum column (upper.now.term, l.term)))) lowers.now) }
-    ensures same { OnOk result
-        (SameReduced (candidate_terms (reduction.old ++ map (made column upper.now) lowers.now))
-        (candidate_terms reduction.new)) }
-    ensures among { OnOk result
-        (All (λ c. Contains (reduction.old ++ map (made column upper.now) lowers.now) c)
-        reduction.new) }
+    ensures added { OnOk result (AreAdded others.now (map (made column upper.now) lowers.now)
+        lists.old.items lists.new.items) }
     ensures wide { IsErrOf result LinError.Wide → ¬ All
         (λ l. IsTrue (is_within (pair_sum column (upper.now.term, l.term)))) lowers.now }
 {
-    for lower in lowers {
-        let row = combine(alloc, column, upper, lower)?;
-        reduction.add(alloc, row)?;
+    for (place, lower) in lowers.iter().enumerate() {
+        if !marks[place] {
+            let row = combine(alloc, column, upper, lower)?;
+            add_row(lists, alloc, others, row)?;
+        }
     }
     Ok(())
 }
 
 fn add_pairs(
-    reduction: &mut Reduction,
+    lists: &mut Vec<Reduction>,
     alloc: Global,
+    others: &[u32],
     column: u32,
     uppers: &[Row],
     lowers: &[Row],
 ) -> Result<(), LinError>
+    requires lists { length others.now < length lists.old.items }
     requires uppers { All (λ u. IsTrue (is_upper column u.term)) uppers.now }
     requires lowers { All (λ l. IsTrue (is_lower column l.term)) lowers.now }
     ensures within { OnOk result
         (All (λ u. All (λ l. IsTrue (is_within (pair_sum column (u.term, l.term)))) lowers.now)
         uppers.now) }
-    ensures same { OnOk result
-        (SameReduced (candidate_terms (reduction.old ++ made_of_all column uppers.now lowers.now))
-        (candidate_terms reduction.new)) }
-    ensures among { OnOk result
-        (All (λ c. Contains (reduction.old ++ made_of_all column uppers.now lowers.now) c)
-        reduction.new) }
+    ensures added { OnOk result (AreAdded others.now (made_of_all column uppers.now lowers.now)
+        lists.old.items lists.new.items) }
     ensures wide { IsErrOf result LinError.Wide → ¬ All
         (λ u. All (λ l. IsTrue (is_within (pair_sum column (u.term, l.term)))) lowers.now)
         uppers.now }
 {
-    for upper in uppers {
-        add_pairs_of(reduction, alloc, column, upper, lowers)?;
+    let are_small = are_both_small(column, uppers, lowers);
+    let marks = marks_of(alloc, lowers, are_small)?;
+    for (place, upper) in uppers.iter().enumerate() {
+        if !is_skipped(uppers, place, are_small) {
+            add_pairs_of(lists, alloc, others, column, upper, lowers, &marks)?;
+        }
     }
     Ok(())
 }
@@ -182,44 +194,54 @@ fn next_number(first: u32, steps: &Vec<Derived>) -> Result<u32, OutOfMemory>
     }
 }
 
-/// Eliminates a column. The made rows are numbered from `first` and the length of `steps` on.
+/// The rows of the last list that stay. The made ones are numbered from `first` and the length of
+/// `steps` on.
+pub fn take_rows(
+    alloc: Global,
+    lists: &mut Vec<Reduction>,
+    first: u32,
+    steps: &mut Vec<Derived>,
+) -> Result<Vec<Row>, OutOfMemory>
+    requires { 0 < length lists.old.items }
+    ensures taken { IfOk result (λ rows. AreTaken first lists.old.items lists.new.items
+        steps.old.items steps.new.items rows.items) }
+{
+    let Some(list) = lists.pop() else {
+        return Err(AllocError);
+    };
+    let kept = list.finish(alloc)?;
+    number(alloc, kept, first, steps)
+}
+
+/// Eliminates a column: what is left of the rows goes to the lists of the others.
 pub fn eliminate_column(
     alloc: Global,
     column: u32,
+    others: &[u32],
     rows: Vec<Row>,
-    first: u32,
-    steps: &mut Vec<Derived>,
-) -> Result<(Stage, Vec<Row>), ShadowError>
-    ensures stage { IfOk result (λ r. IsStage column (terms_of rows.items) r.0) }
-    ensures rows { IfOk result (λ r. after_column column (terms_of rows.items)
-        ≡ remains (terms_of r.1.items)) }
-    ensures steps { IfOk result (λ r. (base : List LinearSum) → length base ≡ first →
-        AreNumbered (rows_after base steps.old.items) rows.items →
-        ((more : List Derived) × (steps.new.items ≡ steps.old.items ++ more) ×
-        AreRightSteps (rows_after base steps.old.items) more
-        × AreNumbered (rows_after base steps.new.items) r.1.items)) }
-    ensures wide { IsErrOf result ShadowError.Wide → after_column column (terms_of rows.items)
-        ≡ wide }
-    ensures too_many { IsErrOf result ShadowError.Rows → after_column column (terms_of rows.items)
-        ≡ too_many }
+    lists: &mut Vec<Reduction>,
+) -> Result<Stage, ShadowError>
+    requires { length others.now < length lists.old.items }
+    ensures stage { IfOk result (λ s. IsStage column (terms_of rows.items) s) }
+    ensures added { IfOk result (λ _. AreAdded others.now (candidates column rows.items)
+        lists.old.items lists.new.items) }
+    ensures within { IfOk result (λ _. IsTrue (list_all is_within
+        (pair_sums column (terms_of rows.items)))) }
+    ensures terms { IfOk result (λ _. AreTerms rows.items) }
+    ensures wide { IsErrOf result ShadowError.Wide → list_all is_within
+        (pair_sums column (terms_of rows.items)) ≡ false }
+    ensures rows { IsErrOf result ShadowError.Rows → ⊥ }
 {
     let Sides {
         uppers,
         lowers,
         free,
     } = split_rows(alloc, column, rows)?;
-    let mut reduction = Reduction::new(alloc);
-    add_free(&mut reduction, alloc, free)?;
-    add_pairs(&mut reduction, alloc, column, &uppers, &lowers)?;
-    let kept = reduction.finish(alloc)?;
-    if kept.len() > MAX_ROWS {
-        return Err(ShadowError::Rows);
-    }
-    let rows = number(alloc, kept, first, steps)?;
-    let stage = Stage {
+    add_free(lists, alloc, others, free)?;
+    add_pairs(lists, alloc, others, column, &uppers, &lowers)?;
+    Ok(Stage {
         column,
         uppers,
         lowers,
-    };
-    Ok((stage, rows))
+    })
 }

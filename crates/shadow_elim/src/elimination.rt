@@ -6,7 +6,8 @@ ghost use Rattle.infeasible_cert.specs.Right.{AreRightSteps, rows_after};
 ghost use Rattle.shadow_elim.specs.Elimination.{elimination, wide, too_many};
 ghost use Rattle.shadow_elim.specs.Stages.{terms_of, AreStages, AreNumbered};
 
-use crate::column::eliminate_column;
+use crate::column::{eliminate_column, take_rows};
+use crate::lists::{is_beyond, lists_of};
 use crate::row::Row;
 use crate::shadow::ShadowError;
 use infeasible_cert::certificate::Derived;
@@ -49,11 +50,16 @@ pub fn eliminate_columns(
 {
     let mut stages = Vec::with_capacity(alloc, columns.len())?;
     let mut steps = Vec::new(alloc);
+    let mut lists = lists_of(alloc, columns)?;
     let mut left = rows;
-    for column in columns {
-        let (stage, rest) = eliminate_column(alloc, *column, left, first, &mut steps)?;
+    for (place, column) in columns.iter().enumerate() {
+        let others = &columns[place + 1..];
+        let stage = eliminate_column(alloc, *column, others, left, &mut lists)?;
+        if is_beyond(&lists) {
+            return Err(ShadowError::Rows);
+        }
         stages.push(stage)?;
-        left = rest;
+        left = take_rows(alloc, &mut lists, first, &mut steps)?;
     }
     Ok(Elimination {
         stages,

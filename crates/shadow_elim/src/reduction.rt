@@ -1,10 +1,11 @@
 //! Of rows with the same coefficients the first one with the greatest constant stays.
 
-ghost use Rattle.std.specs.Prelude.{◌≡◌, ◌++◌, ◌∷◌, [], All, Contains, IfOk, OnOk};
+ghost use Rattle.std.specs.Prelude.{◌≡◌, ◌++◌, ◌∷◌, [], length, All, Contains, IfOk, OnOk};
 ghost use Rattle.std.specs.Cmp.Lexicographic.{pointwise};
 ghost use Rattle.std.specs.List.{list_any};
 ghost use Rattle.std.specs.Map.{lookup};
 ghost use Rattle.shadow_elim.specs.Reduction.{reduced, SameReduced, is_as_strong, is_same_part, is_trivial};
+ghost use Rattle.shadow_elim.specs.steps.Lists.{staying};
 ghost use Rattle.shadow_elim.specs.steps.Making.{candidate_terms};
 ghost use Rattle.shadow_elim.specs.steps.Places.{is_kept, is_found};
 
@@ -75,6 +76,25 @@ impl Reduction {
                 Err(AllocError)
             }
         }
+    }
+
+    pub fn len(&self) -> usize
+        ensures { result ≡ length self.now }
+    {
+        self.rows.len()
+    }
+
+    /// How many rows stay.
+    pub fn count(&self) -> usize
+        ensures { result ≡ staying self.now }
+    {
+        let mut count = 0;
+        for (place, row) in self.rows.iter().enumerate() {
+            if stays(&self.places, place, &row.term) {
+                count += 1;
+            }
+        }
+        count
     }
 
     /// The rows that stay, each in its own place.

@@ -1,6 +1,7 @@
 -- How rows are made of pairs, numbered and derived.
-use Rattle.std.specs.Prelude.{◌≡◌, ℕ, ◌+◌, IsTrue, List, [], ◌∷◌, ◌++◌, map, filter, flat_map, pos}
+use Rattle.std.specs.Prelude.{◌≡◌, ℕ, ◌+◌, ◌<◌, IsTrue, All, List, length, [], ◌∷◌, ◌++◌, map, filter, flat_map, pos}
 use Rattle.linear_formula.specs.LinearSum.{LinearSum, is_term}
+use Rattle.infeasible_cert.specs.Right.{row_at, IsRightStep}
 use Rattle.infeasible_cert.specs.declared.certificate.Derived.{Derived}
 use Rattle.shadow_elim.specs.declared.row.Row.{Row}
 use Rattle.shadow_elim.specs.declared.pairing.Candidate.{Candidate}
@@ -78,6 +79,14 @@ abbrev pub numbered : ℕ → List Candidate → List Row
 numbered next [] = []
 numbered next (c ∷ cs) = record { term = c.term; number = number_of next c.origin }
     ∷ numbered (next_after next c.origin) cs
+
+-- a known row has its number, and a made one follows
+abbrev pub IsFounded : List LinearSum → LinearSum → Origin → Type 0
+IsFounded base t (Known n) = (n < length base) × (row_at base n ≡ t)
+IsFounded base t (Made m) = IsRightStep base (step_of t m)
+
+abbrev pub AllFounded : List LinearSum → List Candidate → Type 0
+AllFounded base cs = All (λ c. IsFounded base c.term c.origin) cs
 
 -- each row is a term
 abbrev pub AreTerms : List Row → Type 0

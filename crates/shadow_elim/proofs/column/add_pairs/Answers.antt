@@ -1,36 +1,74 @@
-use Rattle.std.proofs.Common.{◌<◌, ◌≤◌, ◌++◌, List, length, arith, subst}
+use Rattle.std.proofs.Common.{◌≡◌, ◌<◌, ◌≤◌, ◌+◌, Bool, true, List, length, get_or, take, arith, sym, ap, subst}
 use Rattle.std.specs.Prelude.{IsTrue, All}
 use Rattle.std.proofs.lemmas.List.Elements.{All-nil, All-more}
 use Rattle.linear_formula.specs.LinearSum.{is_within}
 use Rattle.shadow_elim.specs.declared.row.Row.{Row}
 use Rattle.shadow_elim.specs.Elimination.{pair_sum}
 use Rattle.shadow_elim.specs.steps.Making.{made_of_all}
-use Rattle.shadow_elim.proofs.Reductions.{IsGathered, gathered-none, gathered-upper, gathered-all}
+use Rattle.shadow_elim.specs.declared.pairing.Candidate.{Candidate}
+use Rattle.shadow_elim.specs.steps.Lists.{AreAdded}
+use Rattle.shadow_elim.specs.steps.Marks.{IsSmall, AreMarked}
+use Rattle.shadow_elim.proofs.Needless.{marked-where}
+use Rattle.shadow_elim.proofs.Weaker.{within-upper, upper-skipped}
+use Rattle.shadow_elim.proofs.Holding.{added-none, added-upper, added-all}
 use Rattle.shadow_elim.proofs.column.add_pairs.Goals as goal
+use Rattle.shadow_elim.proofs.column.add_pairs.Goals.{then-not-is_skipped+in_ok-add_pairs_of, else-not-is_skipped}
 
-pub loop-upper-init : goal.loop-upper-init
-loop-upper-init c = record {
+pub loop-place-init : goal.loop-place-init
+loop-place-init c = record {
   within = All-nil (λ (u : Row). All (λ (r : Row). IsTrue (is_within (pair_sum c.args.column (u.term, r.term)))) c.args.lowers.now);
-  gathered = gathered-none c.args.reduction.now;
+  added = added-none c.args.others.now c.args.lists.now.items;
 }
 
-pub loop-upper-preserved : goal.loop-upper-preserved
-loop-upper-preserved c =
-    let h : c.loop-upper.upper-index < length c.args.uppers.now = omega arith in
-    record {
-      within = All-more (λ (u : Row). All (λ (r : Row). IsTrue (is_within (pair_sum c.args.column (u.term, r.term)))) c.args.lowers.now)
-          c.args.uppers.now c.loop-upper.upper-index c.upper-item.result h c.loop-upper.invariant.within
-          (subst (λ (u : Row). All (λ (r : Row). IsTrue (is_within (pair_sum c.args.column (u.term, r.term)))) c.args.lowers.now)
-          c.upper-item.is c.in_ok-add_pairs_of.ensures.within);
-      gathered = gathered-upper c.args.column c.args.uppers.now c.args.lowers.now c.loop-upper.upper-index c.upper-item.result
-          c.args.reduction.now c.loop-upper.reduction c.add_pairs_of.new.reduction h c.upper-item.is c.loop-upper.invariant.gathered
-          (record { same = c.in_ok-add_pairs_of.ensures.same; among = c.in_ok-add_pairs_of.ensures.among });
-    }
+pub add_pairs_of-requires-clause-lists : goal.add_pairs_of-requires-clause-lists
+add_pairs_of-requires-clause-lists c = omega (arith, c.loop-place.invariant.added.count, c.requires.lists)
 
-pub returns-clause-among : goal.returns-clause-among
-returns-clause-among c =
-    let h : length c.args.uppers.now ≤ c.loop-upper.upper-index = omega arith in
-    let g : IsGathered (c.args.reduction.now ++ made_of_all c.args.column c.args.uppers.now c.args.lowers.now) c.loop-upper.reduction =
-    gathered-all (λ (rs : List Row). made_of_all c.args.column rs c.args.lowers.now) c.args.uppers.now c.loop-upper.upper-index
-    c.args.reduction.now c.loop-upper.reduction h c.loop-upper.invariant.gathered in
-    g.among
+pub add_pairs_of-requires-clause-marks : goal.add_pairs_of-requires-clause-marks
+add_pairs_of-requires-clause-marks c =
+    let x = c.args.column in
+    let u = c.index-uppers-place.result in
+    let h : c.loop-place.place < length c.args.uppers.now = omega arith in
+    subst (λ (ms : List Bool). AreMarked (IsSmall x u.term × All (λ (l : Row). IsSmall x l.term) c.args.lowers.now) c.args.lowers.now ms)
+    (sym c.deref.ensures.value) (marked-where (c.are_both_small-are_small.result ≡ true) (IsSmall x u.term
+    × All (λ (l : Row). IsSmall x l.term) c.args.lowers.now) c.args.lowers.now c.in_ok-marks.marks.items (λ e.
+    let both = c.are_both_small-are_small.ensures e in (
+      subst (λ (r : Row). IsSmall x r.term) (sym c.index-uppers-place.is) (both.0 c.loop-place.place u h),
+      both.1,
+    )) c.in_ok-marks.ensures)
+
+pub loop-place-preserved : goal.loop-place-preserved
+loop-place-preserved c =
+    let x = c.args.column in
+    let us = c.args.uppers.now in
+    let ls = c.args.lowers.now in
+    let i = c.loop-place.place in
+    let h : i < length us = omega arith in
+    let u = c.index-uppers-place.result in
+    elim c.if-not-is_skipped.branch [
+      | then-not-is_skipped+in_ok-add_pairs_of w ↦ record {
+        within = All-more (λ (v : Row). All (λ (r : Row). IsTrue (is_within (pair_sum x (v.term, r.term)))) ls) us i u h
+            c.loop-place.invariant.within (subst (λ (v : Row). All (λ (r : Row). IsTrue (is_within (pair_sum x (v.term, r.term)))) ls)
+            c.index-uppers-place.is w.in_ok-add_pairs_of.ensures.within);
+        added = subst (λ (ks : List (List Candidate)). AreAdded c.args.others.now (made_of_all x (take (i + 1) us) ls)
+            c.args.lists.now.items ks) (ap (λ v. v.items) (sym w.lists-is)) (added-upper c.args.others.now x us ls i u
+            c.args.lists.now.items c.loop-place.lists.items w.add_pairs_of.new.lists.items h c.index-uppers-place.is
+            c.loop-place.invariant.added w.in_ok-add_pairs_of.ensures.added);
+      }
+      | else-not-is_skipped w ↦
+          let k = c.is_skipped.ensures u w.if-not-is_skipped.false in
+          let both = c.are_both_small-are_small.ensures k.0 in
+          record {
+            within = All-more (λ (v : Row). All (λ (r : Row). IsTrue (is_within (pair_sum x (v.term, r.term)))) ls) us i u h
+                c.loop-place.invariant.within (within-upper x (get_or us i u).term (take i us) ls (c.requires.uppers i u h) c.requires.lowers
+                (both.0 i u h) both.1 k.1 c.loop-place.invariant.within);
+            added = subst (λ (ks : List (List Candidate)). AreAdded c.args.others.now (made_of_all x (take (i + 1) us) ls)
+                c.args.lists.now.items ks) (ap (λ v. v.items) (sym w.lists-is)) (upper-skipped c.args.others.now x us ls i u
+                c.args.lists.now.items c.loop-place.lists.items h k.1 c.loop-place.invariant.added);
+          }
+    ]
+
+pub returns-clause-added : goal.returns-clause-added
+returns-clause-added c =
+    let h : length c.args.uppers.now ≤ c.loop-place.place = omega arith in
+    added-all (λ (rs : List Row). made_of_all c.args.column rs c.args.lowers.now) c.args.others.now c.args.uppers.now
+    c.loop-place.place c.args.lists.now.items c.loop-place.lists.items h c.loop-place.invariant.added

@@ -1,0 +1,8 @@
+use Rattle.std.proofs.Common.{◌≡◌, take}
+use Rattle.std.specs.Prelude.{min}
+use Rattle.std.specs.List.{sum_by}
+use Rattle.shadow_elim.specs.steps.Lists.{staying}
+use Rattle.shadow_elim.proofs.lists.keeps_many.Given as goal
+
+abbrev pub invariant-loop-list : goal.invariant-loop-list
+invariant-loop-list l = l.count ≡ min 18446744073709551615 (sum_by staying (take l.list-index l.lists))

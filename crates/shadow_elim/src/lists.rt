@@ -1,0 +1,81 @@
+//! Rows in lists by the first of the columns that they name, so that a row isn't touched before its
+//! column.
+
+ghost use Rattle.std.specs.Prelude.{◌≡◌, ◌∷◌, ◌<◌, ◌≤◌, [], All, List, false, length, nat_lt, IfOk, OnOk};
+ghost use Rattle.std.specs.List.{sum_by};
+ghost use Rattle.shadow_elim.specs.steps.Lists.{rank, staying, AreAdded};
+
+use crate::limit::MAX_ROWS;
+use crate::pairing::Candidate;
+use crate::reduction::Reduction;
+use linear_formula::error::OutOfMemory;
+use linear_formula::term::Term;
+use std::alloc::Global;
+
+/// As many empty lists as there are columns.
+pub fn lists_of(alloc: Global, columns: &[u32]) -> Result<Vec<Reduction>, OutOfMemory>
+    ensures count { IfOk result (λ ls. length ls.items ≡ length columns.now) }
+    ensures empty { IfOk result (λ ls. All (λ l. l ≡ []) ls.items) }
+{
+    let mut lists = Vec::with_capacity(alloc, columns.len())?;
+    for _ in columns {
+        lists.push(Reduction::new(alloc))?;
+    }
+    Ok(lists)
+}
+
+/// How many columns there are from the first one on that the row names.
+fn rank(columns: &[u32], term: &Term) -> usize
+    ensures { result ≡ rank columns.now term.now }
+{
+    let mut left = columns.len();
+    for column in columns {
+        if term.coefficient(*column) != 0 {
+            return left;
+        }
+        left -= 1;
+    }
+    0
+}
+
+/// Adds a row at the end of its list, unless an earlier one there is as strong.
+pub fn add_row(
+    lists: &mut Vec<Reduction>,
+    alloc: Global,
+    columns: &[u32],
+    row: Candidate,
+) -> Result<(), OutOfMemory>
+    requires { length columns.now < length lists.old.items }
+    ensures { OnOk result (AreAdded columns.now (row ∷ []) lists.old.items lists.new.items) }
+{
+    let place = rank(columns, &row.term);
+    lists[place].add(alloc, row)
+}
+
+/// Whether there are more than `MAX_ROWS` rows, some of which may not stay.
+fn has_many(lists: &[Reduction]) -> bool
+    ensures { result ≡ false → sum_by staying lists.now ≤ MAX_ROWS }
+{
+    let mut most: usize = 0;
+    for list in lists {
+        most = most.saturating_add(list.len());
+    }
+    most > MAX_ROWS
+}
+
+fn keeps_many(lists: &[Reduction]) -> bool
+    ensures { result ≡ nat_lt MAX_ROWS (sum_by staying lists.now) }
+{
+    let mut count: usize = 0;
+    for list in lists {
+        count = count.saturating_add(list.count());
+    }
+    count > MAX_ROWS
+}
+
+/// Whether more than `MAX_ROWS` rows stay.
+pub fn is_beyond(lists: &[Reduction]) -> bool
+    ensures { result ≡ nat_lt MAX_ROWS (sum_by staying lists.now) }
+{
+    has_many(lists) && keeps_many(lists)
+}
