@@ -22,3 +22,4 @@ mod MustsServing
 mod Serving
 mod CallTurned
 mod CallReadOff
+mod FromPlace

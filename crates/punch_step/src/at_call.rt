@@ -54,6 +54,17 @@ fn names_terms(trail: &Trail)
     are_numbers(trail.slots.as_slice());
 }
 
+/// How many summaries the last Ask over the edge saw: 0 where it asked nothing.
+fn seen_by_ask(steps: &[Step], at: RegionEdge) -> usize {
+    for step in steps.iter().rev() {
+        match step {
+            Step::Ask { edge, seen, .. } if *edge == at => return *seen as usize,
+            _ => {}
+        }
+    }
+    0
+}
+
 /// The step at a frontier of the state whose edge is a call.
 pub fn call_from(
     alloc: Global,
@@ -97,6 +108,7 @@ pub fn call_from(
         ancestors: state.ancestors(),
         asked: state.asked(),
         table,
+        newer: seen_by_ask(state.steps(), at),
     };
     step_over_call(alloc, &frontier)
 }

@@ -1,12 +1,13 @@
 //! The step at a frontier over a call.
 
-ghost use Rattle.std.specs.Prelude.{◌≡◌, ◌≢◌, None, Option, ℕ, IfOk};
+ghost use Rattle.std.specs.Prelude.{◌≡◌, ◌≢◌, ◌≤◌, ◌+◌, None, Option, Some, ℕ, length, IfOk, IfSome};
 ghost use Rattle.query_rules.specs.declared.step.News.TheVariants as news;
 ghost use Rattle.call_bridge.specs.Musts.{NamesNumbers};
 ghost use Rattle.punch_step.specs.ByMusts.{CanCall};
 ghost use Rattle.punch_step.specs.CallFrontiers.{CanStepHere, IsAskedAt, IsAskingAt, IsCallStep};
 ghost use Rattle.punch_step.specs.CallFrontiers.{IsGivenUpHere, IsMustHere, IsUnserved, Tells};
 ghost use Rattle.punch_step.specs.steps.Serving.{AreLevelsApart, AreMustsMissed, AreQueriesMissed};
+ghost use Rattle.punch_step.specs.steps.Serving.{AreServedFrom};
 ghost use Rattle.punch_step.specs.steps.Serving.{HasRepeated, IfTold, IsInexactHere, IsServed};
 ghost use Rattle.punch_step.specs.steps.Serving.{IfInexact, IfUnkilled, IsRepeated, IsUndecidedHere};
 
@@ -39,6 +40,9 @@ pub struct CallFrontier<'a> {
     /// The queries that were asked before, over this edge and over others.
     pub asked: &'a [Asked],
     pub table: &'a [Arc<Summary>],
+    /// From here on the last Ask over this very edge didn't see the table; 0 where it asked
+    /// nothing.
+    pub newer: usize,
 }
 
 /// News of an asked query of the edge.
@@ -57,6 +61,16 @@ enum Served {
     Not,
     /// Nothing is shown to serve the call, and a question met this limit.
     Limit(Kept),
+}
+
+/// A place of the table behind this one, as a number.
+fn place_from(from: usize, place: u32) -> Result<u32, OutOfMemory>
+    ensures { IfOk result (λ n. n ≡ from + place) }
+{
+    match number_of(from)?.checked_add(place) {
+        Some(sum) => Ok(sum),
+        None => Err(AllocError),
+    }
 }
 
 /// The first asked query of the edge for which the table has no must by what is told.
@@ -327,34 +341,124 @@ fn behind_musts(
     }
 }
 
-/// The step by the musts of the table, or what follows.
-fn by_musts(alloc: Global, frontier: &CallFrontier, told: Option<Told>) -> Result<Step, OutOfMemory>
-    requires can { CanStepHere frontier.now }
-    requires told { IfUnkilled frontier.now told }
-    ensures { IfOk result (IsCallStep frontier.now) }
+/// What the musts of the table say, from this place on.
+fn by_musts_from(alloc: Global, frontier: &CallFrontier, from: usize) -> Result<Served, OutOfMemory>
+    requires can { CanCall frontier.now.calling }
+    requires from { from ≤ length frontier.now.table.now }
+    ensures { IfOk result (AreServedFrom frontier.now from) }
 {
-    match by_table(alloc, &frontier.calling, frontier.table)? {
-        ByTable::Comes { place, point } => Ok(Step::CallExtend {
+    match by_table(alloc, &frontier.calling, &frontier.table[from..])? {
+        ByTable::Comes { place, point } => Ok(Served::By(Step::CallExtend {
             edge: frontier.at,
             trail: frontier.trail,
-            place,
+            place: place_from(from, place)?,
             point,
-        }),
+        })),
         ByTable::Parts {
             place,
             atoms,
             proof,
         } => {
             let proofs = vec![in alloc; proof]?;
-            Ok(Step::CallSplit {
+            Ok(Served::By(Step::CallSplit {
                 edge: frontier.at,
-                place,
+                place: place_from(from, place)?,
                 atoms: atoms.atoms,
                 proofs: Certificates::from_vec(proofs),
-            })
+            }))
         }
-        ByTable::Neither => behind_musts(alloc, frontier, told, None),
-        ByTable::Limit(kept) => behind_musts(alloc, frontier, told, Some(kept)),
+        ByTable::Neither => Ok(Served::Not),
+        ByTable::Limit(kept) => Ok(Served::Limit(kept)),
+    }
+}
+
+/// The step by the musts of the table, or what follows.
+fn by_musts(alloc: Global, frontier: &CallFrontier, told: Option<Told>) -> Result<Step, OutOfMemory>
+    requires can { CanStepHere frontier.now }
+    requires told { IfUnkilled frontier.now told }
+    ensures { IfOk result (IsCallStep frontier.now) }
+{
+    match by_musts_from(alloc, frontier, 0)? {
+        Served::By(step) => Ok(step),
+        Served::Not => behind_musts(alloc, frontier, told, None),
+        Served::Limit(kept) => behind_musts(alloc, frontier, told, Some(kept)),
+    }
+}
+
+/// The query that the call asks, if the child was asked the same.
+fn asked_again(
+    alloc: Global,
+    frontier: &CallFrontier,
+    told: Told,
+) -> Result<Option<Query>, OutOfMemory>
+    requires can { CanCall frontier.now.calling }
+    requires tells { Tells frontier.now told.asked told.news }
+    ensures { IfOk result (λ o. IfSome o (IsAskedAt frontier.now)) }
+{
+    let Calling {
+        source,
+        call,
+        target,
+        exit,
+        ..
+    } = &frontier.calling;
+    match ask_of(alloc, source, call, target, *exit) {
+        Ok(asking) => {
+            let before = &frontier.asked[told.asked as usize];
+            if asking.query == before.query {
+                return Ok(Some(asking.query));
+            }
+            Ok(None)
+        }
+        Err(BridgeError::Limit(_)) => Ok(None),
+        Err(BridgeError::Memory) => Err(AllocError),
+    }
+}
+
+/// The step where the child still answers what the call asks: a kill by a not-may of the table from
+/// this place on, and else by what is told of the child.
+fn by_asked(
+    alloc: Global,
+    frontier: &CallFrontier,
+    told: Told,
+    newer: usize,
+) -> Result<Step, OutOfMemory>
+    requires can { CanStepHere frontier.now }
+    requires told { IfUnkilled frontier.now (Some told) }
+    requires newer { newer ≤ length frontier.now.table.now }
+    ensures { IfOk result (IsCallStep frontier.now) }
+{
+    let Some(query) = asked_again(alloc, frontier, told)? else {
+        return by_musts(alloc, frontier, Some(told));
+    };
+    match not_may_of(alloc, &query, &frontier.table[newer..])? {
+        Holder::At { place, proofs } => Ok(Step::Kill {
+            edge: frontier.at,
+            by: Killer::Table {
+                place: place_from(newer, place)?,
+                proof: proofs,
+            },
+        }),
+        _ => by_child(frontier, told),
+    }
+}
+
+/// The step where the summaries before this place were asked before: first by the newer ones.
+fn by_newer(
+    alloc: Global,
+    frontier: &CallFrontier,
+    told: Option<Told>,
+    newer: usize,
+) -> Result<Step, OutOfMemory>
+    requires can { CanStepHere frontier.now }
+    requires told { IfUnkilled frontier.now told }
+    requires newer { newer ≤ length frontier.now.table.now }
+    ensures { IfOk result (IsCallStep frontier.now) }
+{
+    match (by_musts_from(alloc, frontier, newer)?, told) {
+        (Served::By(step), _) => Ok(step),
+        (_, Some(told)) => by_asked(alloc, frontier, told, newer),
+        (_, None) => by_musts(alloc, frontier, None),
     }
 }
 
@@ -362,6 +466,8 @@ fn by_musts(alloc: Global, frontier: &CallFrontier, told: Option<Told>) -> Resul
 /// table, which carries the trail or splits the source, a not-may of the table, a level, more of
 /// the budget for a child that has used up its own; else the edge is given up where its child was,
 /// its query is asked where no question met a limit, and else the edge is given up at the first.
+/// Where the edge asked before, the summaries that its last Ask didn't see come first, and where
+/// the child still answers what the call asks, it comes before those that the Ask saw.
 pub fn step_over_call(alloc: Global, frontier: &CallFrontier) -> Result<Step, OutOfMemory>
     requires { CanStepHere frontier.now }
     ensures { IfOk result (IsCallStep frontier.now) }
@@ -376,6 +482,9 @@ pub fn step_over_call(alloc: Global, frontier: &CallFrontier) -> Result<Step, Ou
             edge: frontier.at,
             by: Killer::Child { asked },
         }),
-        told => by_musts(alloc, frontier, told),
+        told => match frontier.newer.min(frontier.table.len()) {
+            0 => by_musts(alloc, frontier, told),
+            newer => by_newer(alloc, frontier, told, newer),
+        },
     }
 }

@@ -112,3 +112,17 @@ module _ (gs : List Graph) (table after : List Summary) (s child new : Seen) (i 
         (heard lead gs (table ++ NotMay child.query ∷ []) s new long i number (news.NotMay None)
         (tells_in gs (table ++ NotMay child.query ∷ []) s long i child.query (news.NotMay None) asked not_may_holds) (λ b at told. cc)
         shows)
+
+-- More of the budget
+
+module _ (gs : List Graph) (table : List Summary) (s new : Seen) (i number : ℕ) (q : Query) (h : IsReady gs table s)
+    (asked : IsAskedAs s i q)
+  where
+    starved_in : Tells gs h.model i news.Starved
+    starved_in = tells_in gs table s h i q news.Starved asked tt
+
+    pub starved_tells : MayTell s i news.Starved
+    starved_tells = (gs, h.model, h.analysed.shows, starved_in)
+
+    pub starved_learned : NewsLead → ((m : Model) → ShowsModel s m → ShowsModel new (told i number news.Starved m)) → IsReady gs table new
+    starved_learned lead shows = heard lead gs table s new h i number news.Starved starved_in (λ b at told. cc) shows

@@ -4,7 +4,7 @@ ghost use Rattle.std.specs.Prelude.{IfOk};
 ghost use Rattle.step_tests.specs.Ready.{IsReady};
 
 use crate::families::{begun_beside, begun_root, family};
-use crate::learning::{ask_child, learn};
+use crate::learning::{ask_child, learn, learn_starved};
 use crate::ready::{no_table, sliced};
 use flow_graph::graphs::Graphs;
 use linear_formula::assignment::Assignment;
@@ -262,5 +262,25 @@ fn waits_for_children(rt: HostRuntime) -> Result<(), Fail> {
         ((0, End::Spent), returns),
     );
     assert_eq!(rt; asks_alone(rt.alloc())?, wanted);
+    Ok(())
+}
+
+/// The caller asks its second query with a not-may in the table, and that child is starved.
+fn feeds(alloc: Global) -> Result<(Gone, (u32, End)), Fail> {
+    let graphs = family(alloc, 40, 99)?;
+    let mut table = no_table(alloc, 3)?;
+    let mut parent = begun_root(alloc, &graphs, &table)?;
+    let _ = goes(alloc, &graphs, &table, &mut parent, 99)?;
+    let (_, asked) = round(alloc, &graphs, &mut table, &mut parent, 0)?;
+    learn_starved(&graphs, &table, &mut parent, 1)?;
+    let (fed, _) = goes(alloc, &graphs, &table, &mut parent, 99)?;
+    Ok((asked, fed))
+}
+
+/// A starved child is fed at once, where the table has nothing new.
+#[test]
+fn a_starved_child_is_fed(rt: HostRuntime) -> Result<(), Fail> {
+    let wanted = (asks(2, ExitKind::Return), (1, End::Fed(1)));
+    assert_eq!(rt; feeds(rt.alloc())?, wanted);
     Ok(())
 }

@@ -155,6 +155,23 @@ fn learn_not_may(
     Ok(())
 }
 
+/// The parent is told that the child has used up its part of the budget.
+pub fn learn_starved(
+    graphs: &Graphs,
+    table: &Table,
+    parent: &mut QueryState,
+    asked: u32,
+) -> Result<(), Fail>
+    requires { IsReady graphs.now.graphs table.now.summaries parent.old }
+    ensures { OnOk result (IsReady graphs.now.graphs table.now.summaries parent.new) }
+{
+    a_longer_state();
+    let entry = entry_of(parent, asked)?;
+    see_asked(parent, asked, &entry.query)?;
+    parent.tell(asked, 1, News::Starved);
+    Ok(())
+}
+
 /// The parent and the table learn how the child is closed.
 pub fn learn(
     alloc: Global,

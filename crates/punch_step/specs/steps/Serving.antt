@@ -83,6 +83,13 @@ module _ (f : CallFrontier) where
   IsServed q served.Not = IsUnserved f q × AreLevelsApart q
   IsServed q (served.Limit kept) = IsUndecidedHere kept
 
+  -- what the musts of the table say from this place on: a step that is legal, and else only of the
+  -- whole table that none serves
+  abbrev pub AreServedFrom : ℕ → Served → Type 0
+  AreServedFrom n (served.By s) = IsCallStep f s
+  AreServedFrom n served.Not = n ≡ 0 → AreMustsMissed None
+  AreServedFrom n (served.Limit kept) = n ≡ 0 → AreMustsMissed (Some kept)
+
   -- Projections that aren't exact
 
   -- the limit of a projection that isn't exact
