@@ -1,0 +1,15 @@
+//! Tests of boards and of those who work at them, and nothing else.
+#![tactic(auto)]
+
+#[cfg(test)]
+mod beginnings;
+#[cfg(test)]
+mod ends;
+#[cfg(test)]
+mod orders;
+#[cfg(test)]
+mod play;
+#[cfg(test)]
+mod programs;
+#[cfg(test)]
+mod stops;

@@ -1,0 +1,203 @@
+//! A board beside the jobs that are out, each of a worker, who makes the slice as soon as he takes
+//! it and gives it back when he is told.
+
+ghost use Rattle.std.specs.Prelude.{◌≡◌, IfOk, IfSome, OnOk};
+ghost use Rattle.bolt_core.specs.Boards.{Shown};
+ghost use Rattle.bolt_rounds.specs.Moves.{IsJustTaken, MayMove};
+ghost use Rattle.board_tests.specs.Plays.{IsPlay, MayTake};
+
+use crate::programs::board_of;
+use bolt_core::board::Board;
+use bolt_core::job::{Job, Taken};
+use bolt_rounds::moves::{Move, Worked, hand_in, work_on};
+use linear_formula::error::OutOfMemory;
+use query_rules::step::Closing;
+use query_tree::Rest;
+use std::alloc::Global;
+use std::test::Fail;
+use summary_table::table::Table;
+
+/// How a job is to be given back.
+#[derive(Clone, Copy, Debug, PartialEq, Eq)]
+pub enum How {
+    Ask,
+    Feed(u32),
+    Ready,
+    Blocked,
+    Starved,
+    NotMay,
+    Must,
+    Stuck,
+}
+
+/// What a take gave, and what the slice of the job came to.
+#[derive(Clone, Copy, Debug, PartialEq, Eq)]
+pub enum Took {
+    Job {
+        id: u32,
+        left: u32,
+        steps: u32,
+        how: How,
+    },
+    Idle,
+    Over,
+}
+
+/// What became of a job that was given back.
+#[derive(Clone, Copy, Debug, PartialEq, Eq)]
+pub enum Back {
+    Done,
+    /// The place of the event that ended it.
+    Gone(u64),
+    /// The worker had none.
+    None,
+}
+
+/// What is out of the worker of number i stands at place i of `jobs`.
+#[derive(Drop)]
+pub struct Play {
+    pub board: Board,
+    pub asserts: u32,
+    pub known: Table,
+    pub jobs: Vec<Option<Worked>>,
+}
+
+fn how_of(next: &Move) -> How {
+    match next {
+        Move::Ask { .. } => How::Ask,
+        Move::Feed { asked } => How::Feed(*asked),
+        Move::Park(Rest::Ready) => How::Ready,
+        Move::Park(Rest::Blocked) => How::Blocked,
+        Move::Park(Rest::Starved) => How::Starved,
+        Move::Close { how, .. } => match how {
+            Closing::NotMay => How::NotMay,
+            Closing::Must(_) => How::Must,
+            Closing::Stuck(_) => How::Stuck,
+        },
+    }
+}
+
+/// Makes the slice of a job that was just taken.
+fn worked_of(
+    alloc: Global,
+    board: &Board,
+    known: &Table,
+    job: Job,
+    at_most: u32,
+) -> Result<Worked, Fail>
+    ghost shown: { Shown }
+    requires shown { board.now ≡ shown }
+    requires known { known.now.summaries ≡ board.now.core.table }
+    requires job { IsJustTaken board.now job }
+    ensures { IfOk result (λ w. MayMove board.now w.job w.next) }
+{
+    if at_most == 0 {
+        return Err(Fail::new("no step"));
+    }
+    board.reached();
+    Ok(work_on(alloc, board.graphs(), known, job, at_most)?)
+}
+
+impl Play {
+    /// The board of a program with this budget, and four workers without a job.
+    pub fn begin(alloc: Global, text: &str, budget: u32) -> Result<Play, Fail>
+        ensures { IfOk result (λ p. IsPlay p.board p.asserts p.known p.jobs.items) }
+    {
+        let (board, asserts) = board_of(alloc, text, budget)?;
+        let known = Table::with_room(alloc, board.room())?;
+        let jobs = vec![in alloc; None, None, None, None]?;
+        Ok(Play {
+            board,
+            asserts,
+            known,
+            jobs,
+        })
+    }
+
+    /// Keeps a job that is out.
+    fn keep(&mut self, worker: u32, worked: Worked)
+        requires job { MayMove self.old.board worked.job worked.next }
+        requires stands { IsPlay self.old.board self.old.asserts self.old.known
+            self.old.jobs.items }
+        ensures { IsPlay self.new.board self.new.asserts self.new.known self.new.jobs.items }
+    {
+        let place = worker as usize;
+        if place < self.jobs.len() {
+            self.jobs[place] = Some(worked);
+        }
+    }
+
+    /// The job of this worker, which is kept no longer.
+    fn fetch(&mut self, worker: u32) -> Option<Worked>
+        requires { IsPlay self.old.board self.old.asserts self.old.known self.old.jobs.items }
+        ensures board { self.new.board ≡ self.old.board }
+        ensures may { IfSome result (λ w. MayMove self.old.board w.job w.next) }
+        ensures stands { IsPlay self.new.board self.new.asserts self.new.known self.new.jobs.items }
+    {
+        let place = worker as usize;
+        if place < self.jobs.len() {
+            self.jobs[place].take()
+        } else {
+            None
+        }
+    }
+
+    /// A take of a board whose table is known.
+    fn take_one(&mut self, worker: u32) -> Result<Taken, OutOfMemory>
+        requires { IsPlay self.old.board self.old.asserts self.old.known self.old.jobs.items }
+        ensures may { IfOk result (MayTake self.new.board self.new.known.summaries) }
+        ensures stands { OnOk result
+            (IsPlay self.new.board self.new.asserts self.new.known self.new.jobs.items) }
+    {
+        self.board.reached();
+        self.board.bring(&mut self.known)?;
+        Ok(self.board.take(worker, &self.known))
+    }
+
+    /// The worker takes a query, makes a slice of at most so many steps, and keeps the job.
+    pub fn take(&mut self, alloc: Global, worker: u32, at_most: u32) -> Result<Took, Fail>
+        requires { IsPlay self.old.board self.old.asserts self.old.known self.old.jobs.items }
+        ensures { OnOk result
+            (IsPlay self.new.board self.new.asserts self.new.known self.new.jobs.items) }
+    {
+        match self.take_one(worker)? {
+            Taken::Over => Ok(Took::Over),
+            Taken::Idle => Ok(Took::Idle),
+            Taken::Job(job) => {
+                let left = job.left;
+                let worked = worked_of(alloc, &self.board, &self.known, job, at_most)?;
+                let took = Took::Job {
+                    id: worked.job.id,
+                    left,
+                    steps: worked.job.spent,
+                    how: how_of(&worked.next),
+                };
+                self.keep(worker, worked);
+                Ok(took)
+            }
+        }
+    }
+
+    /// The worker gives his job back.
+    pub fn hand_in(&mut self, worker: u32) -> Back
+        requires { IsPlay self.old.board self.old.asserts self.old.known self.old.jobs.items }
+        ensures { IsPlay self.new.board self.new.asserts self.new.known self.new.jobs.items }
+    {
+        let Some(worked) = self.fetch(worker) else {
+            return Back::None;
+        };
+        self.board.reached();
+        match hand_in(&mut self.board, worker, worked) {
+            Ok(()) => Back::Done,
+            Err(gone) => Back::Gone(gone.event),
+        }
+    }
+
+    pub fn stop(&mut self, worker: u32)
+        requires { IsPlay self.old.board self.old.asserts self.old.known self.old.jobs.items }
+        ensures { IsPlay self.new.board self.new.asserts self.new.known self.new.jobs.items }
+    {
+        self.board.reached();
+        self.board.stop(worker);
+    }
+}
