@@ -10,7 +10,7 @@ use Rattle.shadow_elim.proofs.Members.{Among, any-among}
 use Rattle.shadow_elim.proofs.Reducing.{chosen_same}
 use Rattle.shadow_elim.proofs.Reductions.{same-reduced}
 use Rattle.shadow_elim.proofs.Splitting.{filter_in, filter_out}
-use Rattle.shadow_elim.proofs.Staying.{IsAtLeast, IsCovered, can-fail, reduced-covers, reduced-among}
+use Rattle.shadow_elim.proofs.Staying.{IsCovered, as-strong-is, can-fail, reduced-covers, reduced-among}
 use Rattle.shadow_elim.proofs.Strength.{AsStrong-from_test, Stronger-from_test, test-from_Stronger, stronger-strong, as_strong-trans, any-weaker}
 use Rattle.shadow_elim.proofs.Tests.{first_true}
 
@@ -100,11 +100,6 @@ strong-stronger t s r h k =
     let b = Stronger-from_test s r k in
     test-from_Stronger t r (record { parts = b.parts ∙ a.parts; constant = omega (arith, ints, a.constant, b.constant) })
 
-at_least : (t s : LinearSum) → is_as_strong t s ≡ true → IsAtLeast s t
-at_least t s h =
-    let a = AsStrong-from_test t s h in
-    record { parts = a.parts; constant = a.constant }
-
 not_stronger : (t : LinearSum) → is_stronger t t ≡ false
 not_stronger t = by_test (is_stronger t t) refl where
   by_test : (b : Bool) → is_stronger t t ≡ b → b ≡ false
@@ -116,7 +111,7 @@ not_stronger t = by_test (is_stronger t t) refl where
 covered-first : (rows : List LinearSum) → AreCovered [] rows [] (reduced rows)
 covered-first rows = λ t n. both_ways (list_any (is_stronger t) rows) (list_any (is_stronger t) (reduced rows)) (λ e.
     let a = any-among (is_stronger t) rows e in
-    let s = at_least t a.0 (stronger-strong t a.0 a.2) in
+    let s = as-strong-is t a.0 (stronger-strong t a.0 a.2) in
     by_cover t a.0 (can-fail a.0 t s n) a.2 (reduced-covers rows a.0 a.1)) (λ e.
     let a = any-among (is_stronger t) (reduced rows) e in
     among-any (is_stronger t) rows a.0 (reduced-among rows a.0 a.1) a.2) where
@@ -216,7 +211,7 @@ reduced_after-again bs cs (u ∷ us) more h =
           (list_any (is_as_strong t) bs || list_any (is_stronger t) us) ≡ true
       weaker t e n a =
           by_side (list_any (is_as_strong u) bs) refl (cannot_stay (not (is_trivial u)) (list_any (is_as_strong u) bs)
-          (list_any (is_stronger u) us) e (ap not (can-fail u t (at_least t u a) n))) where
+          (list_any (is_stronger u) us) e (ap not (can-fail u t (as-strong-is t u a) n))) where
             or_true : (b : Bool) → (b || true) ≡ true
             or_true true = refl
             or_true false = refl
@@ -254,7 +249,8 @@ reduced_after-again bs cs (u ∷ us) more h =
 
       by_stay : (AreCovered (bs ++ u ∷ []) us (cs ++ u ∷ []) rest → reduced_after (cs ++ u ∷ []) (rest ++ more) ≡ beyond) →
           (AreCovered (bs ++ u ∷ []) us cs rest → reduced_after cs (rest ++ more) ≡ beyond) → (b : Bool) → stays bs u us ≡ b →
-          AreCovered bs (u ∷ us) cs (if b then (u ∷ rest) else rest) → reduced_after cs ((if b then (u ∷ rest) else rest) ++ more) ≡ (if stays bs u (us ++ more) then (u ∷ beyond) else beyond)
+          AreCovered bs (u ∷ us) cs (if b then (u ∷ rest) else rest) → reduced_after cs ((if b then (u ∷ rest) else rest) ++ more)
+          ≡ (if stays bs u (us ++ more) then (u ∷ beyond) else beyond)
       by_stay f g true e k =
           chosen_same (stays cs u (rest ++ more)) (stays bs u (us ++ more)) u (reduced_after (cs ++ u ∷ []) (rest ++ more)) beyond
           (same e k) (f (on k))

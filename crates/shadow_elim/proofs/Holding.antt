@@ -251,7 +251,8 @@ added-row xs old i c was ds (Err e) l f g h k = tt
 added-row xs old i c was ds (Ok u) l f g h k =
     let bound = rank-within xs old i c.term l f in
     let same : was ≡ list_at old i = g ∙ at_default old i was [] bound in
-    added-one xs old i c ds bound f (subst (λ (z : List Candidate). SameReduced (candidate_terms (z ++ c ∷ [])) (candidate_terms ds)) same h)
+    added-one xs old i c ds bound f (subst (λ (z : List Candidate). SameReduced (candidate_terms (z ++ c ∷ [])) (candidate_terms ds)) same
+    h)
     (subst (λ (z : List Candidate). All (λ d. Contains (z ++ c ∷ []) d) ds) same k)
 
 pub added-none : (xs : List ℕ) (lists : List (List Candidate)) → AreAdded xs [] lists lists
@@ -283,16 +284,19 @@ staying-below cs = omega (arith, length-reduced_after [] (candidate_terms cs), l
 
 -- how many stay from a place on
 pub staying-step : (es : List (Vec (ℕ × ℤ) Global × ℕ)) (rows : List Candidate) (i : ℕ) (d : Candidate) (n m : ℕ) (b : Bool) →
-    AreLastPlaces es rows → i < length rows → n + length (reduced_after (candidate_terms (take i rows)) (candidate_terms (drop i rows))) ≡ m →
+    AreLastPlaces es rows → i < length rows → n + length (reduced_after (candidate_terms (take i rows)) (candidate_terms (drop i rows)))
+    ≡ m →
     is_kept es i (get_or rows i d).term ≡ b → (if b then (n + 1) else n) + length
     (reduced_after (candidate_terms (take (i + 1) rows)) (candidate_terms (drop (i + 1) rows))) ≡ m
 staying-step es rows i d n m b a h e k =
     let t = (get_or rows i d).term in
     let rest = candidate_terms (drop (i + 1) rows) in
-    let more : candidate_terms (take (i + 1) rows) ≡ candidate_terms (take i rows) ++ t ∷ [] = map_more (λ (c : Candidate). c.term) rows i d h
+    let more : candidate_terms (take (i + 1) rows) ≡ candidate_terms (take i rows) ++ t ∷ [] = map_more (λ (c : Candidate). c.term) rows i d
+    h
     in
     let split : reduced_after (candidate_terms (take i rows)) (candidate_terms (drop i rows))
-    ≡ (if b then (t ∷ reduced_after (candidate_terms (take (i + 1) rows)) rest) else reduced_after (candidate_terms (take (i + 1) rows)) rest)
+    ≡ (if b then (t ∷ reduced_after (candidate_terms (take (i + 1) rows)) rest) else reduced_after (candidate_terms (take (i + 1) rows))
+    rest)
     = ap (λ (l : List Candidate). reduced_after (candidate_terms (take i rows)) (candidate_terms l)) (drop_more rows i d h)
     ∙ reduced_after-step (candidate_terms (take i rows)) rest t b (stays-is_kept es rows i d a h ∙ k)
     ∙ ap (λ (bs : List LinearSum). if b then (t ∷ reduced_after bs rest) else reduced_after bs rest) (sym more) in

@@ -81,7 +81,7 @@ step-grows base more d s =
 
 -- Limits
 
-quotient-small : (g m b : ℕ) → 0 < g → g * m ≡ b → m ≤ b
+pub quotient-small : (g m b : ℕ) → 0 < g → g * m ≡ b → m ≤ b
 quotient-small g m b h e =
     let p : 1 * m ≤ g * m = mul-le-mul h (le_refl m) in
     omega (arith, p, e) where

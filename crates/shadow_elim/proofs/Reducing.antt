@@ -12,7 +12,8 @@ use Rattle.shadow_elim.proofs.Strength.{as_strong-trans, stronger-trans, stronge
 abbrev pub SameBefore : List LinearSum → List LinearSum → Type 0
 SameBefore bs cs = (t : LinearSum) → list_any (is_as_strong t) bs ≡ list_any (is_as_strong t) cs
 
-pub chosen_same : (a b : Bool) (t : LinearSum) (r s : List LinearSum) → a ≡ b → r ≡ s → (if a then (t ∷ r) else r) ≡ (if b then (t ∷ s) else s)
+pub chosen_same : (a b : Bool) (t : LinearSum) (r s : List LinearSum) → a ≡ b → r ≡ s → (if a then (t ∷ r) else r)
+    ≡ (if b then (t ∷ s) else s)
 chosen_same a b t r s e f =
     subst (λ (z : Bool). (if a then (t ∷ r) else r) ≡ (if z then (t ∷ s) else s)) e (ap (λ (l : List LinearSum). if a then (t ∷ l) else l)
     f)

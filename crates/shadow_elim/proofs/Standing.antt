@@ -168,7 +168,8 @@ pub stands-next : (xs : List ℕ) (next now : List LinearSum) (old new : List (L
 stands-next [] next now old new last h again n e f =
     let k : length new ≡ 0 = omega (arith, n, ap length e, length-append new (last ∷ [])) in
     let at : list_at old 0 ≡ last = ap (λ ls. list_at ls 0) e ∙ last-list new last 0 k in
-    f ∙ ap (λ (l : List Candidate). reduced (candidate_terms l)) (sym at) ∙ sym (same-reduced next (candidate_terms (list_at old 0)) h) ∙ again
+    f ∙ ap (λ (l : List Candidate). reduced (candidate_terms l)) (sym at) ∙ sym (same-reduced next (candidate_terms (list_at old 0)) h)
+    ∙ again
 stands-next (y ∷ ys) next now old new last h again n e f =
     let k : length new ≡ suc (length ys) = omega (arith, n, ap length e, length-append new (last ∷ [])) in
     let at : list_at old (suc (length ys)) ≡ last = ap (λ ls. list_at ls (suc (length ys))) e ∙ last-list new last (suc (length ys)) k in
@@ -182,7 +183,8 @@ stands-next (y ∷ ys) next now old new last h again n e f =
       held = filter (is_free y) next;
       hold = hold-agree ys (filter (is_free y) next) old new (λ m q. sym (ap (λ ls. list_at ls m) e
           ∙ get_or_append_left new (last ∷ []) [] m (omega (arith, q, k)))) h.1;
-      frees = subst (λ (ts : List LinearSum). SameReduced ts (filter (is_free y) next)) (sym (ap (λ (ts : List LinearSum). filter (is_free y)
+      frees = subst (λ (ts : List LinearSum). SameReduced ts (filter (is_free y) next))
+          (sym (ap (λ (ts : List LinearSum). filter (is_free y)
           next ++ ts) none ∙ append_nil (filter (is_free y) next))) (same-itself (filter (is_free y) next));
       count = k;
     } where
@@ -226,7 +228,8 @@ right-next base first x xs now left before after old mid new h r t a k =
     (g (length new) [] (omega (arith, length-append new (k.last ∷ [])))) in
     let kept = founded-from_all here k.kept (All-weaker (λ c. Contains k.last c) (λ c. IsFounded here c.term c.origin) (λ c q.
     All-contains (λ d. IsFounded here d.term d.origin) k.last c last q) k.kept k.among) in
-    let grown : rows_after base after ≡ here ++ map (λ d. d.row.term) more = ap (rows_after base) k.steps ∙ rows_after-append base before more
+    let grown : rows_after base after ≡ here ++ map (λ d. d.row.term) more = ap (rows_after base) k.steps ∙ rows_after-append base before
+    more
     ∙ after-is here more in
     let next : length here ≡ first + length before = length-rows_after base before ∙ ap (λ (m : ℕ). m + length before) h in
     record {
@@ -310,7 +313,8 @@ right-first base now steps lists e n h =
     })
 
 -- the columns behind a place, as the code slices them
-pub all-others : (xs : List ℕ) (n : ℕ) (cs : List Candidate) (old new : List (List Candidate)) → AreAdded (take (length xs - n) (drop n xs)) cs
+pub all-others : (xs : List ℕ) (n : ℕ) (cs : List Candidate) (old new : List (List Candidate)) → AreAdded (take (length xs - n) (drop n xs))
+    cs
     old new → AreAdded (drop n xs) cs old new
 all-others xs n cs old new h =
     subst (λ (ys : List ℕ). AreAdded ys cs old new) (take_all (length xs - n) (drop n xs) (omega (arith, length-drop n xs))) h

@@ -48,7 +48,7 @@ pub at-least-met : (v : Valuation) (s t : LinearSum) → IsAtLeast s t → value
 at-least-met v s t h k =
     omega (arith, ints, h.constant, k, ap (value_of_parts v) h.parts)
 
-as-strong-is : (t s : LinearSum) → is_as_strong t s ≡ true → IsAtLeast s t
+pub as-strong-is : (t s : LinearSum) → is_as_strong t s ≡ true → IsAtLeast s t
 as-strong-is t s h = record {
   parts = (same_parts-decides s.parts t.parts).0 (first_true (same_parts s t) (int_le t.constant s.constant) h);
   constant = le_from t.constant s.constant (second_true (same_parts s t) (int_le t.constant s.constant) h);

@@ -23,6 +23,7 @@ use Rattle.shadow_elim.specs.steps.Lists.{list_at, names, Hold, AreAdded}
 use Rattle.shadow_elim.specs.steps.Marks.{IsSmall}
 use Rattle.shadow_elim.proofs.Filtering.{Respects, any-filter, passes, among-any}
 use Rattle.shadow_elim.proofs.Holding.{free-respects, names-respects, hold-same, all-left}
+use Rattle.shadow_elim.proofs.MadeRight.{quotient-small}
 use Rattle.shadow_elim.proofs.Members.{Among, among-map, among-flat_map, contains-among}
 use Rattle.shadow_elim.proofs.PairSums.{balance, upper-is, lower-is}
 use Rattle.shadow_elim.proofs.Reducing.{reduced-needless}
@@ -111,13 +112,6 @@ made-strong x u s l r h k =
 
 -- Limits
 
-multiple-below : (g m b : ℕ) → 0 < g → g * m ≡ b → m ≤ b
-multiple-below g m b h e =
-    let p : 1 * m ≤ g * m = mul-le-mul h (itself m) in
-    omega (arith, p, e) where
-      itself : (k : ℕ) → k ≤ k
-      itself k = omega arith
-
 product-below : (m : ℕ) (c : ℤ) → m ≤ 2 ^ 19 → unsigned_abs c ≤ 2 ^ 64 → unsigned_abs (pos m *ℤ c) ≤ 2 ^ 83
 product-below m c h k =
     let e : m * unsigned_abs c ≤ 2 ^ 19 * 2 ^ 64 = mul-le-mul h k in
@@ -133,9 +127,10 @@ small-constant x u l iu il h k =
     let g = common_divisor (size_of x u) (size_of x l) in
     let m = upper_multiple (size_of x u) (size_of x l) in
     let n = lower_multiple (size_of x u) (size_of x l) in
-    let a : m ≤ 2 ^ 19 = omega (arith, multiple-below g m (size_of x l) bal.divisor bal.first, k.size) in
-    let b : n ≤ 2 ^ 19 = omega (arith, multiple-below g n (size_of x u) bal.divisor bal.second, h.size) in
-    sum-below (pos m *ℤ u.constant) (pos n *ℤ l.constant) (product-below m u.constant a h.constant) (product-below n l.constant b k.constant)
+    let a : m ≤ 2 ^ 19 = omega (arith, quotient-small g m (size_of x l) bal.divisor bal.first, k.size) in
+    let b : n ≤ 2 ^ 19 = omega (arith, quotient-small g n (size_of x u) bal.divisor bal.second, h.size) in
+    sum-below (pos m *ℤ u.constant) (pos n *ℤ l.constant) (product-below m u.constant a h.constant)
+    (product-below n l.constant b k.constant)
 
 pub within-weaker : (x : ℕ) (u s l r : LinearSum) → IsTrue (is_upper x u) → IsTrue (is_lower x l) → IsSmall x u → IsSmall x l →
     is_as_strong u s ≡ true → is_as_strong l r ≡ true → IsTrue (is_within (pair_sum x (s, r))) → IsTrue (is_within (pair_sum x (u, l)))

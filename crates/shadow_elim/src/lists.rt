@@ -1,7 +1,7 @@
 //! Rows in lists by the first of the columns that they name, so that a row isn't touched before its
 //! column.
 
-ghost use Rattle.std.specs.Prelude.{◌≡◌, ◌∷◌, ◌<◌, ◌≤◌, [], All, List, false, length, nat_lt, IfOk, OnOk};
+ghost use Rattle.std.specs.Prelude.{◌≡◌, ◌∷◌, ◌<◌, ◌≤◌, [], All, false, length, nat_lt, IfOk, OnOk};
 ghost use Rattle.std.specs.List.{sum_by};
 ghost use Rattle.shadow_elim.specs.steps.Lists.{rank, staying, AreAdded};
 

@@ -59,7 +59,8 @@ loop-place-preserved c =
           let both = c.are_both_small-are_small.ensures k.0 in
           record {
             within = All-more (λ (v : Row). All (λ (r : Row). IsTrue (is_within (pair_sum x (v.term, r.term)))) ls) us i u h
-                c.loop-place.invariant.within (within-upper x (get_or us i u).term (take i us) ls (c.requires.uppers i u h) c.requires.lowers
+                c.loop-place.invariant.within (within-upper x (get_or us i u).term (take i us) ls (c.requires.uppers i u h)
+                c.requires.lowers
                 (both.0 i u h) both.1 k.1 c.loop-place.invariant.within);
             added = subst (λ (ks : List (List Candidate)). AreAdded c.args.others.now (made_of_all x (take (i + 1) us) ls)
                 c.args.lists.now.items ks) (ap (λ v. v.items) (sym w.lists-is)) (upper-skipped c.args.others.now x us ls i u

@@ -44,7 +44,8 @@ loop-place-preserved c =
             within = All-more (λ (r : Row). IsTrue (is_within (pair_sum x (u.term, r.term)))) ls i l h c.loop-place.invariant.within
                 (within-lower x u.term (get_or ls i l).term (take i ls) c.requires.upper (c.requires.lowers i l h) m.0.0 (m.0.1 i l h) m.1
                 c.loop-place.invariant.within);
-            added = subst (λ (ks : List (List Candidate)). AreAdded c.args.others.now (map (made x u) (take (i + 1) ls)) c.args.lists.now.items
+            added = subst (λ (ks : List (List Candidate)). AreAdded c.args.others.now (map (made x u) (take (i + 1) ls))
+                c.args.lists.now.items
                 ks) (ap (λ v. v.items) (sym w.lists-is)) (pair-skipped c.args.others.now x u ls i l c.args.lists.now.items
                 c.loop-place.lists.items h m.1 c.loop-place.invariant.added);
           }

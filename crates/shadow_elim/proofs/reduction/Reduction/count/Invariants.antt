@@ -7,7 +7,8 @@ use Rattle.shadow_elim.proofs.reduction.Reduction.count.Given as goal
 abbrev pub invariant-loop-place : goal.invariant-loop-place
 invariant-loop-place l = record {
   count : l.count
-      + length (reduced_after (candidate_terms (take l.place l.self-inside.rows.items)) (candidate_terms (drop l.place l.self-inside.rows.items)))
+      + length (reduced_after (candidate_terms (take l.place l.self-inside.rows.items))
+      (candidate_terms (drop l.place l.self-inside.rows.items)))
       ≡ staying l.self-inside.rows.items;
   below : l.count ≤ l.place;
 }
