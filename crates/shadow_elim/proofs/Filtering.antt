@@ -1,5 +1,6 @@
 -- What stays of the rows that pass a test, and of rows that stayed already.
 use Rattle.std.proofs.Common.{◌≡◌, inl, inr, Bool, true, false, not, ◌&&◌, ◌||◌, cond, List, [], ◌∷◌, ◌++◌, arith, refl, sym, ap, ◌∙◌}
+use Rattle.std.proofs.Math.Bool.{or-false}
 use Rattle.std.specs.Prelude.{filter, if◌then◌else◌}
 use Rattle.std.specs.List.{list_any}
 use Rattle.std.proofs.lemmas.Int.{ints}
@@ -81,10 +82,6 @@ both_ways true y f g = sym (f refl)
 both_ways false true f g = g refl
 both_ways false false f g = refl
 
-or_false : (b : Bool) → (b || false) ≡ b
-or_false true = refl
-or_false false = refl
-
 pub among-any : (p : LinearSum → Bool) (xs : List LinearSum) (t : LinearSum) → Among t xs → p t ≡ true → list_any p xs ≡ true
 among-any p [] t h e = absurd h
 among-any p (x ∷ xs) t (inl s) e = ap (λ z. z || list_any p xs) (ap p s ∙ e)
@@ -160,7 +157,7 @@ kept_on b c s true r q f h = all b r ∙ sym (all c q) where
   all false y = refl
 kept_on b c true false r q f h = absurd (no_way (sym (f refl)))
 kept_on b c false false r q f h =
-    ap (λ z. z || r) (or_false b) ∙ h ∙ ap (λ z. z || q) (sym (or_false c))
+    ap (λ z. z || r) (or-false b) ∙ h ∙ ap (λ z. z || q) (sym (or-false c))
 
 stays_same : (n b r c q m : Bool) → (b || r) ≡ (c || q) → (n && (not c && not (q || m))) ≡ (n && (not b && not (r || m)))
 stays_same n b r c q m h =
@@ -195,8 +192,8 @@ reduced_after-again : (bs cs ts more : List LinearSum) → AreCovered bs ts cs (
     reduced_after cs (reduced_after bs ts ++ more)
     ≡ reduced_after bs (ts ++ more)
 reduced_after-again bs cs [] more h =
-    reduced_after-live cs bs more (λ t n. sym (or_false (list_any (is_as_strong t) cs)) ∙ sym (h t n)
-    ∙ or_false (list_any (is_as_strong t) bs))
+    reduced_after-live cs bs more (λ t n. sym (or-false (list_any (is_as_strong t) cs)) ∙ sym (h t n)
+    ∙ or-false (list_any (is_as_strong t) bs))
 reduced_after-again bs cs (u ∷ us) more h =
     by_stay (reduced_after-again (bs ++ u ∷ []) (cs ++ u ∷ []) us more) (reduced_after-again (bs ++ u ∷ []) cs us more) (stays bs u us) refl
     h where

@@ -155,10 +155,6 @@ past-too_many x xs rows next lists p h =
 
 -- The rows of the next column are taken out of their list
 
-none-left : {X : Type 0} (xs : List X) → length xs ≡ 0 → xs ≡ []
-none-left [] h = refl
-none-left (x ∷ xs) h = absurd (omega (arith, h))
-
 last-list : (front : List (List Candidate)) (last : List Candidate) (n : ℕ) → length front ≡ n → list_at (front ++ last ∷ []) n ≡ last
 last-list front last n h = get_or_at front last [] [] n h
 
