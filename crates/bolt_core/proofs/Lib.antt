@@ -49,3 +49,4 @@ pub mod TermValues
 pub mod Targets
 pub mod Verdicts
 pub mod Saying
+pub mod Staying
