@@ -50,3 +50,4 @@ pub mod Targets
 pub mod Verdicts
 pub mod Saying
 pub mod Staying
+pub mod Sent
