@@ -153,7 +153,7 @@ module _ {S : Type 0} where
   -- what the frame makes of the ends
   module _ (old new : Core S) (e : Told) (f : Frame old.entries new.entries (length old.history) e) (h : new.history ≡ old.history ++ e
       ∷ []) where
-    end_more : (i k : ℕ) → IsEnd old i k → IsEnd new i k
+    pub end_more : (i k : ℕ) → IsEnd old i k → IsEnd new i k
     end_more i k v = record {
       event = v.event;
       at = subst (λ g. slice_get g k ≡ Some v.event) (sym h) (to_pushed old.history e k v.event v.at);

@@ -49,3 +49,5 @@ pub mod TermValues
 pub mod Targets
 pub mod Verdicts
 pub mod Saying
+pub mod Staying
+pub mod Sent

@@ -3,18 +3,22 @@ use Rattle.std.specs.Prelude.{◌≡◌, ℕ, ◌+◌, ◌*◌, ◌^◌, ◌<◌
 use Rattle.flow_graph.specs.declared.graph.Graph.{Graph}
 use Rattle.query_tree.specs.Forest.{tally}
 use Rattle.query_tree.specs.Kept.{grant_of}
+use Rattle.query_tree.specs.declared.Rest.{Rest}
 use Rattle.query_rules.specs.Answered.{AreAnswered}
 use Rattle.query_rules.specs.Seen.{Seen}
 use Rattle.query_rules.specs.States.{StaysNews}
 use Rattle.query_rules.specs.declared.step.Asked.{Asked}
+use Rattle.query_rules.specs.declared.step.Closing.{Closing}
 use Rattle.query_rules.specs.declared.step.News.{News}
 use Rattle.query_rules.specs.declared.step.News.TheVariants as news
-use Rattle.bolt_core.specs.Boards.{IsBoard, Shown, hears}
+use Rattle.summary_form.specs.declared.query.Query.{Query}
+use Rattle.bolt_core.specs.declared.job.Job.{Job as Given}
+use Rattle.bolt_core.specs.Boards.{IsBoard, IsSoundFor, MayAsk, MayBeClosed, MayBeParked, MayFeed, Shown, hears}
 use Rattle.bolt_core.specs.Groups.{Node}
 use Rattle.bolt_core.specs.Histories.{Told, asks_of, closed_as, has_said, took}
 use Rattle.bolt_core.specs.Keeps.{Keeps}
 use Rattle.bolt_core.specs.Lawful.{IsLawful, MayTell}
-use Rattle.bolt_core.specs.Machine.{AllOf, Core, Event, IsNews, IsRoot, IsSound, Job, Takes, empty_board, opening}
+use Rattle.bolt_core.specs.Machine.{AllOf, Core, Event, IsNews, IsRoot, IsSound, Job, Reached, Takes, empty_board, opening}
 use Rattle.bolt_core.specs.States.{reads}
 
 -- each event keeps it
@@ -69,6 +73,17 @@ JobsStaySound =
     (gs : List Graph) (roots : ℕ) (old new : Core Seen) (e : Told) (j : Job Seen) →
     IsLawful (reads gs) → Keeps (reads gs) roots old → Event (reads gs) old e new →
     IsSound (reads gs) old.history old.nodes j → IsSound (reads gs) new.history new.nodes j
+
+-- A job of a board stays sound behind any further events, and what a call asks of it is kept.
+abbrev pub MovesStay : Type 0
+MovesStay =
+    (old new : Shown) (es : List Told) (j : Given) → IsBoard old → new.graphs ≡ old.graphs →
+    Reached (reads old.graphs) old.core es new.core →
+    (IsSoundFor old j → IsSoundFor new j)
+    × ((r : Rest) → MayBeParked old j r → MayBeParked new j r)
+    × ((child : Seen) (q : Query) → MayAsk old j child q → MayAsk new j child q)
+    × ((number : ℕ) → MayFeed old j number → MayFeed new j number)
+    × ((c : Closing) → MayBeClosed old j c → MayBeClosed new j c)
 
 -- It may be told as what its children closed.
 abbrev pub JobsMayBeTold : Type 0

@@ -1,7 +1,7 @@
 //! What events keep. The functions do nothing: their contracts are the laws.
 
 ghost use Rattle.bolt_core.specs.KeptBoards.{BoardsAreKept, BoardsKeep, BoardsOpen, JobsMayBeTold, JobsStaySound};
-ghost use Rattle.bolt_core.specs.KeptBoards.{OpeningGrants, ReserveSuffices, TableHasRoom, TableIsWithin, TakenJobsAreSound};
+ghost use Rattle.bolt_core.specs.KeptBoards.{MovesStay, OpeningGrants, ReserveSuffices, TableHasRoom, TableIsWithin, TakenJobsAreSound};
 ghost use Rattle.bolt_core.specs.LawfulStates.{StatesAreLawful};
 
 /// Each event keeps what is true of a board.
@@ -22,6 +22,11 @@ pub fn boards_are_kept()
 /// A sound job stays sound, whatever event comes.
 pub fn jobs_stay_sound()
     ensures { JobsStaySound }
+{}
+
+/// What a call asks of a job is kept behind any further events.
+pub fn moves_stay()
+    ensures { MovesStay }
 {}
 
 /// A sound job may be told as what its children closed.

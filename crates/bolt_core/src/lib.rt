@@ -5,6 +5,7 @@ pub mod board;
 pub mod closing;
 pub mod event;
 pub mod giving;
+pub mod history;
 pub mod job;
 pub mod laws;
 pub mod publishing;

@@ -3,6 +3,7 @@
 #![tactic(auto)]
 
 pub mod fault;
+pub mod gate;
 pub mod memory;
 pub mod reader;
 pub mod sink;
@@ -13,6 +14,7 @@ pub mod transfer;
 pub mod writer;
 
 pub use fault::{Failed, OutOfMemory};
+pub use gate::{Gate, NoGate};
 pub use memory::{MemSink, MemSource};
 pub use reader::FromReader;
 pub use sink::Sink;
