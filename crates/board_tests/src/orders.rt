@@ -15,6 +15,8 @@ enum Call {
     /// The worker takes, and makes a slice of at most so many steps.
     Take(u32, u32),
     HandIn(u32),
+    /// The job is gone, and what it closed with is published twice.
+    Late(u32),
     Look(u32),
 }
 
@@ -23,6 +25,8 @@ enum Call {
 enum Seen {
     Took(Took),
     Back(Back),
+    /// And how many summaries there are before, between and behind.
+    Late(Back, [usize; 3]),
     /// The status of the query, and what is left of it.
     Query(Status, u32),
     NoQuery,
@@ -44,6 +48,10 @@ fn made(alloc: Global, play: &mut Play, call: Call) -> Result<Seen, Fail>
     match call {
         Call::Take(worker, at_most) => Ok(Seen::Took(play.take(alloc, worker, at_most)?)),
         Call::HandIn(worker) => Ok(Seen::Back(play.hand_in(worker))),
+        Call::Late(worker) => {
+            let (back, summaries) = play.hand_in_late(worker)?;
+            Ok(Seen::Late(back, summaries))
+        }
         Call::Look(id) => Ok(look(play, id)),
     }
 }
@@ -93,6 +101,11 @@ const TWO_WAYS: &str = "int h(int a) { return a; } int g(int a) { return h(a); }
      if (c > 0) { y = g(c); y = y + 1; y = y + 1; y = y - 2; } else { y = 3; } \
      assert(y != 3); return 0; }";
 
+/// The same through one call.
+const SHORTER: &str = "int g(int a) { return a; } int main() { int c = input(); int y = 0; \
+     if (c > 0) { y = g(c); y = y + 1; y = y + 1; y = y - 2; } else { y = 3; } \
+     assert(y != 3); return 0; }";
+
 // Jobs that come late
 
 /// The parent closes, as event 4, while its child is out, and gets what is left of it.
@@ -110,6 +123,23 @@ fn a_job_of_a_dropped_child_is_gone(rt: HostRuntime) -> Result<(), Fail> {
         (Call::Take(0, 1), OVER),
     ];
     assert_eq!(rt; other_answer(rt.alloc(), TWO_WAYS, 2000, &rows)?, None);
+    Ok(())
+}
+
+/// The dropped child had closed without a run, which is published once.
+#[test]
+fn what_a_gone_job_found_is_published_once(rt: HostRuntime) -> Result<(), Fail> {
+    let rows = [
+        (Call::Take(0, MOST), job(0, 2000, 7, How::Ask)),
+        (Call::HandIn(0), DONE),
+        (Call::Take(1, MOST), job(1, 996, 0, How::NotMay)),
+        (Call::Take(2, MOST), job(0, 997, 3, How::Must)),
+        (Call::HandIn(2), DONE),
+        (Call::Late(1), Seen::Late(Back::Gone(4), [1, 2, 2])),
+        (Call::Look(1), Seen::Query(Status::Dropped { stamp: 4 }, 0)),
+        (Call::Take(0, 1), OVER),
+    ];
+    assert_eq!(rt; other_answer(rt.alloc(), SHORTER, 2000, &rows)?, None);
     Ok(())
 }
 

@@ -1,20 +1,22 @@
 //! A board beside the jobs that are out, each of a worker, who makes the slice as soon as he takes
 //! it and gives it back when he is told.
 
-ghost use Rattle.std.specs.Prelude.{◌≡◌, IfOk, IfSome, OnOk};
-ghost use Rattle.bolt_core.specs.Boards.{Shown};
+ghost use Rattle.std.specs.Prelude.{◌≡◌, IfOk, IfSome, OnOk, Some};
+ghost use Rattle.bolt_core.specs.Boards.{HandsIn, MayBeClosed, Shown};
 ghost use Rattle.bolt_rounds.specs.Moves.{IsJustTaken, MayMove};
-ghost use Rattle.board_tests.specs.Plays.{IsPlay, MayTake};
+ghost use Rattle.board_tests.specs.Plays.{IsPlay, MaySay, MayTake};
 
 use crate::programs::board_of;
 use bolt_core::board::Board;
-use bolt_core::job::{Job, Taken};
+use bolt_core::job::{Gone, Job, Taken};
 use bolt_rounds::moves::{Move, Worked, hand_in, work_on};
 use linear_formula::error::OutOfMemory;
 use query_rules::step::Closing;
 use query_tree::Rest;
 use std::alloc::Global;
+use std::sync::Arc;
 use std::test::Fail;
+use summary_form::summary::Summary;
 use summary_table::table::Table;
 
 /// How a job is to be given back.
@@ -96,6 +98,41 @@ fn worked_of(
     }
     board.reached();
     Ok(work_on(alloc, board.graphs(), known, job, at_most)?)
+}
+
+/// The summary of a job that is closed without a path, if it holds by itself.
+fn own_summary(
+    board: &Board,
+    job: &Job,
+    how: &Closing,
+    summary: &Arc<Summary>,
+) -> Result<Option<Arc<Summary>>, OutOfMemory>
+    requires closed { MayBeClosed board.now job.now how.now }
+    requires hands { HandsIn job.now.state.query how.now (Some summary.now.value) }
+    ensures { IfOk result (λ o. IfSome o (λ s. MaySay board.now job.now.id s.value)) }
+{
+    board.reached();
+    match how {
+        Closing::Must(_) | Closing::Stuck(_) => Ok(None),
+        Closing::NotMay => match job.state.lowest() {
+            Some(_) => Ok(None),
+            None => Ok(Some(summary.clone()?)),
+        },
+    }
+}
+
+/// The same of a job whose slice was made.
+fn summary_of(board: &Board, worked: &Worked) -> Result<Option<Arc<Summary>>, OutOfMemory>
+    requires { MayMove board.now worked.now.job worked.now.next }
+    ensures { IfOk result (λ o. IfSome o (λ s. MaySay board.now worked.now.job.id s.value)) }
+{
+    match &worked.next {
+        Move::Close {
+            how,
+            summary: Some(summary),
+        } => own_summary(board, &worked.job, how, summary),
+        _ => Ok(None),
+    }
 }
 
 impl Play {
@@ -191,6 +228,49 @@ impl Play {
             Ok(()) => Back::Done,
             Err(gone) => Back::Gone(gone.event),
         }
+    }
+
+    /// Publishes what a gone job handed in. How many summaries there are then.
+    fn say(
+        &mut self,
+        worker: u32,
+        gone: &Gone,
+        summary: &Arc<Summary>,
+    ) -> Result<usize, OutOfMemory>
+        requires say { MaySay self.old.board gone.now.job.id summary.now.value }
+        requires stands { IsPlay self.old.board self.old.asserts self.old.known
+            self.old.jobs.items }
+        ensures say { OnOk result (MaySay self.new.board gone.now.job.id summary.now.value) }
+        ensures stands { OnOk result
+            (IsPlay self.new.board self.new.asserts self.new.known self.new.jobs.items) }
+    {
+        let own = summary.clone()?;
+        self.board.reached();
+        self.board.publish(worker, gone, own);
+        Ok(self.board.table().all().len())
+    }
+
+    /// The worker gives his job back, and where it is gone publishes its summary twice. How many
+    /// summaries there are before, between and behind.
+    pub fn hand_in_late(&mut self, worker: u32) -> Result<(Back, [usize; 3]), Fail>
+        requires { IsPlay self.old.board self.old.asserts self.old.known self.old.jobs.items }
+        ensures { OnOk result
+            (IsPlay self.new.board self.new.asserts self.new.known self.new.jobs.items) }
+    {
+        let Some(worked) = self.fetch(worker) else {
+            return Ok((Back::None, [0; 3]));
+        };
+        let Some(summary) = summary_of(&self.board, &worked)? else {
+            return Err(Fail::new("nothing to publish"));
+        };
+        self.board.reached();
+        let before = self.board.table().all().len();
+        let Err(gone) = hand_in(&mut self.board, worker, worked) else {
+            return Err(Fail::new("the job isn't gone"));
+        };
+        let between = self.say(worker, &gone, &summary)?;
+        let behind = self.say(worker, &gone, &summary)?;
+        Ok((Back::Gone(gone.event), [before, between, behind]))
     }
 
     pub fn stop(&mut self, worker: u32)
