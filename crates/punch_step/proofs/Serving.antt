@@ -20,7 +20,7 @@ use Rattle.summary_form.specs.declared.query.ExitKind.{ExitKind}
 use Rattle.summary_form.specs.declared.query.Query.{Query}
 use Rattle.summary_form.specs.declared.summary.Summary.{Summary}
 use Rattle.summary_form.specs.declared.summary.Summary.TheVariants.{Must}
-use Rattle.call_bridge.specs.Asked.{as_entry, asked, call_sums, caller_columns, end_of, start_of}
+use Rattle.call_bridge.specs.Asked.{as_entry, call_sums, caller_columns, end_of, start_of}
 use Rattle.call_bridge.specs.Calls.{arguments, procedure, result_slot}
 use Rattle.call_bridge.specs.Musts.{NamesNumbers, must_preimage, must_rows, symbol_columns}
 use Rattle.call_bridge.specs.declared.asking.Asking.{Asking}
