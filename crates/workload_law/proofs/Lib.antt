@@ -1,0 +1,2 @@
+pub mod WorkloadPieces
+pub mod WorkloadTest

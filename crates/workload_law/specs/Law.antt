@@ -1,0 +1,3 @@
+-- temporary
+abbrev pub WorkloadsAreAccepted : Type 0
+WorkloadsAreAccepted = Unit {0}
