@@ -1,2 +1,3 @@
 pub mod WorkloadPieces
 pub mod WorkloadTest
+pub mod WorkloadTokens

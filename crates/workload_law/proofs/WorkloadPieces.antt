@@ -103,3 +103,11 @@ pieces_have_tokens text ps e h = subst (λ t. HasTokens t ps) e of_spelled
     of_spelled =
         let r = pure_from [] first_place ps refl in
         record { tokens = tokens_from first_place ps; lexed = lexed_from first_place ps h; at = r.0; pure = r.1 }
+
+-- the tokens of pieces behind others have places of their own
+pub placed_append : (ps qs : List Piece) (at : Places) → (next : Places) × (placed at (ps ++ qs) ≡ placed at ps ++ placed next qs)
+placed_append [] qs at = (at, refl)
+placed_append (gap b ∷ ps) qs at = placed_append ps qs at
+placed_append (lexeme k text ∷ ps) qs at =
+    let r = placed_append ps qs (λ i. at (suc i)) in
+    (r.0, ap (λ ts. record { kind = k; at = at 0; text = text } ∷ ts) r.1)
