@@ -45,14 +45,18 @@ abbrev pub condition_pieces : Bool → ℕ → List Piece
 condition_pieces true i = mark Unequal ∷ space ∷ mark Minus ∷ number i (decimal i) ∷ []
 condition_pieces false i = mark LessEqual ∷ space ∷ number 0 (codes "0") ∷ []
 
+-- a procedure returns 1 where its argument is positive
+abbrev pub guard_pieces : List Piece
+guard_pieces =
+    word If ∷ space ∷ mark OpenParenthesis ∷ name (codes "a") ∷ space ∷ mark Greater ∷ space ∷ number 0 (codes "0") ∷ mark CloseParenthesis
+    ∷ space ∷ mark OpenBrace ∷ space ∷ word Return ∷ space ∷ number 1 (codes "1") ∷ mark Semicolon ∷ space ∷ mark CloseBrace ∷ []
+
 abbrev pub procedure_pieces : Bool → ℕ → List Piece
 procedure_pieces b i =
     word Int ∷ space ∷ name (name_of i) ∷ mark OpenParenthesis ∷ word Int ∷ space ∷ name (codes "a") ∷ mark CloseParenthesis ∷ space
-    ∷ mark OpenBrace ∷ space ∷ word If ∷ space ∷ mark OpenParenthesis ∷ name (codes "a") ∷ space ∷ mark Greater ∷ space
-    ∷ number 0 (codes "0") ∷ mark CloseParenthesis ∷ space ∷ mark OpenBrace ∷ space ∷ word Return ∷ space ∷ number 1 (codes "1")
-    ∷ mark Semicolon ∷ space ∷ mark CloseBrace ∷ space ∷ name (codes "assert") ∷ mark OpenParenthesis ∷ name (codes "a") ∷ space
+    ∷ mark OpenBrace ∷ space ∷ (guard_pieces ++ space ∷ name (codes "assert") ∷ mark OpenParenthesis ∷ name (codes "a") ∷ space
     ∷ (condition_pieces b i ++ mark CloseParenthesis ∷ mark Semicolon ∷ space ∷ word Return ∷ space ∷ number 0 (codes "0")
-    ∷ mark Semicolon ∷ space ∷ mark CloseBrace ∷ gap 10 ∷ [])
+    ∷ mark Semicolon ∷ space ∷ mark CloseBrace ∷ gap 10 ∷ []))
 
 abbrev pub line_pieces : ℕ → List Piece
 line_pieces i = procedure_pieces (i % 3 == 0) i
