@@ -4,3 +4,4 @@ pub mod WorkloadTokens
 pub mod WorkloadTree
 pub mod WorkloadFile
 pub mod WorkloadProgram
+pub mod WorkloadAccepted

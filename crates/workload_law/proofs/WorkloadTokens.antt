@@ -15,7 +15,7 @@ use Rattle.c_lexer.specs.Lexing.{keyword_text, mark_text, IsTokens}
 use Rattle.c_lexer.specs.declared.token.Token.{Token}
 use Rattle.c_lexer.specs.Pure.{PureToken, pure_tokens}
 use Rattle.c_lexer.proofs.Lists.{both}
-use Rattle.workload_law.specs.Workload.{numbers, safe_line, failing_line, procedure_line, call_of, main_line, workload_lines, ended, text_of}
+use Rattle.workload_gen.specs.Workload.{numbers, safe_line, failing_line, procedure_line, call_of, main_line, workload_lines, ended, text_of}
 use Rattle.workload_law.proofs.WorkloadPieces.{Piece, gap, lexeme, spelled, AllStand, Places, placed, HasTokens, pieces_have_tokens, placed_append}
 use Rattle.workload_law.proofs.WorkloadTest.{fits, spelled-append, fits_stand}
 

@@ -1,2 +1,2 @@
+pub mod Source
 pub mod Law
-pub mod Workload
