@@ -8,7 +8,9 @@ use Rattle.c_lexer.specs.declared.token.Token.{Token}
 use Rattle.c_lexer.specs.declared.token.Place.{Place}
 use Rattle.c_lexer.specs.Lexing.{after_byte, after, first_place, is_blank, IsLongest, IsToken, Parts, token_at, IsLexed, end, blank, token, IsTokens}
 use Rattle.c_lexer.specs.Pure.{PureToken, pure_token, pure_tokens}
+use Rattle.c_lexer.proofs.Loop.{after-offset}
 
+-- a blank, or a lexeme of a kind
 pub data Piece : Type 0 where
   gap : ℕ → Piece
   lexeme : TokenKind → List ℕ → Piece
@@ -46,23 +48,12 @@ placed at [] = []
 placed at (gap b ∷ ps) = placed at ps
 placed at (lexeme k text ∷ ps) = record { kind = k; at = at 0; text = text } ∷ placed (λ i. at (suc i)) ps
 
-abbrev beginning : Pos → Places → Places
-beginning p at zero = p
-beginning p at (suc i) = at i
+-- one more lexeme before others
+abbrev with_first : Pos → Places → Places
+with_first p at zero = p
+with_first p at (suc i) = at i
 
--- both have the offset, so one of them has it
-if_offset : (c : Bool) (p q : Place) (n : ℕ) → p.offset ≡ n → q.offset ≡ n → (if c then p else q).offset ≡ n
-if_offset true p q n h k = h
-if_offset false p q n h k = k
-
-offset_byte : (p : Place) (b : ℕ) → (after_byte p b).offset ≡ p.offset + 1
-offset_byte p b = if_offset (b == 10) _ _ (p.offset + 1) refl refl
-
-offset_after : (p : Place) (bs : List ℕ) → (after p bs).offset ≡ p.offset + length bs
-offset_after p [] = omega arith
-offset_after p (b ∷ bs) = omega (arith, offset_byte p b, offset_after (after_byte p b) bs)
-
--- a text is found again behind the bytes before it
+-- a text stands behind the bytes before it
 slice_there : (before text rest : List ℕ) (from to : ℕ) → from ≡ length before → to ≡ from + length text →
     slice_range (before ++ (text ++ rest)) from to ≡ text
 slice_there before text rest from to e h =
@@ -70,26 +61,27 @@ slice_there before text rest from to e h =
     ap (λ m. take m (drop from (before ++ (text ++ rest)))) n ∙ ap (λ m. take (length text) (drop m (before ++ (text ++ rest)))) e
     ∙ ap (take (length text)) (drop-append_seam before (text ++ rest)) ∙ take-append_seam text rest
 
--- the tokens are those of the pieces
+-- with their texts the tokens are those of the pieces, at some places
 pure_from : (before : List ℕ) (p : Place) (ps : List Piece) → p.offset ≡ length before →
     (at : Places) × (map (pure_token (before ++ spelled ps)) (tokens_from p ps) ≡ placed at ps)
 pure_from before p [] h = (λ i. p.at, refl)
 pure_from before p (gap b ∷ ps) h =
-    let n : (after_byte p b).offset ≡ length (before ++ b ∷ []) = omega (arith, offset_byte p b, length-append before (b ∷ []), h) in
+    let n : (after_byte p b).offset ≡ length (before ++ b ∷ []) = omega (arith, after-offset p (b ∷ []), length-append before (b ∷ []), h) in
     let r = pure_from (before ++ b ∷ []) (after_byte p b) ps n in
     (r.0, ap (λ t. map (pure_token t) (tokens_from (after_byte p b) ps)) (sym (append_assoc before (b ∷ []) (spelled ps))) ∙ r.1)
 pure_from before p (lexeme k text ∷ ps) h =
-    let n : (after p text).offset ≡ length (before ++ text) = omega (arith, offset_after p text, length-append before text, h) in
+    let n : (after p text).offset ≡ length (before ++ text) = omega (arith, after-offset p text, length-append before text, h) in
     let r = pure_from (before ++ text) (after p text) ps n in
     let rest = map (pure_token (before ++ (text ++ spelled ps))) (tokens_from (after p text) ps) in
     (
-      beginning p.at r.0,
-      ap (λ t. record { kind = k; at = p.at; text = t } ∷ rest) (slice_there before text (spelled ps) p.offset (p.offset + length text) h refl)
+      with_first p.at r.0,
+      ap (λ t. record { kind = k; at = p.at; text = t } ∷ rest)
+      (slice_there before text (spelled ps) p.offset (p.offset + length text) h refl)
       ∙ ap (λ ts. record { kind = k; at = p.at; text = text } ∷ ts)
       (ap (λ t. map (pure_token t) (tokens_from (after p text) ps)) (sym (append_assoc before text (spelled ps))) ∙ r.1),
     )
 
--- the tokens of a text
+-- the text has tokens, which are those of the pieces, at some places
 pub record HasTokens (text : List ℕ) (ps : List Piece) : Type 0 where
   pub tokens : List Token
   pub lexed : IsTokens text tokens

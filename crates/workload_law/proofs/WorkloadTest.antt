@@ -1,7 +1,7 @@
 -- A test of pieces, and that those that pass it stand in every text behind which a given byte follows.
 use Rattle.std.specs.Prelude.{◌≡◌, ℕ, ◌+◌, ◌^◌, ◌<◌, List, [], ◌∷◌, ◌++◌, Bool, true, false, not, ◌==◌, ◌&&◌, ◌||◌, nat_le, nat_lt, refl, pos, negsuc, codes, bytes_eq}
 use Rattle.std.specs.List.{list_any, list_all}
-use Rattle.std.proofs.Common.{sym, ◌∙◌, ap, subst, arith, append-nil, append_assoc, inl, inr, ◌⊎◌}
+use Rattle.std.proofs.Common.{drop, sym, ◌∙◌, ap, subst, arith, append-nil, append_assoc, inl, inr, ◌⊎◌}
 use Rattle.std.proofs.lemmas.Bool.Decides.{nat_tests}
 use Rattle.std.proofs.lemmas.Slice.Eq.{bytes_eq-Decides}
 use Rattle.c_lexer.specs.declared.token.Keyword.{Keyword}
@@ -67,9 +67,6 @@ fits b (lexeme k text ∷ ps) = is_token k text && (is_apart k (first_or b (spel
 
 -- What the test means
 
-same_bytes : (xs ys : List ℕ) → bytes_eq xs ys ≡ true → xs ≡ ys
-same_bytes xs ys h = (bytes_eq-Decides xs ys).0 h
-
 is_not : (b : Bool) → not b ≡ true → b ≡ false
 is_not true h = cc
 is_not false h = refl
@@ -102,7 +99,7 @@ literal_of text n h = elim (one_of (bytes_eq text (codes "0") && (n == 0)) (is_n
         front = codes "0";
         digits = [];
         suffix = [];
-        whole = same_bytes text (codes "0") q.0;
+        whole = (bytes_eq-Decides text (codes "0")).0 q.0;
         numeral = (refl, tt);
         ends = refl;
         value = eq_of n 0 q.1;
@@ -138,8 +135,8 @@ token_of (Literal (pos n)) text h =
     let k = both (is_literal text n) (nat_lt n (2 ^ 63)) h in
     (n, literal_of text n k.0, refl, below_of n (2 ^ 63) k.1)
 token_of (Literal (negsuc n)) text h = absurd cc
-token_of (Word w) text h = same_bytes text (keyword_text w) h
-token_of (Mark m) text h = same_bytes text (mark_text m) h
+token_of (Word w) text h = (bytes_eq-Decides text (keyword_text w)).0 h
+token_of (Mark m) text h = (bytes_eq-Decides text (mark_text m)).0 h
 
 -- Where tokens end
 
@@ -177,7 +174,7 @@ one_in_name [] text h k = absurd cc
 one_in_name (w ∷ ws) text h k =
     let q = both (list_all is_name_byte w) (list_all (λ v. list_all is_name_byte v) ws) h in
     elim (one_of (bytes_eq w text) (list_any (λ v. bytes_eq v text) ws) k) [
-      | inl e ↦ subst (λ t. list_all is_name_byte t ≡ true) (same_bytes w text e) q.0
+      | inl e ↦ subst (λ t. list_all is_name_byte t ≡ true) ((bytes_eq-Decides w text).0 e) q.0
       | inr e ↦ one_in_name ws text q.1 e
     ]
 
@@ -192,12 +189,7 @@ literal_in_name text n l =
     (each_join is_name_byte l.front (l.digits ++ l.suffix) (front_in_name l.base l.front l.digits l.numeral)
     (each_join is_name_byte l.digits l.suffix digits (suffix_in_name l.suffix l.ends)))
 
--- each byte of a mark but the first is one of the second bytes
-abbrev rest_of : List ℕ → List ℕ
-rest_of [] = []
-rest_of (b ∷ bs) = bs
-
-seconds : (m : Punct) → list_all is_second (rest_of (mark_text m)) ≡ true
+seconds : (m : Punct) → list_all is_second (drop 1 (mark_text m)) ≡ true
 seconds OpenParenthesis = refl
 seconds _ = refl
 
@@ -227,7 +219,7 @@ module _ (c : ℕ) (rest : List ℕ) where
       none [] others o q s = refl
       none (x ∷ extra) others o q s =
           let same : c ≡ x = cc in
-          let all : list_all is_second (bs ++ x ∷ extra) ≡ true = ap (λ t. list_all is_second (rest_of t)) s ∙ seconds o in
+          let all : list_all is_second (bs ++ x ∷ extra) ≡ true = ap (λ t. list_all is_second (drop 1 t)) s ∙ seconds o in
           let here : is_second x ≡ true = each_behind_first is_second bs x extra (each_of is_second (bs ++ x ∷ extra) all) in
           let f : false ≡ true = sym h ∙ ap is_second same ∙ here in
           cc

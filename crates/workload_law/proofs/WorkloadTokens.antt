@@ -2,7 +2,7 @@
 use Rattle.std.specs.Prelude.{◌≡◌, ℕ, suc, zero, ◌+◌, ◌%◌, ◌<◌, ◌≤◌, List, [], ◌∷◌, ◌++◌, length, Bool, true, false, ◌==◌, if◌then◌else◌, refl, codes, pos, map}
 use Rattle.std.specs.List.{flat_map, range_with_len, list_all}
 use Rattle.std.specs.Fmt.{decimal, digits}
-use Rattle.std.proofs.Common.{sym, ◌∙◌, ap, subst, arith, append_assoc, append-nil, inl, inr}
+use Rattle.std.proofs.Common.{drop, sym, ◌∙◌, ap, subst, arith, append_assoc, append-nil, inl, inr}
 use Rattle.std.proofs.lemmas.Bool.{cases_lt}
 use Rattle.std.proofs.lemmas.Grind.{flat_map-append}
 use Rattle.std.proofs.lemmas.List.Folds.{flat_map-map}
@@ -122,10 +122,12 @@ spelled_whole n =
 -- They stand: each of at most 60 lines and calls passes the test.
 
 abbrev Begins : ℕ → List Piece → Type 0
-Begins b ps = (rest : List ℕ) × (spelled ps ≡ b ∷ rest)
+Begins b ps = spelled ps ≡ b ∷ drop 1 (spelled ps)
 
 begins_still : (b : ℕ) (ps qs : List Piece) → Begins b ps → Begins b (ps ++ qs)
-begins_still b ps qs h = (h.0 ++ spelled qs, spelled-append ps qs ∙ ap (λ t. t ++ spelled qs) h.1)
+begins_still b ps qs h =
+    let e : spelled (ps ++ qs) ≡ b ∷ (drop 1 (spelled ps) ++ spelled qs) = spelled-append ps qs ∙ ap (λ t. t ++ spelled qs) h in
+    e ∙ sym (ap (λ t. b ∷ drop 1 t) e)
 
 passes_within : (test : ℕ → Bool) (n a i : ℕ) → list_all test (range_with_len a n) ≡ true → a ≤ i → i < a + n → test i ≡ true
 passes_within test zero a i h le lt = absurd (omega arith)
@@ -147,7 +149,7 @@ module _ (f : ℕ → List Piece) (b : ℕ) (each : (i : ℕ) → 1 ≤ i → i 
       let e = sym (append_assoc (f a) more qs) in
       (
         subst (Begins b) e (begins_still b (f a) (more ++ qs) (begins a)),
-        subst AllStand e (fits_stand b (more ++ qs) rest.0.0 rest.0.1 rest.1 (f a) (each a some (omega arith))),
+        subst AllStand e (fits_stand b (more ++ qs) (drop 1 (spelled (more ++ qs))) rest.0 rest.1 (f a) (each a some (omega arith))),
       )
 
 lines_fit : list_all (λ i. fits 105 (line_pieces i)) (range_with_len 1 60) ≡ true
@@ -162,17 +164,18 @@ line_begins : (i : ℕ) → Begins 105 (line_pieces i)
 line_begins i = by_choice (i % 3 == 0)
   where
     by_choice : (b : Bool) → Begins 105 (procedure_pieces b i)
-    by_choice true = (_, refl)
-    by_choice false = (_, refl)
+    by_choice true = refl
+    by_choice false = refl
 
 whole_stands : (n : ℕ) → n ≤ 60 → AllStand (workload_pieces n)
 whole_stands n few =
     let tail = fits_stand 10 (gap 10 ∷ []) [] refl (refl, tt) last_pieces refl in
     let calls = all_stand call_pieces 32 (λ i le lt. passes_within (λ j. fits 32 (call_pieces j)) 60 1 i calls_fit le (omega arith))
-    (λ i. (_, refl)) tail_pieces (_, refl) tail n 1 (omega arith) (omega arith) in
-    let main = fits_stand 32 (flat_map call_pieces (numbers n) ++ tail_pieces) calls.0.0 calls.0.1 calls.1 head_pieces refl in
+    (λ i. refl) tail_pieces refl tail n 1 (omega arith) (omega arith) in
+    let behind_head = flat_map call_pieces (numbers n) ++ tail_pieces in
+    let main = fits_stand 32 behind_head (drop 1 (spelled behind_head)) calls.0 calls.1 head_pieces refl in
     (all_stand line_pieces 105 (λ i le lt. passes_within (λ j. fits 105 (line_pieces j)) 60 1 i lines_fit le (omega arith)) line_begins
-    (head_pieces ++ (flat_map call_pieces (numbers n) ++ tail_pieces)) (_, refl) main n 1 (omega arith) (omega arith)).1
+    (head_pieces ++ behind_head) refl main n 1 (omega arith) (omega arith)).1
 
 -- The tokens, line by line and call by call
 
