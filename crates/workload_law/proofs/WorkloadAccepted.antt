@@ -16,8 +16,7 @@ pub workload_accepted : (n : ℕ) → 1 ≤ n → n ≤ 60 → (P : PureProgram)
 workload_accepted n some few =
     let t = workload_has_tokens n few in
     let items = workload_items t.spots in
-    let p = workload_program n few t.spots t.lines t.calls in
-    (
+    let p = workload_program n few t.spots t.lines t.calls in (
       lowered_file items,
       record {
         tokens = t.tokens;

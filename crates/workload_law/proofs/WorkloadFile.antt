@@ -1,5 +1,5 @@
 -- The tokens of the workload program are those of its trees, and none is too deep.
-use Rattle.std.specs.Prelude.{◌≡◌, ℕ, ◌+◌, ◌*◌, ◌%◌, ◌≤◌, ◌==◌, List, [], ◌∷◌, ◌++◌, length, map, Bool, true, false, Option, Some, None, option_map, refl, codes, pos}
+use Rattle.std.specs.Prelude.{◌≡◌, ℕ, ◌+◌, ◌*◌, ◌%◌, ◌≤◌, ◌==◌, List, [], ◌∷◌, ◌++◌, length, map, Bool, true, false, None, option_map, refl, codes, pos}
 use Rattle.std.specs.Fmt.{decimal}
 use Rattle.std.proofs.Common.{sym, ◌∙◌, ap, subst, arith, lit≤, append_assoc, append-nil, length-append}
 use Rattle.std.proofs.lemmas.Option.{slice_get_past}
@@ -12,14 +12,14 @@ use Rattle.c_lexer.specs.declared.token.Punct.{Punct}
 use Rattle.c_lexer.specs.declared.token.Punct.TheVariants as punct
 use Rattle.c_lexer.specs.Lexing.{keyword_text, mark_text}
 use Rattle.c_lexer.specs.Pure.{PureToken}
-use Rattle.c_parser.specs.Grammar.{a_name, a_literal, a_word, a_mark, counted, is_nested, nesting_in, level, mark_of, IsExpression, IsCall, IsDeclaration, IsTest, IsStatement, IsItems, IsResultType, IsParameterList, past_place, procedure_text, all_shallow, IsItem, IsFile}
+use Rattle.c_parser.specs.Grammar.{a_name, a_literal, a_word, a_mark, counted, is_nested, nesting_in, level, mark_of, IsExpression, IsStatement, IsItems, IsParameterList, past_place, procedure_text, all_shallow, IsItem}
 use Rattle.c_parser.specs.Grammar as grammar
 use Rattle.c_parser.specs.Answer.{AllShallow, IsShallowFile}
 use Rattle.c_tree.specs.SourceTree as tree
-use Rattle.c_tree.specs.SourceTree.{Identifier, ExpressionTree, no_arguments, argument, Declarator, StatementTree, StatementTrees, no_statements, statement, ProcedureTree, FileItem}
+use Rattle.c_tree.specs.SourceTree.{Identifier, ExpressionTree, no_arguments, argument, StatementTree, StatementTrees, no_statements, statement, ProcedureTree, FileItem}
 use Rattle.workload_law.proofs.WorkloadPieces.{Places, placed}
 use Rattle.workload_law.proofs.WorkloadTokens.{name_of, guard_pieces, procedure_pieces, line_pieces, call_pieces, head_pieces, tail_pieces, placed_all, Spots, main_tokens, workload_tokens}
-use Rattle.workload_law.proofs.WorkloadTree.{named, asserted, behind, returning, guard_tree, body_tree, tree_with, line_tree, line_trees, call_tree, call_trees, reading_tree, calls_body, main_body, main_tree, workload_trees, workload_items}
+use Rattle.workload_law.proofs.WorkloadTree.{named, returning, guard_tree, line_tree, line_trees, call_tree, call_trees, reading_tree, main_tree, workload_items}
 
 -- Tokens
 
@@ -62,7 +62,8 @@ record ReadsItems (n : ℕ) (ts : List PureToken) (ss : StatementTrees) : Type 0
 no_items : (n : ℕ) → ReadsItems n [] no_statements
 no_items n = record { deep = []; is = grammar.none; shallow = tt }
 
-more_items : (n : ℕ) {ts us : List PureToken} {s : StatementTree} {ss : StatementTrees} → ReadsStatement (nesting_in n s) ts s → ReadsItems n us ss →
+more_items : (n : ℕ) {ts us : List PureToken} {s : StatementTree} {ss : StatementTrees} → ReadsStatement (nesting_in n s) ts s →
+    ReadsItems n us ss →
     ReadsItems n (ts ++ us) (statement s ss)
 more_items n h k = record {
   deep = h.deep ++ k.deep;
@@ -70,7 +71,7 @@ more_items n h k = record {
   shallow = shallow-append h.deep k.deep h.shallow k.shallow;
 }
 
--- Each statement of the program, by its parts. Its nesting is one that isn't too deep.
+-- each statement of the program by its parts, at a nesting that isn't too deep
 module _ (n : ℕ) (level_is : is_nested n ≡ false) where
   braced : (p q : Pos) {ts : List PureToken} {ss : StatementTrees} → ReadsItems n ts ss →
       ReadsStatement n (mark_at punct.OpenBrace p ∷ (ts ++ mark_at punct.CloseBrace q ∷ [])) (tree.block ss)
@@ -87,9 +88,14 @@ module _ (n : ℕ) (level_is : is_nested n ≡ false) where
   tested p q r {ts} e shallow h = record {
     deep = is_nested n ∷ ((false ∷ (counted 0 ts ++ false ∷ [])) ++ h.deep);
     is = grammar.if_then refl (grammar.test refl (e, refl) (mark_at punct.CloseParenthesis r) refl) h.is;
-    shallow =
-        (level_is, (refl, shallow-append (counted 0 ts ++ false ∷ []) h.deep (shallow-append (counted 0 ts) (false ∷ []) shallow (refl, tt))
-        h.shallow));
+    shallow = (
+      level_is,
+      (
+        refl,
+        shallow-append (counted 0 ts ++ false ∷ []) h.deep (shallow-append (counted 0 ts) (false ∷ []) shallow (refl, tt))
+            h.shallow,
+      ),
+    );
   }
 
   returned : (p q r : Pos) (k : ℕ) (text : List ℕ) →
@@ -123,7 +129,8 @@ module _ (n : ℕ) (level_is : is_nested n ≡ false) where
   reads : (x : List ℕ) (at : Places) {us : List PureToken} {ss : StatementTrees} → ReadsItems n us ss →
       ReadsItems n (reading_tokens x at ++ us) (statement (reading_tree x (at 1) (at 3)) ss)
   reads x at h =
-      let value = a_name (named (codes "input") (at 3)) ∷ mark_at punct.OpenParenthesis (at 4) ∷ mark_at punct.CloseParenthesis (at 5) ∷ [] in
+      let value = a_name (named (codes "input") (at 3)) ∷ mark_at punct.OpenParenthesis (at 4) ∷ mark_at punct.CloseParenthesis (at 5) ∷ []
+      in
       record {
         deep = false ∷ false ∷ false ∷ false ∷ false ∷ false ∷ false ∷ h.deep;
         is = grammar.declaration {ts = reading_tokens x at} {deep = false ∷ false ∷ false ∷ false ∷ false ∷ false ∷ false ∷ []}
@@ -148,19 +155,24 @@ all-shallow (t ∷ ts) = (refl, all-shallow ts)
 -- a procedure that gives a value, of at most 4,000 tokens
 short_procedure : (r : Pos) (x : Identifier) (p q : Pos) {ts body : List PureToken} {ns : List Identifier} {ss : StatementTrees} →
     IsParameterList ts ns → ReadsStatement 1 body (tree.block ss) →
-    past_place (procedure_text (word_at keyword.Int r ∷ []) x (mark_at punct.OpenParenthesis p) ts (mark_at punct.CloseParenthesis q) body) ≡ None →
+    past_place (procedure_text (word_at keyword.Int r ∷ []) x (mark_at punct.OpenParenthesis p) ts (mark_at punct.CloseParenthesis q) body)
+    ≡ None →
     ReadsItem (procedure_text (word_at keyword.Int r ∷ []) x (mark_at punct.OpenParenthesis p) ts (mark_at punct.CloseParenthesis q) body)
     (tree.procedure (record { void = false; named = x; params = ns; body = ss; past = None }))
 short_procedure r x p q {ts} {body} {ns} {ss} params h short =
     let text = procedure_text (word_at keyword.Int r ∷ []) x (mark_at punct.OpenParenthesis p) ts (mark_at punct.CloseParenthesis q) body in
-    let front = all_shallow (word_at keyword.Int r ∷ a_name x ∷ mark_at punct.OpenParenthesis p ∷ (ts ++ mark_at punct.CloseParenthesis q ∷ [])) in
+    let front = all_shallow (word_at keyword.Int r ∷ a_name x ∷ mark_at punct.OpenParenthesis p
+    ∷ (ts ++ mark_at punct.CloseParenthesis q ∷ []))
+    in
     record {
       deep = front ++ h.deep;
-      is = subst (λ o. IsItem text (front ++ h.deep) (tree.procedure (record { void = false; named = x; params = ns; body = ss; past = o })))
+      is = subst (λ o. IsItem text (front ++ h.deep)
+          (tree.procedure (record { void = false; named = x; params = ns; body = ss; past = o })))
           short (grammar.procedure (grammar.typed (grammar.int refl)) x (mark_at punct.OpenParenthesis p) refl params
           (mark_at punct.CloseParenthesis q) refl h.is);
       shallow = shallow-append front h.deep
-          (all-shallow (word_at keyword.Int r ∷ a_name x ∷ mark_at punct.OpenParenthesis p ∷ (ts ++ mark_at punct.CloseParenthesis q ∷ []))) h.shallow;
+          (all-shallow (word_at keyword.Int r ∷ a_name x ∷ mark_at punct.OpenParenthesis p ∷ (ts ++ mark_at punct.CloseParenthesis q ∷ [])))
+          h.shallow;
     }
 
 -- The line of a procedure
@@ -224,7 +236,8 @@ main_reads head calls tail few =
     let all = placed_all call_pieces 1 calls in
     let e = append_assoc all ending (mark_at punct.CloseBrace (tail 3) ∷ []) in
     let whole = ap (λ ts. placed head head_pieces ++ ts) e in
-    let size : length (main_tokens head calls tail) ≤ 4000 = omega (arith, length-append all (placed tail tail_pieces), calls_size 1 calls) in
+    let size : length (main_tokens head calls tail) ≤ 4000 = omega (arith, length-append all (placed tail tail_pieces), calls_size 1 calls)
+    in
     subst (λ ts. ReadsItem ts (tree.procedure (main_tree head calls tail))) whole
     (short_procedure (head 0) (named (codes "main") (head 1)) (head 2) (head 3) grammar.nothing
     (braced 1 refl (head 4) (tail 3) (reads 1 refl (codes "k") (λ i. head (5 + i)) (reads 1 refl (codes "v") (λ i. head (12 + i))
@@ -233,7 +246,8 @@ main_reads head calls tail few =
 
 -- The file
 
-one_more : {ts us : List PureToken} {i : FileItem} {is : List FileItem} → ReadsItem ts i → IsShallowFile us is → IsShallowFile (ts ++ us) (i ∷ is)
+one_more : {ts us : List PureToken} {i : FileItem} {is : List FileItem} → ReadsItem ts i → IsShallowFile us is →
+    IsShallowFile (ts ++ us) (i ∷ is)
 one_more h k = record {
   deep = h.deep ++ k.deep;
   file = grammar.item h.is k.file;

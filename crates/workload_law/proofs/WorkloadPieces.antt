@@ -1,5 +1,5 @@
 -- Texts made of blanks and lexemes: their tokens, and where these stand.
-use Rattle.std.specs.Prelude.{◌≡◌, ℕ, suc, zero, ◌+◌, ◌-◌, List, [], ◌∷◌, ◌++◌, length, map, Ok, Bool, true, false, ◌==◌, if◌then◌else◌, refl, slice_range}
+use Rattle.std.specs.Prelude.{◌≡◌, ℕ, suc, zero, ◌+◌, ◌-◌, List, [], ◌∷◌, ◌++◌, length, map, Ok, true, refl, slice_range}
 use Rattle.std.proofs.Common.{sym, ◌∙◌, ap, subst, arith, append_assoc, length-append, drop, take}
 use Rattle.std.proofs.Math.Seq.{take-append_seam, drop-append_seam}
 use Rattle.c_tree.specs.declared.tree.Pos.{Pos}
@@ -66,19 +66,19 @@ pure_from : (before : List ℕ) (p : Place) (ps : List Piece) → p.offset ≡ l
     (at : Places) × (map (pure_token (before ++ spelled ps)) (tokens_from p ps) ≡ placed at ps)
 pure_from before p [] h = (λ i. p.at, refl)
 pure_from before p (gap b ∷ ps) h =
-    let n : (after_byte p b).offset ≡ length (before ++ b ∷ []) = omega (arith, after-offset p (b ∷ []), length-append before (b ∷ []), h) in
+    let n : (after_byte p b).offset ≡ length (before ++ b ∷ []) = omega (arith, after-offset p (b ∷ []), length-append before (b ∷ []), h)
+    in
     let r = pure_from (before ++ b ∷ []) (after_byte p b) ps n in
     (r.0, ap (λ t. map (pure_token t) (tokens_from (after_byte p b) ps)) (sym (append_assoc before (b ∷ []) (spelled ps))) ∙ r.1)
 pure_from before p (lexeme k text ∷ ps) h =
     let n : (after p text).offset ≡ length (before ++ text) = omega (arith, after-offset p text, length-append before text, h) in
     let r = pure_from (before ++ text) (after p text) ps n in
-    let rest = map (pure_token (before ++ (text ++ spelled ps))) (tokens_from (after p text) ps) in
-    (
+    let rest = map (pure_token (before ++ (text ++ spelled ps))) (tokens_from (after p text) ps) in (
       with_first p.at r.0,
       ap (λ t. record { kind = k; at = p.at; text = t } ∷ rest)
-      (slice_there before text (spelled ps) p.offset (p.offset + length text) h refl)
-      ∙ ap (λ ts. record { kind = k; at = p.at; text = text } ∷ ts)
-      (ap (λ t. map (pure_token t) (tokens_from (after p text) ps)) (sym (append_assoc before text (spelled ps))) ∙ r.1),
+          (slice_there before text (spelled ps) p.offset (p.offset + length text) h refl)
+          ∙ ap (λ ts. record { kind = k; at = p.at; text = text } ∷ ts)
+          (ap (λ t. map (pure_token t) (tokens_from (after p text) ps)) (sym (append_assoc before text (spelled ps))) ∙ r.1),
     )
 
 -- the text has tokens, which are those of the pieces, at some places

@@ -1,28 +1,26 @@
 -- The trees of the workload program have no fault, and become a program.
-use Rattle.std.specs.Prelude.{◌≡◌, ℕ, zero, suc, ◌+◌, ◌^◌, ◌%◌, ◌<◌, ◌≤◌, ◌==◌, List, [], ◌∷◌, ◌++◌, length, map, Bool, true, false, Option, Some, None, IsSome, is_some, refl, codes, pos, bytes_eq, slice_get, if◌then◌else◌}
+use Rattle.std.specs.Prelude.{◌≡◌, ℕ, suc, ◌+◌, ◌^◌, ◌%◌, ◌<◌, ◌≤◌, ◌==◌, List, [], ◌∷◌, ◌++◌, length, map, Bool, true, false, Some, None, is_some, refl, codes, bytes_eq, slice_get, if◌then◌else◌}
 use Rattle.std.specs.Fmt.{decimal}
-use Rattle.std.proofs.Common.{sym, ◌∙◌, ap, subst, arith, append_assoc, append-nil, length-append, inl, inr}
+use Rattle.std.proofs.Common.{sym, ◌∙◌, ap, arith, length-append, inl, inr}
 use Rattle.std.proofs.lemmas.Bool.{cases_lt, false≢true}
 use Rattle.std.proofs.lemmas.Option.{slice_get_past}
 use Rattle.std.proofs.lemmas.Slice.Eq.{bytes_eq-Decides}
 use Rattle.std.proofs.lemmas.Fmt.{decimal_injective}
-use Rattle.c_tree.specs.declared.tree.Pos.{Pos}
-use Rattle.c_tree.specs.SourceTree.{Identifier, StatementTree, StatementTrees, no_statements, statement, ProcedureTree, FileItem, procedure}
-use Rattle.c_typing.specs.declared.fault.Which.{Which}
+use Rattle.c_tree.specs.SourceTree.{StatementTrees, no_statements, statement, ProcedureTree, procedure}
 use Rattle.c_typing.specs.declared.fault.Which.TheVariants.{Variables, Procedures, Assertions}
 use Rattle.c_typing.specs.declared.fault.TypeFault.TheVariants.{Duplicate}
 use Rattle.c_typing.proofs.Formed.{length-lowered, length-places}
-use Rattle.c_typing.specs.Scope.{declared_in, procedures_of, number_from, number_of, Callee, defined, defined_from, callee_of, Scope, variables_of, asserts_in, asserts_in_file}
+use Rattle.c_typing.specs.Scope.{declared_in, procedures_of, number_from, number_of, defined, defined_from, callee_of, Scope, variables_of, asserts_in, asserts_in_file}
 use Rattle.c_typing.specs.Faults.{Fault, fault_if, callee_faults, statement_faults, place_of, statements_faults, limit_fault, heading_faults, procedure_faults, procedures_faults, prototypes_faults, all_faults, procedure_place}
 use Rattle.c_typing.specs.Lowering.{lowered_file, lowered_procedures, assert_places}
-use Rattle.c_typing.specs.Answer.{DefinesMain, IsProgram}
+use Rattle.c_typing.specs.Answer.{IsProgram}
 use Rattle.workload_law.proofs.WorkloadPieces.{Places}
 use Rattle.workload_law.proofs.WorkloadTokens.{name_of, Spots}
-use Rattle.workload_law.proofs.WorkloadTree.{named, returning, line_tree, line_trees, call_tree, call_trees, calls_body, main_body, main_tree, workload_trees, workload_items}
+use Rattle.workload_law.proofs.WorkloadTree.{named, returning, line_tree, line_trees, call_tree, call_trees, main_tree, workload_trees, workload_items}
 
 -- Names
 
--- numbers that are written apart
+-- different numbers, different names
 other_name : (i j : ℕ) → i < j → j < 2 ^ 64 → bytes_eq (name_of i) (name_of j) ≡ false
 other_name i j less fits = by_test (bytes_eq (name_of i) (name_of j)) refl
   where
@@ -85,7 +83,7 @@ module _ (all : List ProcedureTree) where
   calls_declare a [] rest = refl
   calls_declare a (at ∷ ats) rest = calls_declare (a + 1) ats rest
 
-  -- `main` has no fault but in its heading.
+  -- `main` has no fault, if none has its name before
   main_faults : (earlier : List ProcedureTree) (head : Places) (calls : List Places) (tail : Places) →
       is_some (number_of earlier (codes "main")) ≡ false → ((i : ℕ) → 1 ≤ i → i < 1 + length calls → IsKnown all i) →
       procedure_faults all earlier (main_tree head calls tail) ≡ []
@@ -98,8 +96,9 @@ module _ (all : List ProcedureTree) where
       none_both (heading_faults earlier p) _ heading (none_both _ _ variables
       (calls_faults 1 calls (statement (returning (tail 0) 0) no_statements) known refl))
 
--- Names are apart: none of these procedures has the name of a line from the number a on, or `main`.
+-- Names are apart
 
+-- none of these procedures has the name of a line from the number a on, or is called `main`
 record IsFresh (earlier : List ProcedureTree) (a : ℕ) : Type 0 where
   line : (i : ℕ) → a ≤ i → i < 2 ^ 64 → is_some (number_of earlier (name_of i)) ≡ false
   main : is_some (number_of earlier (codes "main")) ≡ false
@@ -115,13 +114,15 @@ not_there k (q ∷ ps) p x h other = by_test (bytes_eq q.named.name x) h (λ g. 
     by_test true h next = absurd (false≢true (sym h))
     by_test false h next = next h
 
-fresh_more : (earlier : List ProcedureTree) (a : ℕ) (b : Bool) (at : Places) → IsFresh earlier a → IsFresh (earlier ++ line_tree b a at ∷ []) (a + 1)
+fresh_more : (earlier : List ProcedureTree) (a : ℕ) (b : Bool) (at : Places) → IsFresh earlier a →
+    IsFresh (earlier ++ line_tree b a at ∷ [])
+    (a + 1)
 fresh_more earlier a b at h = record {
   line = λ i le fits. not_there 0 earlier (line_tree b a at) (name_of i) (h.line i (omega arith) fits) (other_name a i (omega arith) fits);
   main = not_there 0 earlier (line_tree b a at) (codes "main") h.main refl;
 }
 
--- The line of a procedure has no fault.
+-- the line of a procedure has no fault, if none has its name before
 line_faults : (all earlier : List ProcedureTree) (b : Bool) (i : ℕ) (at : Places) → is_some (number_of earlier (name_of i)) ≡ false →
     procedure_faults all earlier (line_tree b i at) ≡ []
 line_faults all earlier true i at first = ap (λ c. (fault_if c Duplicate (at 1) ++ []) ++ []) first
@@ -153,8 +154,12 @@ lines_assert : (a : ℕ) (lines : List Places) (p : ProcedureTree) → asserts_i
 lines_assert a [] p h = ap (λ ps. length (ps ++ [])) h
 lines_assert a (at ∷ ats) p h =
     let line = line_tree (a % 3 == 0) a at in
-    omega (arith, length-append (asserts_in line.body) (asserts_in_file (line_trees (a + 1) ats ++ p ∷ [])),
-    line_asserts (a % 3 == 0) a at, lines_assert (a + 1) ats p h)
+    omega (
+      arith,
+      length-append (asserts_in line.body) (asserts_in_file (line_trees (a + 1) ats ++ p ∷ [])),
+      line_asserts (a % 3 == 0) a at,
+      lines_assert (a + 1) ats p h,
+    )
 
 lines_size : (a : ℕ) (lines : List Places) → length (line_trees a lines) ≡ length lines
 lines_size a [] = refl
@@ -175,7 +180,7 @@ no_prototypes : (all ps : List ProcedureTree) → prototypes_faults all (map pro
 no_prototypes all [] = refl
 no_prototypes all (p ∷ ps) = no_prototypes all ps
 
--- what the file's program is to be
+-- the file has this program, with an assertion for each of n procedures, and `main` beside them
 pub record IsWorkloadProgram (n : ℕ) (s : Spots) : Type 0 where
   pub program : IsProgram (workload_items s) (lowered_file (workload_items s))
   pub asserts : length (lowered_file (workload_items s)).asserts ≡ n
@@ -196,7 +201,8 @@ module _ (n : ℕ) (few : n ≤ 60) (s : Spots) (lines : length s.lines ≡ n) (
 
   none_faults : all_faults (workload_items s) ≡ []
   none_faults =
-      let known = λ (i : ℕ) (le : 1 ≤ i) (lt : i < 1 + length s.calls). known_from 0 1 s.lines (main_tree s.head s.calls s.tail ∷ []) i le (omega arith) in
+      let known = λ (i : ℕ) (le : 1 ≤ i) (lt : i < 1 + length s.calls). known_from 0 1 s.lines (main_tree s.head s.calls s.tail ∷ []) i le
+      (omega arith) in
       let fresh : IsFresh [] 1 = record { line = λ i le fits. refl; main = refl } in
       let each = lines_faults all 1 s.lines [] (main_tree s.head s.calls s.tail) (omega arith) fresh
       (λ before first. main_faults all before s.head s.calls s.tail first known) in

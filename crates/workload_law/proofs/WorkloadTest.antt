@@ -1,7 +1,8 @@
--- A test of pieces, and that those that pass it stand in every text behind which a given byte follows.
-use Rattle.std.specs.Prelude.{◌≡◌, ℕ, ◌+◌, ◌^◌, ◌<◌, List, [], ◌∷◌, ◌++◌, Bool, true, false, not, ◌==◌, ◌&&◌, ◌||◌, nat_le, nat_lt, refl, pos, negsuc, codes, bytes_eq}
+-- A test of pieces: those that pass it stand in every text that goes on with a given byte.
+use Rattle.std.specs.Prelude.{◌≡◌, ℕ, ◌^◌, List, [], ◌∷◌, ◌++◌, Bool, true, false, not, ◌==◌, ◌&&◌, ◌||◌, nat_le, nat_lt, refl, pos, negsuc, codes, bytes_eq}
 use Rattle.std.specs.List.{list_any, list_all}
-use Rattle.std.proofs.Common.{drop, sym, ◌∙◌, ap, subst, arith, append-nil, append_assoc, inl, inr, ◌⊎◌}
+use Rattle.std.proofs.Common.{drop, sym, ◌∙◌, ap, subst, arith, append-nil, append_assoc, inl, inr}
+use Rattle.std.proofs.lemmas.Bool.{eqb-true, ltb-true, not-true, and_parts, or_cases}
 use Rattle.std.proofs.lemmas.Bool.Decides.{nat_tests}
 use Rattle.std.proofs.lemmas.Slice.Eq.{bytes_eq-Decides}
 use Rattle.c_lexer.specs.declared.token.Keyword.{Keyword}
@@ -12,14 +13,13 @@ use Rattle.c_lexer.specs.declared.token.TokenKind.{TokenKind}
 use Rattle.c_lexer.specs.declared.token.TokenKind.TheVariants.{Name, Literal, Word, Mark}
 use Rattle.c_lexer.specs.declared.run.Base.{Base}
 use Rattle.c_lexer.specs.declared.run.Base.TheVariants.{Decimal, Octal, Hexadecimal}
-use Rattle.c_lexer.specs.Lexing.{is_blank, is_digit, is_digit_in, is_letter, is_name_byte, is_suffix, value_in, Each, RunEnds, IsWord, IsNumeral, IsLiteral, keyword_text, mark_text, IsLongest, IsToken, Parts}
-use Rattle.c_lexer.proofs.Lists.{both, eq_of, each-append}
+use Rattle.c_lexer.specs.Lexing.{is_blank, is_digit, is_digit_in, is_letter, is_name_byte, is_suffix, value_in, Each, IsWord, IsNumeral, IsLiteral, keyword_text, mark_text, IsLongest, IsToken, Parts}
 use Rattle.c_lexer.proofs.Words.{keywords, keyword_word}
 use Rattle.c_lexer.proofs.Literals.{literal_digit, numeral_each}
 use Rattle.c_lexer.proofs.Lexemes.{mark_some, word_longest, literal_longest, mark_longest}
 use Rattle.workload_law.proofs.WorkloadPieces.{Piece, gap, lexeme, spelled, AllStand}
 
--- Tokens
+-- The test
 
 abbrev is_word : List ℕ → Bool
 is_word [] = false
@@ -59,7 +59,7 @@ abbrev first_or : ℕ → List ℕ → ℕ
 first_or b [] = b
 first_or b (c ∷ cs) = c
 
--- The test, where this byte stands behind the pieces.
+-- the test of pieces behind which this byte stands
 abbrev pub fits : ℕ → List Piece → Bool
 fits b [] = true
 fits b (gap c ∷ ps) = is_blank c && fits b ps
@@ -67,21 +67,13 @@ fits b (lexeme k text ∷ ps) = is_token k text && (is_apart k (first_or b (spel
 
 -- What the test means
 
-is_not : (b : Bool) → not b ≡ true → b ≡ false
-is_not true h = cc
-is_not false h = refl
-
-one_of : (a b : Bool) → (a || b) ≡ true → (a ≡ true) ⊎ (b ≡ true)
-one_of true b h = inl refl
-one_of false b h = inr h
-
 each_of : (test : ℕ → Bool) (bs : List ℕ) → list_all test bs ≡ true → Each test bs
 each_of test [] h = tt
-each_of test (b ∷ bs) h = let k = both (test b) (list_all test bs) h in (k.0, each_of test bs k.1)
+each_of test (b ∷ bs) h = let k = and_parts (test b) (list_all test bs) h in (k.0, each_of test bs k.1)
 
 word_of : (text : List ℕ) → is_word text ≡ true → IsWord text
 word_of [] h = absurd cc
-word_of (b ∷ bs) h = let k = both (is_letter b) (list_all is_name_byte bs) h in (k.0, each_of is_name_byte bs k.1)
+word_of (b ∷ bs) h = let k = and_parts (is_letter b) (list_all is_name_byte bs) h in (k.0, each_of is_name_byte bs k.1)
 
 keyword_there : (w : Keyword) → is_keyword (keyword_text w) ≡ true
 keyword_there Int = refl
@@ -91,9 +83,9 @@ no_keyword_of : (text : List ℕ) → is_keyword text ≡ false → (w : Keyword
 no_keyword_of text h w e = let f : true ≡ false = sym (keyword_there w) ∙ ap is_keyword (sym e) ∙ h in cc
 
 literal_of : (text : List ℕ) (n : ℕ) → is_literal text n ≡ true → IsLiteral text n
-literal_of text n h = elim (one_of (bytes_eq text (codes "0") && (n == 0)) (is_numeral text && (n == value_in 10 text)) h) [
+literal_of text n h = elim (or_cases (bytes_eq text (codes "0") && (n == 0)) (is_numeral text && (n == value_in 10 text)) h) [
   | inl k ↦
-      let q = both (bytes_eq text (codes "0")) (n == 0) k in
+      let q = and_parts (bytes_eq text (codes "0")) (n == 0) k in
       record {
         base = Octal;
         front = codes "0";
@@ -102,17 +94,17 @@ literal_of text n h = elim (one_of (bytes_eq text (codes "0") && (n == 0)) (is_n
         whole = (bytes_eq-Decides text (codes "0")).0 q.0;
         numeral = (refl, tt);
         ends = refl;
-        value = eq_of n 0 q.1;
+        value = eqb-true n 0 q.1;
       }
   | inr k ↦
-      let q = both (is_numeral text) (n == value_in 10 text) k in
-      decimal_of text q.0 (eq_of n (value_in 10 text) q.1)
+      let q = and_parts (is_numeral text) (n == value_in 10 text) k in
+      decimal_of text q.0 (eqb-true n (value_in 10 text) q.1)
 ]
   where
     decimal_of : (text : List ℕ) → is_numeral text ≡ true → n ≡ value_in 10 text → IsLiteral text n
     decimal_of [] h e = absurd cc
     decimal_of (b ∷ bs) h e =
-        let q = both (nat_le 49 b && nat_le b 57) (list_all is_digit bs) h in
+        let q = and_parts (nat_le 49 b && nat_le b 57) (list_all is_digit bs) h in
         record {
           base = Decimal;
           front = [];
@@ -124,23 +116,19 @@ literal_of text n h = elim (one_of (bytes_eq text (codes "0") && (n == 0)) (is_n
           value = e;
         }
 
-below_of : (m n : ℕ) → nat_lt m n ≡ true → m < n
-below_of m n h = grind (arith, nat_tests)
-
 token_of : (k : TokenKind) (text : List ℕ) → is_token k text ≡ true → IsToken k text
 token_of Name text h =
-    let k = both (is_word text) (not (is_keyword text)) h in
-    (word_of text k.0, no_keyword_of text (is_not (is_keyword text) k.1))
+    let k = and_parts (is_word text) (not (is_keyword text)) h in
+    (word_of text k.0, no_keyword_of text (not-true (is_keyword text) k.1))
 token_of (Literal (pos n)) text h =
-    let k = both (is_literal text n) (nat_lt n (2 ^ 63)) h in
-    (n, literal_of text n k.0, refl, below_of n (2 ^ 63) k.1)
+    let k = and_parts (is_literal text n) (nat_lt n (2 ^ 63)) h in
+    (n, literal_of text n k.0, refl, ltb-true n (2 ^ 63) k.1)
 token_of (Literal (negsuc n)) text h = absurd cc
 token_of (Word w) text h = (bytes_eq-Decides text (keyword_text w)).0 h
 token_of (Mark m) text h = (bytes_eq-Decides text (mark_text m)).0 h
 
 -- Where tokens end
 
--- a literal is made of bytes of a name
 digit_in_name : (base : Base) (b : ℕ) → is_digit_in base b ≡ true → is_name_byte b ≡ true
 digit_in_name Decimal b h = grind (arith, nat_tests)
 digit_in_name Octal b h = grind (arith, nat_tests)
@@ -172,8 +160,8 @@ one_in_name : (words : List (List ℕ)) (text : List ℕ) → list_all (λ w. li
     list_any (λ w. bytes_eq w text) words ≡ true → list_all is_name_byte text ≡ true
 one_in_name [] text h k = absurd cc
 one_in_name (w ∷ ws) text h k =
-    let q = both (list_all is_name_byte w) (list_all (λ v. list_all is_name_byte v) ws) h in
-    elim (one_of (bytes_eq w text) (list_any (λ v. bytes_eq v text) ws) k) [
+    let q = and_parts (list_all is_name_byte w) (list_all (λ v. list_all is_name_byte v) ws) h in
+    elim (or_cases (bytes_eq w text) (list_any (λ v. bytes_eq v text) ws) k) [
       | inl e ↦ subst (λ t. list_all is_name_byte t ≡ true) ((bytes_eq-Decides w text).0 e) q.0
       | inr e ↦ one_in_name ws text q.1 e
     ]
@@ -182,6 +170,7 @@ suffix_in_name : (text : List ℕ) → is_suffix text ≡ true → Each is_name_
 suffix_in_name text h = each_of is_name_byte text
     (one_in_name ([] ∷ codes "l" ∷ codes "L" ∷ codes "ll" ∷ codes "LL" ∷ []) text refl h)
 
+-- a literal is made of bytes of a name
 literal_in_name : (text : List ℕ) (n : ℕ) → IsLiteral text n → Each is_name_byte text
 literal_in_name text n l =
     let digits = each_in_name l.base l.digits (numeral_each l.base l.front l.digits l.numeral) in
@@ -189,10 +178,12 @@ literal_in_name text n l =
     (each_join is_name_byte l.front (l.digits ++ l.suffix) (front_in_name l.base l.front l.digits l.numeral)
     (each_join is_name_byte l.digits l.suffix digits (suffix_in_name l.suffix l.ends)))
 
+-- the second byte of a mark, if it has one
 seconds : (m : Punct) → list_all is_second (drop 1 (mark_text m)) ≡ true
 seconds OpenParenthesis = refl
 seconds _ = refl
 
+-- a token ends before a byte that stands apart from it
 module _ (c : ℕ) (rest : List ℕ) where
   word_ends : (text : List ℕ) → IsWord text → is_name_byte c ≡ false → IsLongest text (c ∷ rest)
   word_ends [] w h = absurd w
@@ -207,7 +198,8 @@ module _ (c : ℕ) (rest : List ℕ) where
       none b bs [] others k e q = refl
       none b bs (x ∷ extra) others k e q =
           let same : c ≡ x = cc in
-          let here : is_name_byte x ≡ true = each_behind_first is_name_byte (b ∷ bs) x extra (literal_in_name (b ∷ (bs ++ x ∷ extra)) k q) in
+          let here : is_name_byte x ≡ true = each_behind_first is_name_byte (b ∷ bs) x extra (literal_in_name (b ∷ (bs ++ x ∷ extra)) k q)
+          in
           let f : false ≡ true = sym h ∙ ap is_name_byte same ∙ here in
           cc
 
@@ -225,14 +217,14 @@ module _ (c : ℕ) (rest : List ℕ) where
           cc
 
   ends_of : (k : TokenKind) (text : List ℕ) → IsToken k text → is_apart k c ≡ true → IsLongest text (c ∷ rest) × Parts k (c ∷ rest)
-  ends_of Name text t h = (word_ends text t.0 (is_not (is_name_byte c) h), tt)
+  ends_of Name text t h = (word_ends text t.0 (not-true (is_name_byte c) h), tt)
   ends_of (Literal z) text t h =
-      let apart = is_not (is_name_byte c) h in
+      let apart = not-true (is_name_byte c) h in
       (literal_ends text t.0 t.1 apart, apart)
-  ends_of (Word w) text t h = (word_ends text (subst IsWord (sym t) (keyword_word w)) (is_not (is_name_byte c) h), tt)
-  ends_of (Mark m) text t h = (mark_ends m text t (is_not (is_second c) h), tt)
+  ends_of (Word w) text t h = (word_ends text (subst IsWord (sym t) (keyword_word w)) (not-true (is_name_byte c) h), tt)
+  ends_of (Mark m) text t h = (mark_ends m text t (not-true (is_second c) h), tt)
 
--- Pieces that pass the test stand before others.
+-- Pieces that pass the test, before others
 
 pub spelled-append : (ps qs : List Piece) → spelled (ps ++ qs) ≡ spelled ps ++ spelled qs
 spelled-append [] qs = refl
@@ -252,15 +244,14 @@ module _ (b : ℕ) (qs : List Piece) (rest : List ℕ) (follows : spelled qs ≡
 
   pub fits_stand : (ps : List Piece) → fits b ps ≡ true → AllStand (ps ++ qs)
   fits_stand [] h = stand
-  fits_stand (gap c ∷ ps) h = let k = both (is_blank c) (fits b ps) h in (k.0, fits_stand ps k.1)
+  fits_stand (gap c ∷ ps) h = let k = and_parts (is_blank c) (fits b ps) h in (k.0, fits_stand ps k.1)
   fits_stand (lexeme k text ∷ ps) h =
       let c = first_or b (spelled ps) in
-      let q = both (is_token k text) (is_apart k c && fits b ps) h in
-      let r = both (is_apart k c) (fits b ps) q.1 in
+      let q = and_parts (is_token k text) (is_apart k c && fits b ps) h in
+      let r = and_parts (is_apart k c) (fits b ps) q.1 in
       let t = token_of k text q.0 in
       let n = next_is ps in
-      let e = ends_of c n.0 k text t r.0 in
-      (
+      let e = ends_of c n.0 k text t r.0 in (
         t,
         subst (IsLongest text) (sym n.1) e.0,
         subst (Parts k) (sym n.1) e.1,

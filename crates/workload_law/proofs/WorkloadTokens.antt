@@ -3,7 +3,7 @@ use Rattle.std.specs.Prelude.{◌≡◌, ℕ, suc, zero, ◌+◌, ◌%◌, ◌<�
 use Rattle.std.specs.List.{flat_map, range_with_len, list_all}
 use Rattle.std.specs.Fmt.{decimal, digits}
 use Rattle.std.proofs.Common.{drop, sym, ◌∙◌, ap, subst, arith, append_assoc, append-nil, inl, inr}
-use Rattle.std.proofs.lemmas.Bool.{cases_lt}
+use Rattle.std.proofs.lemmas.Bool.{and_parts, cases_lt}
 use Rattle.std.proofs.lemmas.Grind.{flat_map-append}
 use Rattle.std.proofs.lemmas.List.Folds.{flat_map-map}
 use Rattle.c_lexer.specs.declared.token.Keyword.{Keyword}
@@ -14,9 +14,8 @@ use Rattle.c_lexer.specs.declared.token.TokenKind.TheVariants.{Name, Literal, Wo
 use Rattle.c_lexer.specs.Lexing.{keyword_text, mark_text, IsTokens}
 use Rattle.c_lexer.specs.declared.token.Token.{Token}
 use Rattle.c_lexer.specs.Pure.{PureToken, pure_tokens}
-use Rattle.c_lexer.proofs.Lists.{both}
 use Rattle.workload_gen.specs.Workload.{numbers, safe_line, failing_line, procedure_line, call_of, main_line, workload_lines, ended, text_of}
-use Rattle.workload_law.proofs.WorkloadPieces.{Piece, gap, lexeme, spelled, AllStand, Places, placed, HasTokens, pieces_have_tokens, placed_append}
+use Rattle.workload_law.proofs.WorkloadPieces.{Piece, gap, lexeme, spelled, AllStand, Places, placed, pieces_have_tokens, placed_append}
 use Rattle.workload_law.proofs.WorkloadTest.{fits, spelled-append, fits_stand}
 
 -- Pieces
@@ -40,12 +39,12 @@ number n text = lexeme (Literal (pos n)) text
 abbrev pub name_of : ℕ → List ℕ
 name_of i = codes "p" ++ decimal i
 
--- what the assertion asks of the argument: of every third procedure, that it isn't -i
-abbrev pub condition_pieces : Bool → ℕ → List Piece
+-- what procedure i asserts of its argument: where 3 divides i, that it isn't -i
+abbrev condition_pieces : Bool → ℕ → List Piece
 condition_pieces true i = mark Unequal ∷ space ∷ mark Minus ∷ number i (decimal i) ∷ []
 condition_pieces false i = mark LessEqual ∷ space ∷ number 0 (codes "0") ∷ []
 
--- a procedure returns 1 where its argument is positive
+-- where its argument is positive a procedure returns 1
 abbrev pub guard_pieces : List Piece
 guard_pieces =
     word If ∷ space ∷ mark OpenParenthesis ∷ name (codes "a") ∷ space ∷ mark Greater ∷ space ∷ number 0 (codes "0") ∷ mark CloseParenthesis
@@ -83,10 +82,10 @@ last_pieces = space ∷ word Return ∷ space ∷ number 0 (codes "0") ∷ mark 
 abbrev pub tail_pieces : List Piece
 tail_pieces = last_pieces ++ gap 10 ∷ []
 
-abbrev pub workload_pieces : ℕ → List Piece
+abbrev workload_pieces : ℕ → List Piece
 workload_pieces n = flat_map line_pieces (numbers n) ++ (head_pieces ++ (flat_map call_pieces (numbers n) ++ tail_pieces))
 
--- Their text is that of the program.
+-- Their text is that of the program
 
 spelled_line : (i : ℕ) → spelled (line_pieces i) ≡ ended (procedure_line i)
 spelled_line i = by_choice (i % 3 == 0)
@@ -114,13 +113,15 @@ spelled_whole n =
     let main = head_pieces ++ (flat_map call_pieces (numbers n) ++ tail_pieces) in
     let each = spelled_all line_pieces (λ i. ended (procedure_line i)) spelled_line (numbers n) in
     let here : text_of (workload_lines n) ≡ flat_map (λ i. ended (procedure_line i)) (numbers n) ++ ended (main_line n) =
-    flat_map-append ended lines (main_line n ∷ []) ∙ ap (λ t. t ++ (ended (main_line n) ++ [])) (flat_map-map ended procedure_line (numbers n))
+    flat_map-append ended lines (main_line n ∷ []) ∙ ap (λ t. t ++ (ended (main_line n) ++ []))
+    (flat_map-map ended procedure_line (numbers n))
     ∙ ap (λ t. flat_map (λ i. ended (procedure_line i)) (numbers n) ++ t) (append-nil (ended (main_line n))) in
     spelled-append (flat_map line_pieces (numbers n)) main ∙ ap (λ t. t ++ spelled main) each
     ∙ ap (λ t. flat_map (λ i. ended (procedure_line i)) (numbers n) ++ t) (spelled_main n) ∙ sym here
 
--- They stand: each of at most 60 lines and calls passes the test.
+-- They stand: each line and each call of the sixty passes the test
 
+-- the text of the pieces begins with this byte
 abbrev Begins : ℕ → List Piece → Type 0
 Begins b ps = spelled ps ≡ b ∷ drop 1 (spelled ps)
 
@@ -132,12 +133,13 @@ begins_still b ps qs h =
 passes_within : (test : ℕ → Bool) (n a i : ℕ) → list_all test (range_with_len a n) ≡ true → a ≤ i → i < a + n → test i ≡ true
 passes_within test zero a i h le lt = absurd (omega arith)
 passes_within test (suc n) a i h le lt =
-    let k = both (test a) (list_all test (range_with_len (a + 1) n)) h in
+    let k = and_parts (test a) (list_all test (range_with_len (a + 1) n)) h in
     elim (cases_lt a i) [
       | inl less ↦ passes_within test n (a + 1) i k.1 (omega arith) (omega arith)
       | inr same ↦ let e : a ≡ i = omega arith in subst (λ j. test j ≡ true) e k.0
     ]
 
+-- pieces for the numbers from a on, each of which begins with the byte behind the one before
 module _ (f : ℕ → List Piece) (b : ℕ) (each : (i : ℕ) → 1 ≤ i → i ≤ 60 → fits b (f i) ≡ true) (begins : (i : ℕ) → Begins b (f i))
     (qs : List Piece) (follows : Begins b qs) (stand : AllStand qs) where
   all_stand : (n a : ℕ) → 1 ≤ a → a + n ≤ 61 → Begins b (flat_map f (range_with_len a n) ++ qs)
@@ -146,8 +148,7 @@ module _ (f : ℕ → List Piece) (b : ℕ) (each : (i : ℕ) → 1 ≤ i → i 
   all_stand (suc n) a some few =
       let more = flat_map f (range_with_len (a + 1) n) in
       let rest = all_stand n (a + 1) (omega arith) (omega arith) in
-      let e = sym (append_assoc (f a) more qs) in
-      (
+      let e = sym (append_assoc (f a) more qs) in (
         subst (Begins b) e (begins_still b (f a) (more ++ qs) (begins a)),
         subst AllStand e (fits_stand b (more ++ qs) (drop 1 (spelled (more ++ qs))) rest.0 rest.1 (f a) (each a some (omega arith))),
       )
@@ -184,6 +185,7 @@ abbrev pub placed_all : (ℕ → List Piece) → ℕ → List Places → List Pu
 placed_all f a [] = []
 placed_all f a (at ∷ ats) = placed at (f a) ++ placed_all f (a + 1) ats
 
+-- the tokens of such pieces, and those of the rest
 record Cut (f : ℕ → List Piece) (n a : ℕ) (at : Places) (qs : List Piece) : Type 0 where
   all : List Places
   size : length all ≡ n
@@ -204,7 +206,7 @@ cut f (suc n) a at qs =
           ∙ sym (append_assoc (placed at (f a)) (placed_all f (a + 1) c.all) (placed c.next qs));
     }
 
--- where the tokens of the program stand
+-- where the tokens of the program stand: of the lines of its procedures, before the calls in `main`, of the calls, and behind them
 pub record Spots : Type 0 where
   pub lines : List Places
   pub head : Places

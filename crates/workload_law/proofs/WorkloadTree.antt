@@ -2,23 +2,24 @@
 use Rattle.std.specs.Prelude.{ℕ, ◌+◌, ◌%◌, ◌==◌, List, [], ◌∷◌, ◌++◌, map, Bool, true, false, Some, None, codes, pos}
 use Rattle.c_tree.specs.declared.tree.Pos.{Pos}
 use Rattle.c_tree.specs.declared.tree.Op.TheVariants as op
-use Rattle.c_tree.specs.SourceTree.{Identifier, ExpressionTree, literal, name, call, negate, binary, no_arguments, argument, call_statement, Declarator, StatementTree, block, declare, simple, if_then, return, StatementTrees, no_statements, statement, ProcedureTree, FileItem, procedure}
+use Rattle.c_tree.specs.SourceTree.{Identifier, ExpressionTree, literal, name, call, negate, binary, no_arguments, argument, call_statement, StatementTree, block, declare, simple, if_then, return, StatementTrees, no_statements, statement, ProcedureTree, FileItem, procedure}
 use Rattle.workload_law.proofs.WorkloadPieces.{Places}
 use Rattle.workload_law.proofs.WorkloadTokens.{name_of, Spots}
 
+-- a name at a place
 abbrev pub named : List ℕ → Pos → Identifier
 named x p = record { name = x; at = p }
 
--- The line of procedure i, of which every third one can fail
+-- The line of procedure i. The assertion can fail where 3 divides i
 
-abbrev pub asserted : Bool → ℕ → Places → ExpressionTree
+abbrev asserted : Bool → ℕ → Places → ExpressionTree
 asserted true i at = binary op.Unequal (at 21) (name (named (codes "a") (at 20))) (negate (literal (pos i)))
 asserted false i at = binary op.LessEqual (at 21) (name (named (codes "a") (at 20))) (literal (pos 0))
 
--- the places behind what is asserted
-abbrev pub behind : Bool → Places → Places
-behind true at i = at (24 + i)
-behind false at i = at (23 + i)
+-- the place of the last `return`
+abbrev last_return : Bool → Places → Pos
+last_return true at = at 26
+last_return false at = at 25
 
 abbrev pub returning : Pos → ℕ → StatementTree
 returning p n = return p (Some (literal (pos n)))
@@ -28,23 +29,20 @@ guard_tree at =
     if_then (binary op.Greater (at 3) (name (named (codes "a") (at 2))) (literal (pos 0)))
     (block (statement (returning (at 7) 1) no_statements))
 
-abbrev pub body_tree : Places → ExpressionTree → Places → StatementTrees
-body_tree at e next =
+abbrev body_tree : Places → ExpressionTree → Pos → StatementTrees
+body_tree at e p =
     statement (guard_tree (λ i. at (7 + i)))
     (statement (simple (call_statement (named (codes "assert") (at 18)) (argument e no_arguments)))
-    (statement (returning (next 2) 0) no_statements))
+    (statement (returning p 0) no_statements))
 
-abbrev pub tree_with : ℕ → Places → ExpressionTree → Places → ProcedureTree
-tree_with i at e next = record {
+abbrev pub line_tree : Bool → ℕ → Places → ProcedureTree
+line_tree b i at = record {
   void = false;
   named = named (name_of i) (at 1);
   params = named (codes "a") (at 4) ∷ [];
-  body = body_tree at e next;
+  body = body_tree at (asserted b i at) (last_return b at);
   past = None;
 }
-
-abbrev pub line_tree : Bool → ℕ → Places → ProcedureTree
-line_tree b i at = tree_with i at (asserted b i at) (behind b at)
 
 -- the lines from the number a on
 abbrev pub line_trees : ℕ → List Places → List ProcedureTree
@@ -67,10 +65,10 @@ call_trees a (at ∷ ats) rest = statement (call_tree a at) (call_trees (a + 1) 
 abbrev pub reading_tree : List ℕ → Pos → Pos → StatementTree
 reading_tree x p q = declare (record { named = named x p; value = Some (call (named (codes "input") q) no_arguments) } ∷ [])
 
-abbrev pub calls_body : List Places → Places → StatementTrees
+abbrev calls_body : List Places → Places → StatementTrees
 calls_body calls tail = call_trees 1 calls (statement (returning (tail 0) 0) no_statements)
 
-abbrev pub main_body : Places → List Places → Places → StatementTrees
+abbrev main_body : Places → List Places → Places → StatementTrees
 main_body head calls tail =
     statement (reading_tree (codes "k") (head 6) (head 8))
     (statement (reading_tree (codes "v") (head 13) (head 15)) (calls_body calls tail))
