@@ -17,7 +17,8 @@ use Rattle.c_lexer.specs.Lexing.{is_blank, is_digit, is_digit_in, is_letter, is_
 use Rattle.c_lexer.proofs.Words.{keywords, keyword_word}
 use Rattle.c_lexer.proofs.Literals.{literal_digit, numeral_each}
 use Rattle.c_lexer.proofs.Lexemes.{mark_some, word_longest, literal_longest, mark_longest}
-use Rattle.workload_law.proofs.WorkloadPieces.{Piece, gap, lexeme, spelled, AllStand}
+use Rattle.smash_main.proofs.WordsRuns.{each_both, each_as, each_all, each_not}
+use Rattle.smash_main.proofs.WorkloadPieces.{Piece, gap, lexeme, spelled, AllStand}
 
 -- The test
 
@@ -67,13 +68,9 @@ fits b (lexeme k text ∷ ps) = is_token k text && (is_apart k (first_or b (spel
 
 -- What the test means
 
-each_of : (test : ℕ → Bool) (bs : List ℕ) → list_all test bs ≡ true → Each test bs
-each_of test [] h = tt
-each_of test (b ∷ bs) h = let k = and_parts (test b) (list_all test bs) h in (k.0, each_of test bs k.1)
-
 word_of : (text : List ℕ) → is_word text ≡ true → IsWord text
 word_of [] h = absurd cc
-word_of (b ∷ bs) h = let k = and_parts (is_letter b) (list_all is_name_byte bs) h in (k.0, each_of is_name_byte bs k.1)
+word_of (b ∷ bs) h = let k = and_parts (is_letter b) (list_all is_name_byte bs) h in (k.0, each_all is_name_byte bs k.1)
 
 keyword_there : (w : Keyword) → is_keyword (keyword_text w) ≡ true
 keyword_there Int = refl
@@ -111,7 +108,7 @@ literal_of text n h = elim (or_cases (bytes_eq text (codes "0") && (n == 0)) (is
           digits = b ∷ bs;
           suffix = [];
           whole = sym (append-nil (b ∷ bs));
-          numeral = (refl, q.0, each_of is_digit bs q.1);
+          numeral = (refl, q.0, each_all is_digit bs q.1);
           ends = refl;
           value = e;
         }
@@ -134,18 +131,6 @@ digit_in_name Decimal b h = grind (arith, nat_tests)
 digit_in_name Octal b h = grind (arith, nat_tests)
 digit_in_name Hexadecimal b h = grind (arith, nat_tests)
 
-each_in_name : (base : Base) (bs : List ℕ) → Each (is_digit_in base) bs → Each is_name_byte bs
-each_in_name base [] h = tt
-each_in_name base (b ∷ bs) h = (digit_in_name base b h.0, each_in_name base bs h.1)
-
-each_join : (test : ℕ → Bool) (xs ys : List ℕ) → Each test xs → Each test ys → Each test (xs ++ ys)
-each_join test [] ys h k = k
-each_join test (x ∷ xs) ys h k = (h.0, each_join test xs ys h.1 k)
-
-each_behind_first : (test : ℕ → Bool) (xs : List ℕ) (c : ℕ) (ys : List ℕ) → Each test (xs ++ c ∷ ys) → test c ≡ true
-each_behind_first test [] c ys h = h.0
-each_behind_first test (x ∷ xs) c ys h = each_behind_first test xs c ys h.1
-
 front_in_name : (base : Base) (front digits : List ℕ) → IsNumeral base front digits → Each is_name_byte front
 front_in_name Decimal front [] h = absurd h
 front_in_name Decimal front (b ∷ bs) h = subst (Each is_name_byte) (sym h.0) tt
@@ -167,16 +152,17 @@ one_in_name (w ∷ ws) text h k =
     ]
 
 suffix_in_name : (text : List ℕ) → is_suffix text ≡ true → Each is_name_byte text
-suffix_in_name text h = each_of is_name_byte text
+suffix_in_name text h = each_all is_name_byte text
     (one_in_name ([] ∷ codes "l" ∷ codes "L" ∷ codes "ll" ∷ codes "LL" ∷ []) text refl h)
 
 -- a literal is made of bytes of a name
 literal_in_name : (text : List ℕ) (n : ℕ) → IsLiteral text n → Each is_name_byte text
 literal_in_name text n l =
-    let digits = each_in_name l.base l.digits (numeral_each l.base l.front l.digits l.numeral) in
+    let numeral = numeral_each l.base l.front l.digits l.numeral in
+    let digits = each_as (is_digit_in l.base) is_name_byte (digit_in_name l.base) l.digits numeral in
     subst (Each is_name_byte) (sym l.whole)
-    (each_join is_name_byte l.front (l.digits ++ l.suffix) (front_in_name l.base l.front l.digits l.numeral)
-    (each_join is_name_byte l.digits l.suffix digits (suffix_in_name l.suffix l.ends)))
+    (each_both is_name_byte l.front (l.digits ++ l.suffix) (front_in_name l.base l.front l.digits l.numeral)
+    (each_both is_name_byte l.digits l.suffix digits (suffix_in_name l.suffix l.ends)))
 
 -- the second byte of a mark, if it has one
 seconds : (m : Punct) → list_all is_second (drop 1 (mark_text m)) ≡ true
@@ -197,11 +183,8 @@ module _ (c : ℕ) (rest : List ℕ) where
       none : (b : ℕ) (bs extra others : List ℕ) (k : ℕ) → c ∷ rest ≡ extra ++ others → IsLiteral (b ∷ (bs ++ extra)) k → extra ≡ []
       none b bs [] others k e q = refl
       none b bs (x ∷ extra) others k e q =
-          let same : c ≡ x = cc in
-          let here : is_name_byte x ≡ true = each_behind_first is_name_byte (b ∷ bs) x extra (literal_in_name (b ∷ (bs ++ x ∷ extra)) k q)
-          in
-          let f : false ≡ true = sym h ∙ ap is_name_byte same ∙ here in
-          cc
+          let same : x ≡ c = cc in
+          absurd (each_not is_name_byte (b ∷ bs) extra x (ap is_name_byte same ∙ h) (literal_in_name (b ∷ (bs ++ x ∷ extra)) k q))
 
   mark_ends : (m : Punct) (text : List ℕ) → text ≡ mark_text m → is_second c ≡ false → IsLongest text (c ∷ rest)
   mark_ends m [] e h = absurd (mark_some m e)
@@ -210,11 +193,9 @@ module _ (c : ℕ) (rest : List ℕ) where
       none : (extra others : List ℕ) (o : Punct) → c ∷ rest ≡ extra ++ others → (b ∷ bs) ++ extra ≡ mark_text o → extra ≡ []
       none [] others o q s = refl
       none (x ∷ extra) others o q s =
-          let same : c ≡ x = cc in
+          let same : x ≡ c = cc in
           let all : list_all is_second (bs ++ x ∷ extra) ≡ true = ap (λ t. list_all is_second (drop 1 t)) s ∙ seconds o in
-          let here : is_second x ≡ true = each_behind_first is_second bs x extra (each_of is_second (bs ++ x ∷ extra) all) in
-          let f : false ≡ true = sym h ∙ ap is_second same ∙ here in
-          cc
+          absurd (each_not is_second bs extra x (ap is_second same ∙ h) (each_all is_second (bs ++ x ∷ extra) all))
 
   ends_of : (k : TokenKind) (text : List ℕ) → IsToken k text → is_apart k c ≡ true → IsLongest text (c ∷ rest) × Parts k (c ∷ rest)
   ends_of Name text t h = (word_ends text t.0 (not-true (is_name_byte c) h), tt)

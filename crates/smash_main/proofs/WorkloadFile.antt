@@ -17,9 +17,9 @@ use Rattle.c_parser.specs.Grammar as grammar
 use Rattle.c_parser.specs.Answer.{AllShallow, IsShallowFile}
 use Rattle.c_tree.specs.SourceTree as tree
 use Rattle.c_tree.specs.SourceTree.{Identifier, ExpressionTree, no_arguments, argument, StatementTree, StatementTrees, no_statements, statement, ProcedureTree, FileItem}
-use Rattle.workload_law.proofs.WorkloadPieces.{Places, placed}
-use Rattle.workload_law.proofs.WorkloadTokens.{name_of, guard_pieces, procedure_pieces, line_pieces, call_pieces, head_pieces, tail_pieces, placed_all, Spots, main_tokens, workload_tokens}
-use Rattle.workload_law.proofs.WorkloadTree.{named, returning, guard_tree, line_tree, line_trees, call_tree, call_trees, reading_tree, main_tree, workload_items}
+use Rattle.smash_main.proofs.WorkloadPieces.{Places, placed}
+use Rattle.smash_main.proofs.WorkloadTokens.{name_of, guard_pieces, procedure_pieces, line_pieces, call_pieces, head_pieces, tail_pieces, placed_all, Spots, main_tokens, workload_tokens}
+use Rattle.smash_main.proofs.WorkloadTree.{named, returning, guard_tree, line_tree, line_trees, call_tree, call_trees, reading_tree, main_tree, workload_items}
 
 -- Tokens
 

@@ -4,11 +4,11 @@ use Rattle.c_tree.specs.Syntax.{PureProgram}
 use Rattle.c_parser.specs.Answer.{IsShallowFile}
 use Rattle.c_typing.specs.Lowering.{lowered_file}
 use Rattle.workload_gen.specs.Workload.{workload_lines, text_of}
-use Rattle.workload_law.specs.Source.{IsAccepted}
-use Rattle.workload_law.proofs.WorkloadTokens.{workload_has_tokens}
-use Rattle.workload_law.proofs.WorkloadTree.{workload_items}
-use Rattle.workload_law.proofs.WorkloadFile.{workload_reads}
-use Rattle.workload_law.proofs.WorkloadProgram.{workload_program}
+use Rattle.smash_main.specs.Source.{IsAccepted}
+use Rattle.smash_main.proofs.WorkloadTokens.{workload_has_tokens}
+use Rattle.smash_main.proofs.WorkloadTree.{workload_items}
+use Rattle.smash_main.proofs.WorkloadFile.{workload_reads}
+use Rattle.smash_main.proofs.WorkloadProgram.{workload_program}
 
 -- its program has an assertion for each of the n procedures, and `main` beside them
 pub workload_accepted : (n : ℕ) → 1 ≤ n → n ≤ 60 → (P : PureProgram) × IsAccepted (text_of (workload_lines n)) P × (length P.asserts ≡ n)

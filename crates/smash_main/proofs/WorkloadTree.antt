@@ -3,8 +3,8 @@ use Rattle.std.specs.Prelude.{ℕ, ◌+◌, ◌%◌, ◌==◌, List, [], ◌∷�
 use Rattle.c_tree.specs.declared.tree.Pos.{Pos}
 use Rattle.c_tree.specs.declared.tree.Op.TheVariants as op
 use Rattle.c_tree.specs.SourceTree.{Identifier, ExpressionTree, literal, name, call, negate, binary, no_arguments, argument, call_statement, StatementTree, block, declare, simple, if_then, return, StatementTrees, no_statements, statement, ProcedureTree, FileItem, procedure}
-use Rattle.workload_law.proofs.WorkloadPieces.{Places}
-use Rattle.workload_law.proofs.WorkloadTokens.{name_of, Spots}
+use Rattle.smash_main.proofs.WorkloadPieces.{Places}
+use Rattle.smash_main.proofs.WorkloadTokens.{name_of, Spots}
 
 -- a name at a place
 abbrev pub named : List ℕ → Pos → Identifier

@@ -15,8 +15,8 @@ use Rattle.c_lexer.specs.Lexing.{keyword_text, mark_text, IsTokens}
 use Rattle.c_lexer.specs.declared.token.Token.{Token}
 use Rattle.c_lexer.specs.Pure.{PureToken, pure_tokens}
 use Rattle.workload_gen.specs.Workload.{numbers, safe_line, failing_line, procedure_line, call_of, main_line, workload_lines, ended, text_of}
-use Rattle.workload_law.proofs.WorkloadPieces.{Piece, gap, lexeme, spelled, AllStand, Places, placed, pieces_have_tokens, placed_append}
-use Rattle.workload_law.proofs.WorkloadTest.{fits, spelled-append, fits_stand}
+use Rattle.smash_main.proofs.WorkloadPieces.{Piece, gap, lexeme, spelled, AllStand, Places, placed, pieces_have_tokens, placed_append}
+use Rattle.smash_main.proofs.WorkloadTest.{fits, spelled-append, fits_stand}
 
 -- Pieces
 

@@ -14,9 +14,9 @@ use Rattle.c_typing.specs.Scope.{declared_in, procedures_of, number_from, number
 use Rattle.c_typing.specs.Faults.{Fault, fault_if, callee_faults, statement_faults, place_of, statements_faults, limit_fault, heading_faults, procedure_faults, procedures_faults, prototypes_faults, all_faults, procedure_place}
 use Rattle.c_typing.specs.Lowering.{lowered_file, lowered_procedures, assert_places}
 use Rattle.c_typing.specs.Answer.{IsProgram}
-use Rattle.workload_law.proofs.WorkloadPieces.{Places}
-use Rattle.workload_law.proofs.WorkloadTokens.{name_of, Spots}
-use Rattle.workload_law.proofs.WorkloadTree.{named, returning, line_tree, line_trees, call_tree, call_trees, main_tree, workload_trees, workload_items}
+use Rattle.smash_main.proofs.WorkloadPieces.{Places}
+use Rattle.smash_main.proofs.WorkloadTokens.{name_of, Spots}
+use Rattle.smash_main.proofs.WorkloadTree.{named, returning, line_tree, line_trees, call_tree, call_trees, main_tree, workload_trees, workload_items}
 
 -- Names
 
