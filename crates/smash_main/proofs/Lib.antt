@@ -9,3 +9,10 @@ pub mod WordsLists
 pub mod WordsNumbers
 pub mod WordsRest
 pub mod WordsRuns
+pub mod WorkloadAccepted
+pub mod WorkloadFile
+pub mod WorkloadPieces
+pub mod WorkloadProgram
+pub mod WorkloadTest
+pub mod WorkloadTokens
+pub mod WorkloadTree
