@@ -9,7 +9,9 @@ has to be that of its assertion, the summary and the status those of the verdict
 
 For each program it prints the seconds, the memory in KB, and of a run that takes less than a second the most steps that an
 assertion took (the least budget that gives the same text), the questions to the solver and the instructions (both under
-valgrind), or -, and then the text. The status is 1 where something isn't as wanted.
+valgrind), or -, then where these instructions go, by the wings' layers, and then the text. What the C library takes, which
+is mostly the allocator, is told apart, whoever calls it. Steps, questions and instructions are those of one worker, whose
+order of work is the same each time; seconds and memory are those of the words as they stand. The status is 1 where something isn't as wanted.
 """
 import collections
 import os
@@ -42,6 +44,35 @@ def run(command, path, limit):
 QUESTION = "lia_solver::search::Search::branch"
 
 
+# The layers, each with the crates whose own instructions are its.
+LAYERS = {
+    "solver": ("lia_solver", "shadow_elim", "infeasible_cert", "linear_formula"),
+    "frontier": ("abstract_path", "may_partition"),
+    "preimages": ("weakest_pre", "call_bridge"),
+    "trails": ("must_region",),
+    "slices": ("punch_step", "query_rules", "summary_table", "summary_form"),
+    "board": ("bolt_core", "bolt_rounds", "bolt_workers", "query_tree", "board_lock"),
+}
+
+
+def layer_of(function):
+    crate = re.match(r"<*(\w+)::", function)
+    name = crate[1] if crate else ""
+    if name:
+        return next((layer for layer, crates in LAYERS.items() if name in crates), "rest")
+    return "C library"
+
+
+def shares_of(file):
+    """The shares of the layers in the instructions that callgrind noted in a file, the greatest first."""
+    said = subprocess.run(["callgrind_annotate", "--threshold=100", file], capture_output=True, text=True, check=False).stdout
+    sums = collections.Counter()
+    for count, function in re.findall(r"(?m)^ *([\d,]+) \([ \d.]+%\) +[^\n]*?:((?:<|\w)[^\n]*)$", said):
+        sums[layer_of(function)] += int(count.replace(",", ""))
+    whole = sum(sums.values())
+    return ", ".join(f"{layer} {100 * count // whole} %" for layer, count in sums.most_common() if 100 * count >= whole)
+
+
 def is_short(ended):
     return ended.status is not None and ended.seconds < 1
 
@@ -53,9 +84,9 @@ def calls_of(name, counts):
 
 
 def counted(command, path, ended):
-    """The questions to the solver and the instructions of a short run."""
+    """The questions to the solver and the instructions of a short run, and where these go."""
     if not is_short(ended) or not shutil.which("valgrind"):
-        return "-", "-"
+        return "-", "-", ""
     with tempfile.TemporaryDirectory() as room, open(path, "rb") as source:
         file = f"{room}/counts"
         words = ["valgrind", "--tool=callgrind", f"--callgrind-out-file={file}", *command]
@@ -63,7 +94,7 @@ def counted(command, path, ended):
         with open(file, encoding="utf-8", errors="replace") as it:
             counts = it.read()
         said = re.search(r"(?m)^(?:summary|totals): (\d+)", counts)
-        return str(calls_of(QUESTION, counts)), said[1] if said else "-"
+        return str(calls_of(QUESTION, counts)), said[1] if said else "-", shares_of(file)
 
 
 def steps_of(command, path, ended):
@@ -147,9 +178,12 @@ def below(folder):
 
 
 def shown(name, command, path, ended, faults):
-    questions, instructions = counted(command, path, ended)
-    steps = steps_of(command, path, ended)
+    alone = [*command, "--workers", "1"]
+    questions, instructions, shares = counted(alone, path, ended)
+    steps = steps_of(alone, path, ended)
     print(f"{name:30} {ended.seconds:9.3f} s {ended.memory:9} KB {steps:>5} steps {questions:>6} questions {instructions:>12} instructions")
+    if shares:
+        print(f"    ({shares})")
     lines = ended.text.split("\n")
     for line in lines[:-2] or lines[:1]:
         print(f"    {line}" if line else "    no text")
