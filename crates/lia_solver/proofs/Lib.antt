@@ -13,3 +13,6 @@ pub mod Branching
 pub mod Settling
 pub mod Marking
 pub mod Renumbering
+pub mod Covering
+pub mod Strongest
+pub mod Covered
