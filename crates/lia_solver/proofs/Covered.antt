@@ -148,7 +148,7 @@ with_value-same x rows others too_many_rows h k = refl
 
 -- Limits
 
-tests-same : (a b : Bool) → (a ≡ true → b ≡ true) → (b ≡ true → a ≡ true) → a ≡ b
+pub tests-same : (a b : Bool) → (a ≡ true → b ≡ true) → (b ≡ true → a ≡ true) → a ≡ b
 tests-same true b f g = sym (f refl)
 tests-same false true f g = g refl
 tests-same false false f g = refl

@@ -16,3 +16,5 @@ pub mod Renumbering
 pub mod Covering
 pub mod Strongest
 pub mod Covered
+pub mod Merging
+pub mod BranchRows

@@ -2,6 +2,7 @@ pub mod Asked
 pub mod Branches
 pub mod Choices
 pub mod Further
+pub mod Merged
 pub mod Numbers
 pub mod Pruned
 pub mod Searches
