@@ -18,3 +18,5 @@ pub mod Strongest
 pub mod Covered
 pub mod Merging
 pub mod BranchRows
+pub mod Chains
+pub mod TableEntries
