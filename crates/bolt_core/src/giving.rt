@@ -10,10 +10,10 @@ ghost use Rattle.bolt_core.specs.steps.Ends.{is_dropped_by, is_end};
 
 use crate::board::Board;
 use crate::event::Event;
-use crate::job::{Gone, Job};
+use crate::job::{Gone, Job, Parked};
 use crate::slot::Slot;
 use query_rules::state::QueryState;
-use query_tree::{Lent, QueryId, Rest, Status};
+use query_tree::{Lent, QueryId, Status};
 use std::sync::Arc;
 use summary_form::query::Query;
 
@@ -59,7 +59,7 @@ impl Board {
 
     /// Gives a job back: to be taken again, to wait until a child closes or becomes Starved, or
     /// since nothing is left of it.
-    pub fn park(&mut self, worker: u32, job: Job, rest: Rest) -> Result<(), Gone>
+    pub fn park(&mut self, worker: u32, job: Job, rest: Parked) -> Result<(), Gone>
         requires job { MayBeParked self.old job rest }
         ensures same { SameProgram self.old self.new }
         ensures parked { MatchResult result
