@@ -1,4 +1,5 @@
 pub mod Slicing
 pub mod Sliced
 pub mod Moving
+pub mod Shown
 pub mod Turning
