@@ -43,7 +43,7 @@ desk_send = declared_send desk.the_type (
     (
       search (as_row_send, sendable),
       (
-        search (seat_send, as_row_send, sendable) depth 30 fits 20000,
+        search (seat_send, sendable) depth 30 fits 20000,
         (
           search (graphs.the_send, graphs.the_sync, as_row_send, sendable, crosses) depth 30 fits 20000,
           (

@@ -1,19 +1,23 @@
 -- What a worker knows after each of its turns with the board.
-use Rattle.std.proofs.Common.{Global, ◌≡◌, ℕ, List, [], ◌∷◌, length, Bool, true, false, Option, Some, None, refl, sym, ap, ◌∙◌, subst, ◌⊎◌, inl, inr, ⊎_elim}
-use Rattle.std.specs.Prelude.{IfSome}
+use Rattle.std.proofs.Common.{Global, ◌≡◌, ℕ, ◌<◌, List, [], ◌∷◌, length, Bool, true, false, Option, Some, None, refl, sym, ap, ◌∙◌, subst, ◌⊎◌, inl, inr, ⊎_elim}
+use Rattle.std.specs.Prelude.{IfSome, slice_get}
+use Rattle.std.proofs.lemmas.Bool.{eq-eqb}
+use Rattle.query_tree.proofs.Lists.{within}
+use Rattle.query_tree.proofs.Marks.{get_pushed}
 use Rattle.std.specs.declared.sync.Arc.{Arc}
 use Rattle.flow_graph.specs.declared.graph.Graph.{Graph}
 use Rattle.query_rules.specs.Seen.{Seen}
 use Rattle.summary_form.specs.declared.summary.Summary.{Summary}
 use Rattle.summary_table.specs.Tables.{Listed, StartsWith as FrontOf}
 use Rattle.board_lock.specs.Views.{StartsWith}
-use Rattle.board_lock.proofs.Histories.{starts_same}
+use Rattle.board_lock.proofs.Histories.{starts_same, starts_then}
 use Rattle.bolt_core.specs.declared.job.Gone.{Gone as GoneJob}
 use Rattle.bolt_core.specs.declared.job.Job.{Job as Given}
 use Rattle.bolt_core.specs.declared.job.Taken.{Taken}
 use Rattle.bolt_core.specs.declared.job.Taken.TheVariants as taken
-use Rattle.bolt_core.specs.Boards.{Gives, IsBoard, IsGone, Publishes, SameProgram, Shown, Stops}
-use Rattle.bolt_core.specs.Histories.{Told, asked, closed, fed, parked, said, stopped, took}
+use Rattle.bolt_core.specs.Boards.{Gives, IsBoard, IsGone, IsSoundFor, Publishes, SameProgram, Shown, Stops}
+use Rattle.bolt_core.specs.Histories.{Told, asked, closed, fed, gives_back, parked, said, stopped, took}
+use Rattle.bolt_core.specs.Keeps.{IsEnd}
 use Rattle.bolt_core.specs.Machine.{Core, Event, Reads, closed_how, is_over}
 use Rattle.bolt_core.specs.States.{reads}
 use Rattle.bolt_core.proofs.Reserve.{event_history}
@@ -23,10 +27,10 @@ use Rattle.bolt_rounds.specs.declared.moves.Move.TheVariants as move
 use Rattle.bolt_rounds.specs.declared.moves.Worked.{Worked}
 use Rattle.bolt_rounds.specs.Moves.{IsMade, IsMoved, MayBeShown, MayMove, WasJustTaken}
 use Rattle.bolt_rounds.proofs.Shown.{said_decided, spare_is_shown}
-use Rattle.bolt_rounds.proofs.Turning.{just_taken, same_most}
+use Rattle.bolt_rounds.proofs.Turning.{just_taken, same_most, same_program}
 use Rattle.bolt_workers.specs.declared.desk.Desk.{Desk}
 use Rattle.bolt_workers.specs.Later.{IsLater}
-use Rattle.bolt_workers.specs.steps.Desks.{AreOf, CanGive, CanShow, CanWork, Frees, HasEnded, Holds, IsTold, Sits}
+use Rattle.bolt_workers.specs.steps.Desks.{AreOf, CanGive, CanShow, CanWork, Frees, HasEnded, Holds, IsBack, IsTold, Sits}
 use Rattle.bolt_workers.proofs.Later.{front_then, jobs_wait, table_later}
 
 -- Histories go on
@@ -192,3 +196,87 @@ module _ (d : Desk) (j : Given) (m : Made) (gs : List Graph) (e : gs ≡ d.graph
         IfSome o (λ s. CanShow d m.worked.job s.value)
     each None e = tt
     each (Some a) e = record { board = w.board; has_seen = w.has_seen; may = e }
+
+-- What is given back
+
+later_then : (a b c : Shown) → IsLater a b → IsLater b c → IsLater a c
+later_then a b c k l = record {
+  is_old = k.is_old;
+  is_new = l.is_new;
+  same = same_program a b c k.same l.same;
+  begins = starts_then c.core.history b.core.history a.core.history l.begins k.begins;
+}
+
+pub back_then : (old mid new : Desk) (b c : Shown) (j : Given) → Holds old mid b → IsLater b c → Frees mid new c → IsBack old j →
+    IsBack new j
+back_then old mid new b c j h l f k = record {
+  board = c;
+  has_seen = f.has_seen;
+  then = k.then;
+  later = later_then k.then k.board c k.later (later_then k.board b c (h.later k.board k.has_seen) l);
+  place = k.place;
+  after = k.after;
+  is_end = k.is_end;
+}
+
+module _ (mid new : Desk) (b c : Shown) (w : ℕ) (j : Given) (l : IsLater b c) (f : Frees mid new c) where
+  -- by an event that is the last of the history
+  event_back : (e : Told) → Event (reads b.graphs) b.core e c.core → gives_back j.id e ≡ true → j.taken < length b.core.history →
+      IsBack new j
+  event_back e t g lt = record {
+    board = c;
+    has_seen = f.has_seen;
+    then = c;
+    later = record { is_old = l.is_new; is_new = l.is_new; same = same_same c; begins = starts_same c.core.history };
+    place = length b.core.history;
+    after = lt;
+    is_end = record {
+      event = e;
+      at = ap (λ (h : List Told). slice_get h (length b.core.history)) (event_history (reads b.graphs) b.core c.core e t)
+          ∙ get_pushed b.core.history e;
+      ends = inl g;
+    };
+  }
+    where
+      same_same : (x : Shown) → SameProgram x x
+      same_same x = record { graphs = refl; main = refl; asserts = refl; budget = refl }
+
+  pub moved_back : (m : Move) → IsMoved b w j m c → j.taken < length b.core.history → IsBack new j
+  moved_back (move.Ask child query) e lt =
+      event_back (asked w j.id j.spent (length b.core.entries) query.value) e (eq-eqb j.id j.id refl) lt
+  moved_back (move.Feed number) e lt = event_back (fed w j.id j.spent e.entry.child) e.event (eq-eqb j.id j.id refl) lt
+  moved_back (move.Park r) e lt = event_back (parked w j.id j.spent r) e (eq-eqb j.id j.id refl) lt
+  moved_back (move.Close how summary) e lt =
+      event_back (closed w j.id j.spent (closed_how (reads b.graphs) e.level j.state how) e.summaries) e.event (eq-eqb j.id j.id refl) lt
+
+  -- or by an earlier one
+  pub gone_back : (gone : GoneJob) → IsGone b c j gone → IsBack new j
+  gone_back gone g = record {
+    board = c;
+    has_seen = f.has_seen;
+    then = b;
+    later = l;
+    place = gone.event;
+    after = g.first.after;
+    is_end = g.first.is_end;
+  }
+
+pub taken_within : (b : Shown) (j : Given) (m : Move) → MayMove b j m → j.taken < length b.core.history
+taken_within b j m h = within b.core.history j.taken _ (sound_of m h).take_at where
+  sound_of : (m : Move) → MayMove b j m → IsSoundFor b j
+  sound_of (move.Ask child query) h = h.sound
+  sound_of (move.Feed number) h = h.sound
+  sound_of (move.Park r) h = h.sound
+  sound_of (move.Close how summary) h = h.0.sound
+
+-- the job of which the slice was made is the one that was taken
+pub back_made : (d : Desk) (j k : Given) → k.id ≡ j.id → k.taken ≡ j.taken → IsBack d k → IsBack d j
+back_made d j k e f h = record {
+  board = h.board;
+  has_seen = h.has_seen;
+  then = h.then;
+  later = h.later;
+  place = h.place;
+  after = subst (λ (t : ℕ). t < h.place) f h.after;
+  is_end = subst (λ (i : ℕ). IsEnd h.then.core i h.place) e h.is_end;
+}

@@ -1,8 +1,8 @@
 //! One worker: its turns with the board, and what it makes between them.
 
-ghost use Rattle.std.specs.Prelude.{◌≡◌, IfErr, IfOk, IfSome, Some, false, true};
+ghost use Rattle.std.specs.Prelude.{◌≡◌, IfErr, IfOk, IfSome, OnOk, Some, false, true};
 ghost use Rattle.board_lock.specs.Views.{StartsWith};
-ghost use Rattle.bolt_workers.specs.steps.Desks.{CanGive, CanShow, CanWork, Frees, HasEnded, Holds, IsTold, Sits, program_of};
+ghost use Rattle.bolt_workers.specs.steps.Desks.{CanGive, CanShow, CanWork, Frees, HasEnded, Holds, IsBack, IsTold, Sits, program_of};
 
 use crate::desk::{Desk, wake};
 use board_lock::{BoardLock, Chronicle};
@@ -96,6 +96,7 @@ fn give_once<R: Wait, G: Gate>(
     ensures sits { Sits desk.new }
     ensures gone { IfErr result (λ gone. gone.job ≡ worked.job) }
     ensures shows { (s : _) → CanShow desk.old worked.job s → CanShow desk.new worked.job s }
+    ensures back { IsBack desk.new worked.job }
 {
     let mut board = hold(rt, lock, desk, gate);
     match hand_in(&mut board, desk.worker, worked) {
@@ -126,6 +127,7 @@ fn publish_once<R: Wait, G: Gate>(
     ensures lock { desk.new.seat.lock ≡ desk.old.seat.lock }
     ensures program { desk.new.seat.view.program ≡ desk.old.seat.view.program }
     ensures sits { Sits desk.new }
+    ensures back { (j : _) → IsBack desk.old j → IsBack desk.new j }
 {
     let mut board = hold(rt, lock, desk, gate);
     board.publish(desk.worker, gone, summary);
@@ -168,6 +170,7 @@ fn give<R: Wait, G: Gate>(
     ensures lock { desk.new.seat.lock ≡ desk.old.seat.lock }
     ensures program { desk.new.seat.view.program ≡ desk.old.seat.view.program }
     ensures sits { Sits desk.new }
+    ensures back { IsBack desk.new made.worked.job }
 {
     let Made { worked, spare } = made;
     let Err(gone) = give_once(rt, lock, desk, worked, all, gate) else {
@@ -197,6 +200,7 @@ fn do_job<R: Wait, G: Gate>(
     ensures lock { desk.new.seat.lock ≡ desk.old.seat.lock }
     ensures program { desk.new.seat.view.program ≡ desk.old.seat.view.program }
     ensures sits { Sits desk.new }
+    ensures back { OnOk result (IsBack desk.new job) }
     ensures ended { IfErr result (λ _. HasEnded desk.new) }
 {
     match make(alloc, &desk.graphs, &desk.known, job) {

@@ -1,5 +1,5 @@
 -- What a worker knows between its calls of the board.
-use Rattle.std.specs.Prelude.{◌≡◌, ◌⊎◌, ℕ, List, true, false, Some}
+use Rattle.std.specs.Prelude.{◌≡◌, ◌⊎◌, ℕ, ◌<◌, List, true, false, Some}
 use Rattle.flow_graph.specs.declared.graph.Graph.{Graph}
 use Rattle.summary_form.specs.declared.summary.Summary.{Summary}
 use Rattle.summary_table.specs.Tables.{IsBegun, Listed, StartsWith as FrontOf}
@@ -12,6 +12,7 @@ use Rattle.bolt_core.specs.declared.job.Taken.{Taken}
 use Rattle.bolt_core.specs.declared.job.Taken.TheVariants as taken
 use Rattle.bolt_core.specs.Boards.{IsBoard, Shown, most_queries}
 use Rattle.bolt_core.specs.Histories.{Told}
+use Rattle.bolt_core.specs.Keeps.{IsEnd}
 use Rattle.bolt_core.specs.Machine.{is_over}
 use Rattle.bolt_core.specs.States.{reads}
 use Rattle.bolt_rounds.specs.declared.moves.Worked.{Worked}
@@ -77,6 +78,17 @@ pub record CanShow (d : Desk) (j : Given) (s : Summary) : Type 0 where
   pub board : Shown
   pub has_seen : HasSeen d.seat.view board
   pub may : MayBeShown board j s
+
+-- an event behind its take gave the job back, closed its query or dropped it, at a board that the
+-- seat has seen, or at an earlier one
+pub record IsBack (d : Desk) (j : Given) : Type 0 where
+  pub board : Shown
+  pub has_seen : HasSeen d.seat.view board
+  pub then : Shown
+  pub later : IsLater then board
+  pub place : ℕ
+  pub after : j.taken < place
+  pub is_end : IsEnd then.core j.id place
 
 -- Turns
 

@@ -1,5 +1,5 @@
 use Rattle.bolt_rounds.proofs.Shown.{may_publish}
-use Rattle.bolt_workers.proofs.Turns.{freed_sits, held_begins, held_of, publishes_begins, shows_now}
+use Rattle.bolt_workers.proofs.Turns.{back_then, freed_later, freed_sits, held_begins, held_of, publishes_begins, shows_now}
 use Rattle.bolt_workers.proofs.worker.publish_once.Goals as goal
 
 pub publish-requires : goal.publish-requires
@@ -24,3 +24,14 @@ returns-clause-sits g c =
     c.publish.ensures.same
     (publishes_begins b c.publish.new.self mid.worker c.args.gone.now.job.id c.args.summary.value c.publish.ensures.published)
     c.free.ensures (held_of c.args.desk.now mid b c.requires.sits c.hold-board.ensures)
+
+pub returns-clause-back : goal.returns-clause-back
+returns-clause-back g c j =
+    let b = c.hold-board.result in
+    let mid = c.hold-board.new.desk in
+    back_then c.args.desk.now mid c.free.new.desk b c.publish.new.self j c.hold-board.ensures
+    (freed_later mid c.free.new.desk b c.publish.new.self (c.hold-board.ensures.later c.requires.sits.board c.requires.sits.has_seen).is_new
+    c.publish.ensures.same
+    (publishes_begins b c.publish.new.self mid.worker c.args.gone.now.job.id c.args.summary.value c.publish.ensures.published)
+    c.free.ensures)
+    c.free.ensures
