@@ -24,7 +24,8 @@ module _ {T : Type 0} where
     )
 
     pub back_stores : (r : Rest) → Went (λ own. after_back es own i n r p) es fs i → Keeps fs i p
-    back_stores r t = subst (λ gs. Keeps gs i p) (sym t.becomes) (rested t.own t.at (back_as r t.own.stirred (t.own.left - n)) (t.own.left - n))
+    back_stores r t = subst (λ gs. Keeps gs i p) (sym t.becomes) (rested t.own t.at (back_as r t.own.stirred (t.own.left - n))
+        (t.own.left - n))
 
     pub ask_stores : (c : T) → Went (λ own. after_ask es own i n p c) es fs i → Keeps fs i p
     ask_stores c t =

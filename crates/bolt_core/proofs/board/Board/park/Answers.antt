@@ -94,6 +94,6 @@ returns-clause-parked c =
 
 pub returns-clause-stored : goal.returns-clause-stored
 returns-clause-stored c =
-    let k = back_stores c.self.inside.forest.entries c.give_back.new.self.entries c.args.job.id c.args.job.spent c.args.job.state c.args.rest
-    c.in-Ok.ensures.given in
+    let k = back_stores c.self.inside.forest.entries c.give_back.new.self.entries c.args.job.id c.args.job.spent c.args.job.state
+    c.args.rest c.in-Ok.ensures.given in
     record { own = k.0; at = k.1; payload = k.2 }
