@@ -1,3 +1,4 @@
 pub mod Staying
 pub mod Plays
 pub mod Published
+pub mod FirstTakes

@@ -14,9 +14,9 @@ use Rattle.bolt_core.specs.Machine.{Core, Event, Reads, empty_board, is_over, op
 use Rattle.bolt_core.specs.States.{reads}
 use Rattle.bolt_rounds.specs.Moves.{MayMove}
 use Rattle.bolt_rounds.specs.declared.moves.Worked.{Worked}
-use Rattle.bolt_rounds.proofs.Turning.{just_taken, same_most}
+use Rattle.bolt_rounds.proofs.Shown.{moves_keep}
+use Rattle.bolt_rounds.proofs.Turning.{event_front, just_taken, same_most}
 use Rattle.board_tests.specs.Plays.{AreOut, IsOpened, IsPlay, MayTake}
-use Rattle.board_tests.proofs.Staying.{event_grows, may_stays, shown_is}
 
 -- The jobs that are kept
 module _ (b : Shown) where
@@ -62,8 +62,7 @@ begun_play b asserts known jobs o r e n = record {
 -- An event
 module _ (old new : Shown) (e : Told) (h : IsBoard old) (s : SameProgram old new) (v : Event (reads old.graphs) old.core e new.core) where
   job_stays : (w : Worked) → MayMove old w.job w.next → MayMove new w.job w.next
-  job_stays w m =
-      subst (λ (b : Shown). MayMove b w.job w.next) (shown_is old new s) (may_stays old new.core e h v w.job w.next m)
+  job_stays w = (moves_keep old new (e ∷ []) w.job h s.graphs (new.core, v, refl)).0 w.next
 
   either_stays : (o : Option Worked) → IfSome o (λ w. MayMove old w.job w.next) → IfSome o (λ w. MayMove new w.job w.next)
   either_stays None m = tt
@@ -75,8 +74,8 @@ module _ (old new : Shown) (e : Told) (h : IsBoard old) (s : SameProgram old new
 
   front_stays : (known : List Summary) → StartsWith old.core.table known → StartsWith new.core.table known
   front_stays known f =
-      let g = event_grows (reads old.graphs) old.core new.core e v in
-      record { rest = f.rest ++ g.0; is = g.1 ∙ (ap (λ (l : List Summary). l ++ g.0) f.is ∙ append_assoc known f.rest g.0) }
+      let g = event_front (reads old.graphs) old.core new.core e v in
+      record { rest = f.rest ++ g.rest; is = g.is ∙ (ap (λ (l : List Summary). l ++ g.rest) f.is ∙ append_assoc known f.rest g.rest) }
 
   pub play_goes : (asserts : ℕ) (known : Listed) (jobs : List (Option Worked)) → IsPlay old asserts known jobs →
       IsPlay new asserts known jobs

@@ -1,11 +1,10 @@
 -- Boards beside the jobs that are out.
-use Rattle.std.specs.Prelude.{◌≡◌, ℕ, ◌<◌, List, [], ◌∷◌, length, Option, Some, IfSome, slice_get}
+use Rattle.std.specs.Prelude.{◌≡◌, ℕ, ◌+◌, ◌<◌, ◌≤◌, List, [], ◌∷◌, length, Bool, Option, Some, IfSome, slice_get}
 use Rattle.summary_form.specs.declared.summary.Summary.{Summary}
 use Rattle.summary_table.specs.Tables.{Listed, StartsWith}
 use Rattle.bolt_core.specs.Boards.{Shown, most_queries}
-use Rattle.bolt_core.specs.Groups.{Node}
-use Rattle.bolt_core.specs.Machine.{HoldsBy, exit_of, proc_of}
-use Rattle.bolt_core.specs.States.{reads}
+use Rattle.bolt_core.specs.Histories.{took}
+use Rattle.bolt_core.specs.declared.job.Job.{Job as Given}
 use Rattle.bolt_core.specs.declared.job.Taken.{Taken}
 use Rattle.bolt_core.specs.declared.job.Taken.TheVariants as taken
 use Rattle.bolt_rounds.specs.Moves.{IsJustTaken, MayMove}
@@ -36,9 +35,25 @@ MayTake b known (taken.Job j) = IsJustTaken b j × (known ≡ b.core.table)
 MayTake b known taken.Idle = Unit {0}
 MayTake b known taken.Over = Unit {0}
 
--- the summary of the query of this number may be published, if it was dropped while it was at work
-pub record MaySay (b : Shown) (id : ℕ) (s : Summary) : Type 0 where
-  pub here : id < length b.core.nodes
-  pub holds : HoldsBy (reads b.graphs) s
-  pub fits : (n : Node) → slice_get b.core.nodes id ≡ Some n →
-      (proc_of (reads b.graphs) s ≡ n.query.proc) × (exit_of (reads b.graphs) s ≡ n.query.exit)
+-- the Take with which the board began said this: which query, what was left of it, and its stored
+-- steps
+pub record IsFirstTake (b : Shown) (id left stored : ℕ) : Type 0 where
+  pub worker : ℕ
+  pub waiting : Bool
+  pub at : slice_get b.core.history 0 ≡ Some (took worker id left stored waiting)
+
+-- the job is of the first take, which said this
+pub record IsOfTake (j : Given) (id lent stored : ℕ) : Type 0 where
+  pub first : j.taken ≡ 0
+  pub query : j.id ≡ id
+  pub left : j.left ≡ lent
+  pub made : length j.state.steps ≡ stored + j.spent
+
+-- The job's query is that of the take. It asked nothing, and has made so many steps since: some,
+-- and not all that were left.
+pub record IsSince (id left stored : ℕ) (j : Given) (spent : ℕ) : Type 0 where
+  pub query : id ≡ j.id
+  pub none : j.state.asked ≡ []
+  pub made : length j.state.steps ≡ stored + spent
+  pub some : 1 ≤ spent
+  pub less : spent < left

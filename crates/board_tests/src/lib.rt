@@ -12,4 +12,6 @@ mod play;
 #[cfg(test)]
 mod programs;
 #[cfg(test)]
+mod reports;
+#[cfg(test)]
 mod stops;

@@ -17,6 +17,9 @@ enum Call {
     HandIn(u32),
     /// The job is gone, and what it closed with is published twice.
     Late(u32),
+    /// The job is given back, the query is taken again, and the step of that is reported as if it
+    /// were of the first take.
+    Again(u32),
     Look(u32),
 }
 
@@ -25,8 +28,9 @@ enum Call {
 enum Seen {
     Took(Took),
     Back(Back),
-    /// And how many summaries there are before, between and behind.
-    Late(Back, [usize; 3]),
+    /// And how many summaries there are before, between and behind, and what the new one says.
+    Late(Back, [usize; 3], Option<How>),
+    Again([Back; 2]),
     /// The status of the query, and what is left of it.
     Query(Status, u32),
     NoQuery,
@@ -49,9 +53,10 @@ fn made(alloc: Global, play: &mut Play, call: Call) -> Result<Seen, Fail>
         Call::Take(worker, at_most) => Ok(Seen::Took(play.take(alloc, worker, at_most)?)),
         Call::HandIn(worker) => Ok(Seen::Back(play.hand_in(worker))),
         Call::Late(worker) => {
-            let (back, summaries) = play.hand_in_late(worker)?;
-            Ok(Seen::Late(back, summaries))
+            let (back, summaries, kind) = play.hand_in_late(worker)?;
+            Ok(Seen::Late(back, summaries, kind))
         }
+        Call::Again(worker) => Ok(Seen::Again(play.report_again(alloc, worker)?)),
         Call::Look(id) => Ok(look(play, id)),
     }
 }
@@ -106,6 +111,11 @@ const SHORTER: &str = "int g(int a) { return a; } int main() { int c = input(); 
      if (c > 0) { y = g(c); y = y + 1; y = y + 1; y = y - 2; } else { y = 3; } \
      assert(y != 3); return 0; }";
 
+/// The way without a call is the longer one.
+const LONGER: &str = "int g(int a) { return a; } int main() { int c = input(); int y = 0; \
+     if (c > 0) { y = g(c); } else { y = 3; y = y + 1; y = y - 1; } \
+     assert(y != 3); return 0; }";
+
 // Jobs that come late
 
 /// The parent closes, as event 4, while its child is out, and gets what is left of it.
@@ -135,11 +145,56 @@ fn what_a_gone_job_found_is_published_once(rt: HostRuntime) -> Result<(), Fail> 
         (Call::Take(1, MOST), job(1, 996, 0, How::NotMay)),
         (Call::Take(2, MOST), job(0, 997, 3, How::Must)),
         (Call::HandIn(2), DONE),
-        (Call::Late(1), Seen::Late(Back::Gone(4), [1, 2, 2])),
+        (
+            Call::Late(1),
+            Seen::Late(Back::Gone(4), [1, 2, 2], Some(How::NotMay)),
+        ),
         (Call::Look(1), Seen::Query(Status::Dropped { stamp: 4 }, 0)),
         (Call::Take(0, 1), OVER),
     ];
     assert_eq!(rt; other_answer(rt.alloc(), SHORTER, 2000, &rows)?, None);
+    Ok(())
+}
+
+/// The second child, asked where the first had no run, closes with a path while its parent fails on
+/// the other way. Its must goes behind the parent's, once.
+#[test]
+fn a_path_of_a_gone_job_is_published_once(rt: HostRuntime) -> Result<(), Fail> {
+    let rows = [
+        (Call::Take(0, MOST), job(0, 2000, 7, How::Ask)),
+        (Call::HandIn(0), DONE),
+        (Call::Take(1, MOST), job(1, 996, 0, How::NotMay)),
+        (Call::HandIn(1), DONE),
+        (Call::Take(0, MOST), job(0, 1993, 2, How::Ask)),
+        (Call::HandIn(0), DONE),
+        (Call::Take(1, MOST), job(2, 995, 3, How::Must)),
+        (Call::Take(2, MOST), job(0, 996, 7, How::Must)),
+        (Call::HandIn(2), DONE),
+        (Call::Look(0), Seen::Query(Status::Closed, 1984)),
+        (
+            Call::Late(1),
+            Seen::Late(Back::Gone(8), [2, 3, 3], Some(How::Must)),
+        ),
+        (Call::Look(2), Seen::Query(Status::Dropped { stamp: 8 }, 0)),
+        (Call::Take(0, 1), OVER),
+    ];
+    assert_eq!(rt; other_answer(rt.alloc(), LONGER, 2000, &rows)?, None);
+    Ok(())
+}
+
+/// The query was parked, as event 1, and is taken again: the answer names that Park, and the second
+/// job is still given back as what it is.
+#[test]
+fn a_job_that_was_given_back_is_gone(rt: HostRuntime) -> Result<(), Fail> {
+    let rows = [
+        (Call::Take(0, 1), job(0, 2000, 1, How::Ready)),
+        (Call::Again(0), Seen::Again([Back::Done, Back::Gone(1)])),
+        (Call::Look(0), Seen::Query(Status::Running, 1999)),
+        (Call::HandIn(0), DONE),
+        (Call::Look(0), Seen::Query(Status::Ready, 1998)),
+        (Call::Take(1, 1), job(0, 1998, 1, How::Ready)),
+    ];
+    assert_eq!(rt; other_answer(rt.alloc(), THREE_DEEP, 2000, &rows)?, None);
     Ok(())
 }
 

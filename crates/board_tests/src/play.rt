@@ -1,18 +1,18 @@
 //! A board beside the jobs that are out, each of a worker, who makes the slice as soon as he takes
 //! it and gives it back when he is told.
 
-ghost use Rattle.std.specs.Prelude.{◌≡◌, IfOk, IfSome, OnOk, Some};
-ghost use Rattle.bolt_core.specs.Boards.{HandsIn, MayBeClosed, Shown};
-ghost use Rattle.bolt_rounds.specs.Moves.{IsJustTaken, MayMove};
-ghost use Rattle.board_tests.specs.Plays.{IsPlay, MaySay, MayTake};
+ghost use Rattle.std.specs.Prelude.{◌≡◌, IfOk, IfSome, OnOk};
+ghost use Rattle.board_lock.specs.Views.{StartsWith};
+ghost use Rattle.bolt_core.specs.Boards.{Shown};
+ghost use Rattle.bolt_rounds.specs.Moves.{IsJustTaken, MayBeShown, MayMove};
+ghost use Rattle.board_tests.specs.Plays.{IsPlay, MayTake};
 
 use crate::programs::board_of;
 use bolt_core::board::Board;
-use bolt_core::job::{Gone, Job, Taken};
-use bolt_rounds::moves::{Move, Worked, hand_in, work_on};
+use bolt_core::job::{Gone, Job, Parked, Taken};
+use bolt_rounds::moves::{Move, Worked, hand_in, spare_of, work_on};
 use linear_formula::error::OutOfMemory;
 use query_rules::step::Closing;
-use query_tree::Rest;
 use std::alloc::Global;
 use std::sync::Arc;
 use std::test::Fail;
@@ -68,9 +68,9 @@ fn how_of(next: &Move) -> How {
     match next {
         Move::Ask { .. } => How::Ask,
         Move::Feed { asked } => How::Feed(*asked),
-        Move::Park(Rest::Ready) => How::Ready,
-        Move::Park(Rest::Blocked) => How::Blocked,
-        Move::Park(Rest::Starved) => How::Starved,
+        Move::Park(Parked::Ready) => How::Ready,
+        Move::Park(Parked::Blocked) => How::Blocked,
+        Move::Park(Parked::Starved) => How::Starved,
         Move::Close { how, .. } => match how {
             Closing::NotMay => How::NotMay,
             Closing::Must(_) => How::Must,
@@ -100,38 +100,26 @@ fn worked_of(
     Ok(work_on(alloc, board.graphs(), known, job, at_most)?)
 }
 
-/// The summary of a job that is closed without a path, if it holds by itself.
-fn own_summary(
-    board: &Board,
-    job: &Job,
-    how: &Closing,
-    summary: &Arc<Summary>,
-) -> Result<Option<Arc<Summary>>, OutOfMemory>
-    requires closed { MayBeClosed board.now job.now how.now }
-    requires hands { HandsIn job.now.state.query how.now (Some summary.now.value) }
-    ensures { IfOk result (λ o. IfSome o (λ s. MaySay board.now job.now.id s.value)) }
+/// What may be published of a job whose slice was made, if it is gone.
+fn spare_in(board: &Board, worked: &Worked) -> Result<Option<Arc<Summary>>, OutOfMemory>
+    ghost shown: { Shown }
+    requires shown { board.now ≡ shown }
+    requires may { MayMove board.now worked.now.job worked.now.next }
+    ensures { IfOk result (λ o. IfSome o (λ s. MayBeShown board.now worked.now.job s.value)) }
 {
     board.reached();
-    match how {
-        Closing::Must(_) | Closing::Stuck(_) => Ok(None),
-        Closing::NotMay => match job.state.lowest() {
-            Some(_) => Ok(None),
-            None => Ok(Some(summary.clone()?)),
-        },
-    }
+    spare_of(worked)
 }
 
-/// The same of a job whose slice was made.
-fn summary_of(board: &Board, worked: &Worked) -> Result<Option<Arc<Summary>>, OutOfMemory>
-    requires { MayMove board.now worked.now.job worked.now.next }
-    ensures { IfOk result (λ o. IfSome o (λ s. MaySay board.now worked.now.job.id s.value)) }
-{
-    match &worked.next {
-        Move::Close {
-            how,
-            summary: Some(summary),
-        } => own_summary(board, &worked.job, how, summary),
-        _ => Ok(None),
+/// What the summary at this place says.
+fn kind_at(table: &Table, place: usize) -> Option<How> {
+    let all = table.all();
+    if place >= all.len() {
+        return None;
+    }
+    match &*all[place] {
+        Summary::NotMay(_) => Some(How::NotMay),
+        Summary::Must(_) => Some(How::Must),
     }
 }
 
@@ -152,11 +140,12 @@ impl Play {
     }
 
     /// Keeps a job that is out.
-    fn keep(&mut self, worker: u32, worked: Worked)
+    pub fn keep(&mut self, worker: u32, worked: Worked)
         requires job { MayMove self.old.board worked.job worked.next }
         requires stands { IsPlay self.old.board self.old.asserts self.old.known
             self.old.jobs.items }
-        ensures { IsPlay self.new.board self.new.asserts self.new.known self.new.jobs.items }
+        ensures board { self.new.board ≡ self.old.board }
+        ensures stands { IsPlay self.new.board self.new.asserts self.new.known self.new.jobs.items }
     {
         let place = worker as usize;
         if place < self.jobs.len() {
@@ -165,7 +154,7 @@ impl Play {
     }
 
     /// The job of this worker, which is kept no longer.
-    fn fetch(&mut self, worker: u32) -> Option<Worked>
+    pub fn fetch(&mut self, worker: u32) -> Option<Worked>
         requires { IsPlay self.old.board self.old.asserts self.old.known self.old.jobs.items }
         ensures board { self.new.board ≡ self.old.board }
         ensures may { IfSome result (λ w. MayMove self.old.board w.job w.next) }
@@ -183,6 +172,8 @@ impl Play {
     fn take_one(&mut self, worker: u32) -> Result<Taken, OutOfMemory>
         requires { IsPlay self.old.board self.old.asserts self.old.known self.old.jobs.items }
         ensures may { IfOk result (MayTake self.new.board self.new.known.summaries) }
+        ensures more { OnOk result
+            (StartsWith self.new.board.core.history self.old.board.core.history) }
         ensures stands { OnOk result
             (IsPlay self.new.board self.new.asserts self.new.known self.new.jobs.items) }
     {
@@ -194,7 +185,9 @@ impl Play {
     /// The worker takes a query, makes a slice of at most so many steps, and keeps the job.
     pub fn take(&mut self, alloc: Global, worker: u32, at_most: u32) -> Result<Took, Fail>
         requires { IsPlay self.old.board self.old.asserts self.old.known self.old.jobs.items }
-        ensures { OnOk result
+        ensures more { OnOk result
+            (StartsWith self.new.board.core.history self.old.board.core.history) }
+        ensures stands { OnOk result
             (IsPlay self.new.board self.new.asserts self.new.known self.new.jobs.items) }
     {
         match self.take_one(worker)? {
@@ -218,7 +211,8 @@ impl Play {
     /// The worker gives his job back.
     pub fn hand_in(&mut self, worker: u32) -> Back
         requires { IsPlay self.old.board self.old.asserts self.old.known self.old.jobs.items }
-        ensures { IsPlay self.new.board self.new.asserts self.new.known self.new.jobs.items }
+        ensures more { StartsWith self.new.board.core.history self.old.board.core.history }
+        ensures stands { IsPlay self.new.board self.new.asserts self.new.known self.new.jobs.items }
     {
         let Some(worked) = self.fetch(worker) else {
             return Back::None;
@@ -230,17 +224,17 @@ impl Play {
         }
     }
 
-    /// Publishes what a gone job handed in. How many summaries there are then.
+    /// Publishes a summary of a gone job. How many there are then.
     fn say(
         &mut self,
         worker: u32,
         gone: &Gone,
         summary: &Arc<Summary>,
     ) -> Result<usize, OutOfMemory>
-        requires say { MaySay self.old.board gone.now.job.id summary.now.value }
+        requires say { MayBeShown self.old.board gone.now.job summary.now.value }
         requires stands { IsPlay self.old.board self.old.asserts self.old.known
             self.old.jobs.items }
-        ensures say { OnOk result (MaySay self.new.board gone.now.job.id summary.now.value) }
+        ensures say { OnOk result (MayBeShown self.new.board gone.now.job summary.now.value) }
         ensures stands { OnOk result
             (IsPlay self.new.board self.new.asserts self.new.known self.new.jobs.items) }
     {
@@ -250,17 +244,18 @@ impl Play {
         Ok(self.board.table().all().len())
     }
 
-    /// The worker gives his job back, and where it is gone publishes its summary twice. How many
-    /// summaries there are before, between and behind.
-    pub fn hand_in_late(&mut self, worker: u32) -> Result<(Back, [usize; 3]), Fail>
+    /// The worker gives his job back, and where it is gone publishes what it closed with, twice.
+    /// How many summaries there are before, between and behind, and what the first of them that
+    /// is new says.
+    pub fn hand_in_late(&mut self, worker: u32) -> Result<(Back, [usize; 3], Option<How>), Fail>
         requires { IsPlay self.old.board self.old.asserts self.old.known self.old.jobs.items }
         ensures { OnOk result
             (IsPlay self.new.board self.new.asserts self.new.known self.new.jobs.items) }
     {
         let Some(worked) = self.fetch(worker) else {
-            return Ok((Back::None, [0; 3]));
+            return Ok((Back::None, [0; 3], None));
         };
-        let Some(summary) = summary_of(&self.board, &worked)? else {
+        let Some(summary) = spare_in(&self.board, &worked)? else {
             return Err(Fail::new("nothing to publish"));
         };
         self.board.reached();
@@ -270,7 +265,8 @@ impl Play {
         };
         let between = self.say(worker, &gone, &summary)?;
         let behind = self.say(worker, &gone, &summary)?;
-        Ok((Back::Gone(gone.event), [before, between, behind]))
+        let kind = kind_at(self.board.table(), before);
+        Ok((Back::Gone(gone.event), [before, between, behind], kind))
     }
 
     pub fn stop(&mut self, worker: u32)

@@ -32,6 +32,7 @@ pub mod JobsTaken
 pub mod Going
 pub mod Walk
 pub mod Parking
+pub mod Storing
 pub mod LastFeeds
 pub mod Beginning
 pub mod Asking

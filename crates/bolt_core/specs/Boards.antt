@@ -281,6 +281,12 @@ pub record IsGone (old new : Shown) (j : Given) (gone : GoneJob) : Type 0 where
   pub job : gone.job ≡ j
   pub first : IsFirstEnd old.core j.id j.taken gone.event
 
+-- what was handed in is stored: the query's entry keeps this state
+pub record IsStored (b : Shown) (id : ℕ) (s : Seen) : Type 0 where
+  pub own : Entry Seen
+  pub at : slice_get b.core.entries id ≡ Some own
+  pub payload : own.payload ≡ Some s
+
 -- What the calls ask
 
 pub record MayBeParked (b : Shown) (j : Given) (r : Rest) : Type 0 where

@@ -1,9 +1,9 @@
 //! Queries that are closed, and what is published of them.
 
-ghost use Rattle.std.specs.Prelude.{◌≡◌, ℕ, suc, ◌<◌, ◌≤◌, ◌^◌, ◌++◌, List, [], length, map, Some, false, slice_get, MatchResult};
+ghost use Rattle.std.specs.Prelude.{◌≡◌, ℕ, suc, ◌<◌, ◌≤◌, ◌^◌, ◌++◌, List, [], length, map, Some, false, slice_get, IfOk, MatchResult};
 ghost use Rattle.std.specs.Option.{option_map};
 ghost use Rattle.query_tree.specs.Forest.{changed, is_place};
-ghost use Rattle.bolt_core.specs.Boards.{HandsIn, IsClosedBy, IsGone, MayBeClosed, SameProgram, node_of};
+ghost use Rattle.bolt_core.specs.Boards.{HandsIn, IsClosedBy, IsGone, IsStored, MayBeClosed, SameProgram, node_of};
 ghost use Rattle.bolt_core.specs.Groups.{group, leans_within};
 ghost use Rattle.bolt_core.specs.declared.slot.Slot.{Slot as ASlot};
 ghost use Rattle.bolt_core.specs.steps.Closes.{IsGroupOf, Settles, appended_by, closed_as, done, is_below, joins_now, kept_slot, members_on, only_at, settled_slot, shown_slot, summaries_in, told_of, value_of};
@@ -226,6 +226,7 @@ impl Board {
         ensures same { SameProgram self.old self.new }
         ensures closed { MatchResult result (λ _. IsClosedBy self.old worker job how self.new)
             (λ gone. IsGone self.old self.new job gone) }
+        ensures stored { IfOk result (λ _. IsStored self.new job.id job.state) }
     {
         if let Some(event) = self.ended(job.id, job.taken) {
             return Err(Gone { event, job });

@@ -1,7 +1,8 @@
 //! Events of a board.
 
+use crate::job::Parked;
 use crate::slot::ClosedAs;
-use query_tree::{QueryId, Rest};
+use query_tree::QueryId;
 
 /// An event, with what it tells. `left` is what was left of the query at the take, `steps` its
 /// stored steps, and `waiting` says whether some child was open and not Starved; `spent` counts the
@@ -37,7 +38,7 @@ pub enum Event {
         worker: u32,
         id: QueryId,
         spent: u32,
-        rest: Rest,
+        rest: Parked,
     },
     /// The query is closed so, and `more` summaries were appended from this place on.
     Close {

@@ -1,19 +1,19 @@
 //! Jobs that are given back: asked, fed and parked.
 
-ghost use Rattle.std.specs.Prelude.{◌≡◌, ◌<◌, MatchOption, MatchResult, length};
-ghost use Rattle.bolt_core.specs.Boards.{IsFedBy, IsGone, MayAsk, MayBeParked, MayFeed, SameProgram};
+ghost use Rattle.std.specs.Prelude.{◌≡◌, ◌<◌, IfOk, MatchOption, MatchResult, length};
+ghost use Rattle.bolt_core.specs.Boards.{IsFedBy, IsGone, IsStored, MayAsk, MayBeParked, MayFeed, SameProgram};
 ghost use Rattle.bolt_core.specs.Histories.{WasTaken, asked, parked};
 ghost use Rattle.bolt_core.specs.Keeps.{IsFirstEnd, IsNow};
-ghost use Rattle.bolt_core.specs.Machine.{Event as IsEvent};
+ghost use Rattle.bolt_core.specs.Machine.{Event as IsEvent, told_child};
 ghost use Rattle.bolt_core.specs.States.{reads};
 ghost use Rattle.bolt_core.specs.steps.Ends.{is_dropped_by, is_end};
 
 use crate::board::Board;
 use crate::event::Event;
-use crate::job::{Gone, Job};
+use crate::job::{Gone, Job, Parked};
 use crate::slot::Slot;
 use query_rules::state::QueryState;
-use query_tree::{Lent, QueryId, Rest, Status};
+use query_tree::{Lent, QueryId, Status};
 use std::sync::Arc;
 use summary_form::query::Query;
 
@@ -59,13 +59,14 @@ impl Board {
 
     /// Gives a job back: to be taken again, to wait until a child closes or becomes Starved, or
     /// since nothing is left of it.
-    pub fn park(&mut self, worker: u32, job: Job, rest: Rest) -> Result<(), Gone>
+    pub fn park(&mut self, worker: u32, job: Job, rest: Parked) -> Result<(), Gone>
         requires job { MayBeParked self.old job rest }
         ensures same { SameProgram self.old self.new }
         ensures parked { MatchResult result
             (λ _. IsEvent (reads self.old.graphs) self.old.core
             (parked worker job.id job.spent rest) self.new.core)
             (λ gone. IsGone self.old self.new job gone) }
+        ensures stored { IfOk result (λ _. IsStored self.new job.id job.state) }
     {
         if let Some(event) = self.ended(job.id, job.taken) {
             return Err(Gone { event, job });
@@ -101,6 +102,7 @@ impl Board {
         ensures same { SameProgram self.old self.new }
         ensures fed { MatchResult result (λ _. IsFedBy self.old worker job asked self.new)
             (λ gone. IsGone self.old self.new job gone) }
+        ensures stored { IfOk result (λ _. IsStored self.new job.id job.state) }
     {
         if let Some(event) = self.ended(job.id, job.taken) {
             return Err(Gone { event, job });
@@ -146,6 +148,8 @@ impl Board {
             (asked worker job.id job.spent (length self.old.core.entries) query.value)
             self.new.core)
             (λ gone. IsGone self.old self.new job gone) }
+        ensures stored { IfOk result (λ _. IsStored self.new job.id
+            (told_child (reads self.old.graphs) job.state (length self.old.core.entries))) }
     {
         if let Some(event) = self.ended(job.id, job.taken) {
             return Err(Gone { event, job });

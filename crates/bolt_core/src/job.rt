@@ -4,6 +4,10 @@ use query_rules::state::QueryState;
 use query_tree::QueryId;
 use shadow_elim::limit::LimitKind;
 
+/// How a job is parked: to be taken again, to wait until a child closes or becomes Starved, or
+/// since nothing is left of its query.
+pub use query_tree::Rest as Parked;
+
 /// A query that was taken. `taken` is the place of that event in the history, `left` counts the
 /// steps that may be made, and `spent` those that were made since.
 #[derive(Drop)]

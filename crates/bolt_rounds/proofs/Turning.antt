@@ -1,5 +1,5 @@
 -- Turns of a worker who works alone: what is taken is given back.
-use Rattle.std.proofs.Common.{◌≡◌, ℕ, suc, ◌+◌, ◌*◌, ◌≤◌, List, [], ◌∷◌, ◌++◌, length, Bool, true, false, Some, refl, sym, ap, ◌∙◌, subst, inl, ⊎_elim, arith}
+use Rattle.std.proofs.Common.{◌≡◌, ◌⊎◌, ℕ, suc, ◌+◌, ◌*◌, ◌≤◌, List, [], ◌∷◌, ◌++◌, length, Bool, true, false, Some, refl, sym, ap, ◌∙◌, subst, inl, inr, ⊎_elim, arith}
 use Rattle.std.specs.Prelude.{slice_get}
 use Rattle.std.proofs.lemmas.Bool.{eq-eqb}
 use Rattle.std.proofs.lemmas.List.{append-nil, length_push}
@@ -11,18 +11,19 @@ use Rattle.summary_table.specs.Tables.{StartsWith}
 use Rattle.bolt_core.specs.declared.job.Gone.{Gone as GoneJob}
 use Rattle.bolt_core.specs.declared.job.Job.{Job as Given}
 use Rattle.bolt_core.specs.Boards.{IsBoard, IsBusy, IsGone, IsTaken, SameProgram, Shown, most_queries}
-use Rattle.bolt_core.specs.Histories.{Told, asked, closed, fed, gives_back, parked, said, stopped, took}
+use Rattle.bolt_core.specs.Histories.{Told, WasTaken, asked, closed, fed, gives_back, parked, said, stopped, took}
 use Rattle.bolt_core.specs.Keeps.{IsNow}
 use Rattle.bolt_core.specs.Machine.{Core, Event, Reached, Reads, closed_how, empty_board, opening}
 use Rattle.bolt_core.specs.States.{reads}
 use Rattle.bolt_core.proofs.BoardKeeps.{board_keeps, nodes_of}
+use Rattle.bolt_core.proofs.Ending.{end_more, event_frame}
 use Rattle.bolt_core.proofs.Going.{board_queries, goes_on}
 use Rattle.bolt_core.proofs.Nodes.{table_within}
 use Rattle.bolt_core.proofs.Reserve.{event_history}
 use Rattle.bolt_rounds.specs.declared.moves.Move.{Move}
 use Rattle.bolt_rounds.specs.declared.moves.Move.TheVariants as move
 use Rattle.bolt_rounds.specs.Moves.{IsJustTaken, IsMoved}
-use Rattle.bolt_rounds.specs.steps.Turning.{AreBack, GivesBack, HasTurned, IsBack}
+use Rattle.bolt_rounds.specs.steps.Turning.{AreBack, AreBackBut, GivesBack, HasTurned, IsBack}
 
 -- What is given back
 module _ (old new : Shown) (w : ℕ) (j : Given) where
@@ -31,7 +32,7 @@ module _ (old new : Shown) (w : ℕ) (j : Given) where
     pub event : Event (reads old.graphs) old.core told new.core
     pub back : gives_back j.id told ≡ true
 
-  moved_back : (m : Move) → IsMoved old w j m new → IsGiven
+  pub moved_back : (m : Move) → IsMoved old w j m new → IsGiven
   moved_back (move.Ask child query) e =
       record { told = asked w j.id j.spent (length old.core.entries) query.value; event = e; back = eq-eqb j.id j.id refl }
   moved_back (move.Feed number) e =
@@ -71,6 +72,9 @@ module _ (old new : Shown) (w : ℕ) (j : Given) (h : IsBoard old) (t : IsTaken 
       ap (λ l. slice_get l j.taken) history_is
       ∙ (ap (slice_get (old.core.history ++ e ∷ [])) t.place ∙ get_pushed old.core.history e)
 
+  pub was_taken : WasTaken new.core.history j.id j.taken
+  was_taken = record { worker = w; left = j.left; steps = t.stored; waiting = t.waiting; at = take_stands }
+
   pub taken_now : IsNow new.core j.id j.taken
   taken_now =
       let g = goes_on old e new.core h t.event (omega (arith, within old.core.entries j.id t.event.own t.event.at)) in
@@ -98,62 +102,95 @@ module _ (old new : Shown) (w : ℕ) (j : Given) (h : IsBoard old) (t : IsTaken 
         waits = λ i a at is. same ∙ t.waits i a at is;
       }
 
--- Histories
+-- Which takes came back
 
-more_back : (h : List Told) (e : Told) (i t : ℕ) → IsBack h i t → IsBack (h ++ e ∷ []) i t
-more_back h e i t b = record {
-  place = b.place;
-  event = b.event;
-  after = b.after;
-  at = to_pushed h e b.place b.event b.at;
-  back = b.back;
-}
-
--- a take, and the event that gives it back
-back_twice : (h : List Told) (w i left steps : ℕ) (waiting : Bool) (e : Told) → AreBack h → gives_back i e ≡ true →
-    AreBack ((h ++ took w i left steps waiting ∷ []) ++ e ∷ [])
-back_twice h w i left steps waiting e b g = record { all = each } where
-  d : Told
-  d = took w i left steps waiting
-
-  mid : List Told
-  mid = h ++ d ∷ []
-
-  no_take : (v k n m : ℕ) (u : Bool) → took v k n m u ≡ e → ⊥
-  no_take v k n m u is = let f : false ≡ true = ap (gives_back i) is ∙ g in absurd (cc)
-
-  each : (t v k n m : ℕ) (u : Bool) → slice_get (mid ++ e ∷ []) t ≡ Some (took v k n m u) → IsBack (mid ++ e ∷ []) k t
-  each t v k n m u at = ⊎_elim
-      (λ a. ⊎_elim
-      (λ o. more_back mid e k t (more_back h d k t (b.all t v k n m u o)))
-      (λ o.
-      let is : took v k n m u ≡ d = o.1 in
+module _ (c : Core Seen) (IsOut IsLess : ℕ → Type 0) (i taken : ℕ) (at : WasTaken c.history i taken) (b : IsBack c i taken) where
+  same_take : (t w k left steps : ℕ) (waiting : Bool) → slice_get c.history t ≡ Some (took w k left steps waiting) → t ≡ taken →
+      IsBack c k t
+  same_take t w k left steps waiting here e =
+      let one : Some (took w k left steps waiting) ≡ Some (took at.worker i at.left at.steps at.waiting) =
+      sym here ∙ (ap (slice_get c.history) e ∙ at.at) in
       let same : i ≡ k = cc in
-      record {
-        place = length mid;
-        event = e;
-        after = omega (arith, o.0, length_push h d);
-        at = get_pushed mid e;
-        back = subst (λ x. gives_back x e ≡ true) same g;
-      })
-      (from_pushed h d t (took v k n m u) a))
-      (λ a. absurd (no_take v k n m u a.1))
-      (from_pushed mid e t (took v k n m u) at)
+      subst (IsBack c k) (sym e) (subst (λ (m : ℕ). IsBack c m taken) same b)
 
-pub none_back : (h : List Told) → h ≡ [] → AreBack h
-none_back h e = record {
+  -- a take that came back is out no more
+  pub less_out : ((t : ℕ) → IsOut t → IsLess t ⊎ (t ≡ taken)) → AreBackBut c IsOut → AreBackBut c IsLess
+  less_out less h = record {
+    all = λ t w k left steps waiting here. ⊎_elim
+        (λ x. inl x)
+        (λ o. ⊎_elim (λ l. inr l) (λ e. inl (same_take t w k left steps waiting here e)) (less t o))
+        (h.all t w k left steps waiting here);
+  }
+
+module _ (R : Reads Seen) (old new : Core Seen) (e : Told) (v : Event R old e new) where
+  still_back : (i t : ℕ) → IsBack old i t → IsBack new i t
+  still_back i t b = record {
+    place = b.place;
+    after = b.after;
+    is_end = end_more old new e (event_frame R old new e v) (event_history R old new e v) i b.place b.is_end;
+  }
+
+  -- an event takes at most one query, and what came back is back
+  pub outs_more : (IsOut IsMore : ℕ → Type 0) → ((t : ℕ) → IsOut t → IsMore t) →
+      ((w i left steps : ℕ) (waiting : Bool) → e ≡ took w i left steps waiting → IsMore (length old.history)) →
+      AreBackBut old IsOut → AreBackBut new IsMore
+  outs_more IsOut IsMore stay fresh h = record {
+    all = λ t w k left steps waiting here. ⊎_elim
+        (λ at. ⊎_elim (λ b. inl (still_back k t b)) (λ o. inr (stay t o)) (h.all t w k left steps waiting at))
+        (λ o. inr (subst IsMore (sym o.0) (fresh w k left steps waiting (sym o.1))))
+        (from_pushed old.history e t (took w k left steps waiting)
+        (ap (λ (l : List Told). slice_get l t) (sym (event_history R old new e v)) ∙ here));
+  }
+
+  module _ (i taken : ℕ) (at : WasTaken old.history i taken) (g : gives_back i e ≡ true) where
+    at_end : slice_get new.history (length old.history) ≡ Some e
+    at_end = ap (λ (l : List Told). slice_get l (length old.history)) (event_history R old new e v) ∙ get_pushed old.history e
+
+    now_back : IsBack new i taken
+    now_back = record {
+      place = length old.history;
+      after = within old.history taken _ at.at;
+      is_end = record { event = e; at = at_end; ends = inl g };
+    }
+
+    taken_still : WasTaken new.history i taken
+    taken_still = record {
+      worker = at.worker;
+      left = at.left;
+      steps = at.steps;
+      waiting = at.waiting;
+      at = ap (λ (l : List Told). slice_get l taken) (event_history R old new e v) ∙ to_pushed old.history e taken _ at.at;
+    }
+
+    -- an event that gives a query back
+    pub back_in : (IsOut IsLess : ℕ → Type 0) → ((t : ℕ) → IsOut t → IsLess t ⊎ (t ≡ taken)) → AreBackBut old IsOut →
+        AreBackBut new IsLess
+    back_in IsOut IsLess less h = less_out new IsOut IsLess i taken taken_still now_back less
+        (outs_more IsOut IsOut (λ t o. o)
+        (λ w k left steps waiting is. let f : false ≡ true = sym (ap (gives_back i) is) ∙ g in absurd (cc)) h)
+
+-- a take is out
+pub take_out : (old new : Shown) (w : ℕ) (j : Given) → IsTaken old w new j → (IsOut IsMore : ℕ → Type 0) →
+    ((t : ℕ) → IsOut t → IsMore t) → IsMore j.taken → AreBackBut old.core IsOut → AreBackBut new.core IsMore
+take_out old new w j t IsOut IsMore stay own =
+    outs_more (reads old.graphs) old.core new.core (took w j.id j.left t.stored t.waiting) t.event IsOut IsMore stay
+    (λ v k left steps waiting is. subst IsMore t.place own)
+
+pub none_back : (c : Core Seen) → c.history ≡ [] → AreBack c
+none_back c e = record {
   all = λ t w i left steps waiting at.
       let no' : slice_get [] t ≡ Some (took w i left steps waiting) = ap (λ (l : List Told). slice_get l t) (sym e) ∙ at in absurd (cc);
 }
 
--- where all was given back no query is Running
-pub never_idle : (b : Shown) → IsBoard b → AreBack b.core.history → IsBusy b.core.entries → ⊥
+-- where each take came back no query is Running
+pub never_idle : (b : Shown) → IsBoard b → AreBack b.core → IsBusy b.core.entries → ⊥
 never_idle b h back y =
     let k = board_keeps b h in
     let l = k.linked.linked y.id y.own y.at y.running in
-    let x = back.all l.taken l.worker y.id y.own.lent y.own.spent y.own.waiting l.at in
-    k.ended.going l.taken y.id (record { own = y.own; at = y.at; running = y.running; last = l.last }) x.place x.after
-    (record { event = x.event; at = x.at; ends = inl x.back })
+    ⊎_elim
+    (λ (x : IsBack b.core y.id l.taken).
+    k.ended.going l.taken y.id (record { own = y.own; at = y.at; running = y.running; last = l.last }) x.place x.after x.is_end)
+    (λ no'. no') (back.all l.taken l.worker y.id y.own.lent y.own.spent y.own.waiting l.at)
 
 -- Events
 
@@ -164,7 +201,7 @@ pub starts_self : (ts : List Summary) → StartsWith ts ts
 starts_self ts = record { rest = []; is = sym (append-nil ts) }
 
 module _ {S : Type 0} (R : Reads S) (old new : Core S) where
-  back_going : (i : ℕ) (e : Told) → Event R old e new → gives_back i e ≡ true → new.is_stopped ≡ old.is_stopped
+  pub back_going : (i : ℕ) (e : Told) → Event R old e new → gives_back i e ≡ true → new.is_stopped ≡ old.is_stopped
   back_going i (took w k left steps waiting) t g = absurd (cc)
   back_going i (said w k s) t g = absurd (cc)
   back_going i (asked w k n c q) t g = ap (λ (c : Core S). c.is_stopped) t.new_is
@@ -179,14 +216,15 @@ module _ {S : Type 0} (R : Reads S) (old new : Core S) where
   same_table : new.table ≡ old.table → StartsWith new.table old.table
   same_table e = grown_by [] (e ∙ sym (append-nil old.table))
 
-  back_front : (i : ℕ) (e : Told) → Event R old e new → gives_back i e ≡ true → StartsWith new.table old.table
-  back_front i (took w k left steps waiting) t g = absurd (cc)
-  back_front i (said w k s) t g = absurd (cc)
-  back_front i (asked w k n c q) t g = grown_by [] (ap (λ (c : Core S). c.table) t.new_is)
-  back_front i (fed w k n c) t g = same_table (ap (λ (c : Core S). c.table) t.new_is)
-  back_front i (parked w k n r) t g = same_table (ap (λ (c : Core S). c.table) t.new_is)
-  back_front i (closed w k n how ss) t g = grown_by ss (ap (λ (c : Core S). c.table) t.new_is)
-  back_front i (stopped w) t g = absurd (cc)
+  -- a table only grows
+  pub event_front : (e : Told) → Event R old e new → StartsWith new.table old.table
+  event_front (took w k left steps waiting) t = same_table (ap (λ (c : Core S). c.table) t.new_is)
+  event_front (said w k s) t = grown_by (s ∷ []) (ap (λ (c : Core S). c.table) t.new_is)
+  event_front (asked w k n c q) t = grown_by [] (ap (λ (c : Core S). c.table) t.new_is)
+  event_front (fed w k n c) t = same_table (ap (λ (c : Core S). c.table) t.new_is)
+  event_front (parked w k n r) t = same_table (ap (λ (c : Core S). c.table) t.new_is)
+  event_front (closed w k n how ss) t = grown_by ss (ap (λ (c : Core S). c.table) t.new_is)
+  event_front (stopped w) t = same_table (ap (λ (c : Core S). c.table) t.2)
 
 pub same_most : (a b : Shown) → SameProgram a b → most_queries b ≡ most_queries a
 same_most a b s = ap (λ n. n * b.budget + n) s.asserts ∙ ap (λ m. a.asserts * m + a.asserts) s.budget
@@ -205,9 +243,6 @@ module _ (old mid new : Shown) (w : ℕ) (j : Given) (known : List Summary) (h :
   event_is : new.core.history ≡ mid.core.history ++ g.told ∷ []
   event_is = event_history (reads mid.graphs) mid.core new.core g.told g.event
 
-  histories : new.core.history ≡ (old.core.history ++ took w j.id j.left t.stored t.waiting ∷ []) ++ g.told ∷ []
-  histories = event_is ∙ ap (λ l. l ++ g.told ∷ []) (history_is old mid w j h t)
-
   mid_length : length mid.core.history ≡ suc (length old.core.history)
   mid_length =
       let d : Told = took w j.id j.left t.stored t.waiting in
@@ -216,15 +251,16 @@ module _ (old mid new : Shown) (w : ℕ) (j : Given) (known : List Summary) (h :
   new_length : length new.core.history ≡ suc (length mid.core.history)
   new_length = omega (arith, ap (λ (l : List Told). length l) event_is, length_push mid.core.history g.told)
 
-  pub has_turned : AreBack old.core.history → old.core.is_stopped ≡ false → SameProgram mid new → known ≡ old.core.table →
+  pub has_turned : AreBack old.core → old.core.is_stopped ≡ false → SameProgram mid new → known ≡ mid.core.table →
       HasTurned old known new
   has_turned back going same is = record {
-    back = subst AreBack (sym histories)
-        (back_twice old.core.history w j.id j.left t.stored t.waiting g.told back g.back);
+    back = back_in (reads mid.graphs) mid.core new.core g.told g.event j.id j.taken (was_taken old mid w j h t) g.back
+        (λ n. ⊥ ⊎ (n ≡ j.taken)) (λ n. ⊥) (λ n o. o)
+        (take_out old mid w j t (λ n. ⊥) (λ n. ⊥ ⊎ (n ≡ j.taken)) (λ n o. inl o) (inr refl) back);
     going = back_going (reads mid.graphs) mid.core new.core j.id g.told g.event g.back
         ∙ (ap (λ (c : Core Seen). c.is_stopped) t.event.new_is ∙ going);
-    front = subst (StartsWith new.core.table) (ap (λ (c : Core Seen). c.table) t.event.new_is ∙ sym is)
-        (back_front (reads mid.graphs) mid.core new.core j.id g.told g.event g.back);
+    front = subst (StartsWith new.core.table) (sym is)
+        (event_front (reads mid.graphs) mid.core new.core g.told g.event);
     more = omega (arith, mid_length, new_length);
     few = omega (arith, new_length, g.fits, same_most mid new same);
   }

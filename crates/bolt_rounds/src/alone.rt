@@ -9,7 +9,7 @@ ghost use Rattle.bolt_core.specs.States.{reads};
 ghost use Rattle.bolt_rounds.specs.Moves.{IsJustTaken};
 ghost use Rattle.bolt_rounds.specs.steps.Turning.{AreBack, GivesBack, IsTurned};
 
-use crate::moves::{hand_in, work_on};
+use crate::moves::{fetch, hand_in, work_on};
 use bolt_core::board::Board;
 use bolt_core::job::{Job, Taken};
 use linear_formula::error::OutOfMemory;
@@ -41,7 +41,7 @@ fn do_job(alloc: Global, board: &mut Board, known: &Table, job: Job) -> Result<(
 /// Takes a query, makes its slice and gives it back: two events. Whether there was one; else the
 /// board is over.
 fn turn(alloc: Global, board: &mut Board, known: &mut Table) -> Result<bool, OutOfMemory>
-    requires back { AreBack board.old.core.history }
+    requires back { AreBack board.old.core }
     requires going { board.old.core.is_stopped ≡ false }
     requires room { known.old.room ≡ most_queries board.old }
     requires front { StartsWith board.old.core.table known.old.summaries }
@@ -50,9 +50,7 @@ fn turn(alloc: Global, board: &mut Board, known: &mut Table) -> Result<bool, Out
     ensures turned { IfOk result
         (λ more. IsTurned board.old known.new.summaries more board.new) }
 {
-    board.reached();
-    board.bring(known)?;
-    match board.take(WORKER, known) {
+    match fetch(board, WORKER, known)? {
         Taken::Over => Ok(false),
         Taken::Idle => unreachable!(),
         Taken::Job(job) => {

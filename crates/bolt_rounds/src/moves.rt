@@ -1,13 +1,14 @@
-//! A job's slice, and the call of the board that gives the job back.
+//! The calls of the board that take a job and give it back, and the job's slice between them.
 
-ghost use Rattle.std.specs.Prelude.{◌≡◌, ◌≤◌, ◌++◌, ◌∷◌, [], IfOk, MatchResult, map};
+ghost use Rattle.std.specs.Prelude.{◌≡◌, ◌≤◌, ◌++◌, ◌∷◌, [], IfOk, IfSome, MatchResult, OnOk, map};
 ghost use Rattle.std.specs.Option.{option_map};
-ghost use Rattle.bolt_core.specs.Boards.{HandsIn, IsBoard, IsGone, SameProgram, Shown};
-ghost use Rattle.bolt_rounds.specs.Moves.{IsJustTaken, IsMoved, MayMove};
+ghost use Rattle.summary_table.specs.Tables.{StartsWith};
+ghost use Rattle.bolt_core.specs.Boards.{Gives, HandsIn, IsBoard, IsGone, SameProgram, Shown, most_queries};
+ghost use Rattle.bolt_rounds.specs.Moves.{IsJustTaken, IsMade, IsMoved, MayBeShown, MayMove, MovesKeep, WasJustTaken, spare};
 ghost use Rattle.bolt_rounds.specs.steps.Moving.{HasAskedLast, IsAskOf, IsMoveOf, MayEnd};
 
 use bolt_core::board::Board;
-use bolt_core::job::{Gone, Job};
+use bolt_core::job::{Gone, Job, Taken};
 use flow_graph::graphs::Graphs;
 use linear_formula::error::OutOfMemory;
 use punch_step::slice::{SliceEnd, Sliced, slice};
@@ -46,6 +47,28 @@ pub enum Move {
 pub struct Worked {
     pub job: Job,
     pub next: Move,
+}
+
+/// A job whose slice was made, and what may be published of it if it is gone.
+#[derive(Drop)]
+pub struct Made {
+    pub worked: Worked,
+    pub spare: Option<Arc<Summary>>,
+}
+
+/// Brings a table up to the board's, and takes a query. After want of memory none is taken.
+pub(crate) fn fetch(board: &mut Board, worker: u32, known: &mut Table) -> Result<Taken, OutOfMemory>
+    requires room { known.old.room ≡ most_queries board.old }
+    requires front { StartsWith board.old.core.table known.old.summaries }
+    ensures same { SameProgram board.old board.new }
+    ensures board { IsBoard board.old }
+    ensures room { known.new.room ≡ known.old.room }
+    ensures taken { IfOk result (Gives board.old worker board.new) }
+    ensures known { OnOk result (known.new.summaries ≡ board.new.core.table) }
+{
+    board.reached();
+    board.bring(known)?;
+    Ok(board.take(worker, known))
 }
 
 /// The queries above a child of the state's query.
@@ -113,24 +136,19 @@ fn move_of(
     }
 }
 
-/// Makes a slice of a job that was just taken of the board, of at most so many steps. `known` is
-/// the board's table. What the call of the board needs is made here, so that the call takes no
-/// memory.
-pub fn work_on(
+/// Makes a slice of a job that was just taken of some board, of at most so many steps.
+fn worked_by(
     alloc: Global,
     graphs: &Graphs,
     known: &Table,
     job: Job,
     at_most: u32,
 ) -> Result<Worked, OutOfMemory>
-    ghost board: { Shown }
-    requires board { IsBoard board }
-    requires graphs { graphs.now.graphs ≡ board.graphs }
-    requires known { known.now.summaries ≡ board.core.table }
-    requires job { IsJustTaken board job }
+    requires job { WasJustTaken graphs.now.graphs known.now.summaries job }
     requires at_most { 1 ≤ at_most }
     ensures same { IfOk result (λ w. (w.job.id ≡ job.id) × (w.job.taken ≡ job.taken)) }
-    ensures may { IfOk result (λ w. MayMove board w.job w.next) }
+    ensures may { IfOk result (λ w. (b : Shown) → IsBoard b → graphs.now.graphs ≡ b.graphs →
+        known.now.summaries ≡ b.core.table → IsJustTaken b job → MayMove b w.job w.next) }
 {
     let Job {
         id,
@@ -151,6 +169,28 @@ pub fn work_on(
     Ok(Worked { job, next })
 }
 
+/// Makes a slice of a job that was just taken of the board, of at most so many steps. `known` is
+/// the board's table. What the call of the board needs is made here, so that the call takes no
+/// memory.
+pub fn work_on(
+    alloc: Global,
+    graphs: &Graphs,
+    known: &Table,
+    job: Job,
+    at_most: u32,
+) -> Result<Worked, OutOfMemory>
+    ghost board: { Shown }
+    requires board { IsBoard board }
+    requires graphs { graphs.now.graphs ≡ board.graphs }
+    requires known { known.now.summaries ≡ board.core.table }
+    requires job { IsJustTaken board job }
+    requires at_most { 1 ≤ at_most }
+    ensures same { IfOk result (λ w. (w.job.id ≡ job.id) × (w.job.taken ≡ job.taken)) }
+    ensures may { IfOk result (λ w. MayMove board w.job w.next) }
+{
+    worked_by(alloc, graphs, known, job, at_most)
+}
+
 /// Gives the job back to the board: one event, or none where the job is gone.
 pub fn hand_in(board: &mut Board, worker: u32, worked: Worked) -> Result<(), Gone>
     requires { MayMove board.old worked.job worked.next }
@@ -167,3 +207,52 @@ pub fn hand_in(board: &mut Board, worker: u32, worked: Worked) -> Result<(), Gon
         Move::Close { how, summary } => board.close(worker, job, how, summary),
     }
 }
+
+/// What may be published of the job if it is gone, where it may be given back as it says.
+fn spare_by(worked: &Worked) -> Result<Option<Arc<Summary>>, OutOfMemory>
+    ensures { IfOk result (λ s. (b : Shown) → MayMove b worked.now.job worked.now.next →
+        option_map (λ a. a.value) s ≡ spare worked.now.job worked.now.next) }
+{
+    let Move::Close {
+        how,
+        summary: Some(summary),
+    } = &worked.next
+    else {
+        return Ok(None);
+    };
+    match how {
+        Closing::NotMay if worked.job.state.lowest().is_some() => Ok(None),
+        Closing::NotMay | Closing::Must(_) => Ok(Some(summary.clone()?)),
+        Closing::Stuck(_) => Ok(None),
+    }
+}
+
+/// What may be published of the job if it is gone. It is made before the job is given back, so that
+/// nothing takes memory then.
+pub fn spare_of(worked: &Worked) -> Result<Option<Arc<Summary>>, OutOfMemory>
+    ghost board: { Shown }
+    requires board { IsBoard board }
+    requires may { MayMove board worked.now.job worked.now.next }
+    ensures which { IfOk result
+        (λ s. option_map (λ a. a.value) s ≡ spare worked.now.job worked.now.next) }
+    ensures shown { IfOk result (λ s. IfSome s (λ a. MayBeShown board worked.now.job a.value)) }
+{
+    spare_by(worked)
+}
+
+/// Makes a slice of a job that was just taken of some board, as `work_on` and `spare_of` do. It is
+/// for callers who have no board at hand.
+pub fn make(alloc: Global, graphs: &Graphs, known: &Table, job: Job) -> Result<Made, OutOfMemory>
+    requires { WasJustTaken graphs.now.graphs known.now.summaries job }
+    ensures { IfOk result (IsMade graphs.now.graphs known.now.summaries job) }
+{
+    let worked = worked_by(alloc, graphs, known, job, u32::MAX)?;
+    let spare = spare_by(&worked)?;
+    Ok(Made { worked, spare })
+}
+
+/// What a call asks of a job, and what may be published of it, is kept behind any further events.
+/// It does nothing.
+pub fn moves_keep()
+    ensures { MovesKeep }
+{}

@@ -13,3 +13,10 @@ pub mod Branching
 pub mod Settling
 pub mod Marking
 pub mod Renumbering
+pub mod Covering
+pub mod Strongest
+pub mod Covered
+pub mod Merging
+pub mod BranchRows
+pub mod Chains
+pub mod TableEntries

@@ -20,6 +20,7 @@ use Rattle.lia_solver.specs.declared.branch.BranchOutcome.{BranchOutcome}
 use Rattle.lia_solver.specs.declared.branch.BranchOutcome.TheVariants as branch
 use Rattle.lia_solver.specs.steps.Branches.{chosen_by, IfValues, IfSplit, branch_rows, IsRightOutcome, IsBranch}
 use Rattle.lia_solver.specs.steps.Choices.{CanChoose, columns_of_values, columns_of_stages}
+use Rattle.lia_solver.specs.steps.Merged.{SaySame}
 use Rattle.lia_solver.specs.steps.Settling.{IsEliminated, IsSettled}
 use Rattle.lia_solver.proofs.Choosing.{columns-are}
 use Rattle.lia_solver.proofs.Starting.{base-can, base-ascending, base-chosen, outcome-refuted, outcome-wide, outcome-too_many}
@@ -63,7 +64,7 @@ none-found (s ∷ rs) h = by_test (λ k. none-found rs k) (is_contradiction s.te
 pub settled-refuted : (atoms : List Atom) (e : Elimination) (r : Row) → IsEliminated atoms e → IsFound e.rows.items r → outcome_of atoms
     ≡ refuted
 settled-refuted atoms e r h f =
-    outcome-refuted (columns_of (rows_of atoms)) (base_rows atoms) e.stages.items (terms_of e.rows.items) h.passed f.any
+    sym h.say.same ∙ outcome-refuted (columns_of (rows_of atoms)) h.rows e.stages.items (terms_of e.rows.items) h.passed f.any
 
 -- A choice
 
@@ -105,16 +106,16 @@ is-chosen e stages c d possible same is plan values sides = record {
 pub can-choose : (atoms : List Atom) (e : Elimination) → IsEliminated atoms e →
     IsTrue (not (list_any is_contradiction (terms_of e.rows.items))) →
     CanChoose e.stages.items
-can-choose atoms e h c = base-can atoms e.stages.items (terms_of e.rows.items) h.terms h.passed c
+can-choose atoms e h c = base-can atoms h.rows e.stages.items (terms_of e.rows.items) h.terms h.say h.passed c
 
 pub settled-plan : (atoms : List Atom) (e : Elimination) (c : Choice) → IsEliminated atoms e → IsChosen e c → outcome_of atoms ≡ chosen_by c
 settled-plan atoms e c h k =
-    k.plan (columns_of (rows_of atoms)) (base_rows atoms) (terms_of e.rows.items) h.passed k.possible
+    sym h.say.same ∙ k.plan (columns_of (rows_of atoms)) h.rows (terms_of e.rows.items) h.passed k.possible
 
 pub settled-ascending : (atoms : List Atom) (e : Elimination) (values : List (ℕ × ℤ)) → IsEliminated atoms e →
     IsChosen e (choice.Values values) → IsTrue (is_ascending values)
 settled-ascending atoms e values h k =
-    base-ascending atoms e.stages.items (terms_of e.rows.items) values h.passed k.values
+    base-ascending atoms h.rows e.stages.items (terms_of e.rows.items) values h.passed k.values
 
 pub settled-met : (atoms : List Atom) (e : Elimination) (values : List (ℕ × ℤ)) → IsEliminated atoms e → IsChosen e (choice.Values values) →
     HoldsAll (valuation values) atoms
@@ -126,42 +127,42 @@ pub settled-sides : (atoms : List Atom) (e : Elimination) (column : ℕ) (at : �
     (at <ℤ pos 9223372036854775807) × Contains (columns_of (rows_of atoms)) column
 settled-sides atoms e column at h k = (
   k.sides.0,
-  subst (λ (xs : List ℕ). Contains xs column) (columns-are (columns_of (rows_of atoms)) (base_rows atoms) e.stages.items
+  subst (λ (xs : List ℕ). Contains xs column) (columns-are (columns_of (rows_of atoms)) h.rows e.stages.items
       (terms_of e.rows.items) h.passed) k.sides.1,
 )
 
 -- The question of a branch
 
--- the rows of a branch, and its columns
+-- rows that say as much as those of a branch, and its columns
 pub record IsAsked (question splits : List Atom) (columns : List ℕ) (rows : List LinearSum) : Type 0 where
   pub columns_are : columns ≡ columns_of (rows_of question)
   pub branch : IsBranch question splits
-  pub rows_are : rows ≡ rows_of (question ++ splits) ++ range_rows columns
+  pub say : SaySame columns rows (rows_of (question ++ splits) ++ range_rows columns)
 
 asked-columns : (question splits : List Atom) (columns : List ℕ) (rows : List LinearSum) → IsAsked question splits columns rows →
     columns ≡ columns_of (rows_of (question ++ splits))
 asked-columns question splits columns rows h = h.columns_are ∙ sym h.branch
 
-asked-rows : (question splits : List Atom) (columns : List ℕ) (rows : List LinearSum) → IsAsked question splits columns rows →
-    rows ≡ base_rows (question ++ splits)
-asked-rows question splits columns rows h =
-    h.rows_are ∙ ap (λ (xs : List ℕ). rows_of (question ++ splits) ++ range_rows xs) (asked-columns question splits columns rows h)
+asked-say : (question splits : List Atom) (columns : List ℕ) (rows : List LinearSum) → IsAsked question splits columns rows →
+    SaySame (columns_of (rows_of (question ++ splits))) rows (base_rows (question ++ splits))
+asked-say question splits columns rows h =
+    subst (λ (xs : List ℕ). SaySame xs rows (rows_of (question ++ splits) ++ range_rows xs)) (asked-columns question splits columns rows h)
+    h.say
 
 pub asked-eliminated : (question splits : List Atom) (columns : List ℕ) (rows : List LinearSum) (e : Elimination) →
     IsAsked question splits columns rows → IsTrue (are_terms (question ++ splits)) → AreStages columns rows e.stages.items
     (terms_of e.rows.items) → IsEliminated (question ++ splits) e
 asked-eliminated question splits columns rows e h t p = record {
   terms = t;
-  passed = subst (λ (ts : List LinearSum). AreStages (columns_of (rows_of (question ++ splits))) ts e.stages.items (terms_of e.rows.items))
-      (asked-rows question splits columns rows h) (subst (λ (xs : List ℕ). AreStages xs rows e.stages.items (terms_of e.rows.items))
-      (asked-columns question splits columns rows h) p);
+  rows = rows;
+  say = asked-say question splits columns rows h;
+  passed = subst (λ (xs : List ℕ). AreStages xs rows e.stages.items (terms_of e.rows.items)) (asked-columns question splits columns rows h) p;
 }
 
 asked-outcome : (question splits : List Atom) (columns : List ℕ) (rows : List LinearSum) → IsAsked question splits columns rows →
     outcome columns rows ≡ outcome_of (question ++ splits)
 asked-outcome question splits columns rows h =
-    ap (λ (xs : List ℕ). outcome xs rows) (asked-columns question splits columns rows h)
-    ∙ ap (outcome (columns_of (rows_of (question ++ splits)))) (asked-rows question splits columns rows h)
+    ap (λ (xs : List ℕ). outcome xs rows) (asked-columns question splits columns rows h) ∙ (asked-say question splits columns rows h).same
 
 pub asked-wide : (question splits : List Atom) (columns : List ℕ) (rows : List LinearSum) → IsAsked question splits columns rows →
     elimination columns rows ≡ wide → outcome_of (question ++ splits) ≡ too_wide

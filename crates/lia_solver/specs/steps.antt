@@ -1,7 +1,11 @@
 pub mod Asked
 pub mod Branches
+pub mod Buckets
 pub mod Choices
+pub mod Entries
 pub mod Further
+pub mod Lines
+pub mod Merged
 pub mod Numbers
 pub mod Pruned
 pub mod Searches

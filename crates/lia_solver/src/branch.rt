@@ -1,15 +1,17 @@
 //! What one branch of a question comes to.
 
-ghost use Rattle.std.specs.Prelude.{List, ◌≡◌, ◌+◌, ◌*◌, ◌^◌, ◌<◌, ◌++◌, ◌∷◌, [], length, IfOk, OnOk, IsTrue};
+ghost use Rattle.std.specs.Prelude.{List, ◌≡◌, ◌+◌, ◌*◌, ◌^◌, ◌<◌, ◌++◌, ◌∷◌, [], All, length, slice_index_or, true, IfSome, IfOk, OnOk, IsTrue};
 ghost use Rattle.linear_formula.specs.LinearSum.{LinearSum};
 ghost use Rattle.linear_formula.specs.declared.formula.Atom.{Atom};
 ghost use Rattle.linear_formula.specs.Formula.{are_terms};
 ghost use Rattle.infeasible_cert.specs.Right.{columns_of, rows_of, range_rows};
-ghost use Rattle.shadow_elim.specs.Stages.{terms_of, AreNumbered};
+ghost use Rattle.shadow_elim.specs.declared.row.Row.{Row};
+ghost use Rattle.shadow_elim.specs.steps.Marks.{IsSmall};
 ghost use Rattle.shadow_elim.specs.Plan.{outcome_of};
-ghost use Rattle.lia_solver.specs.steps.Branches.{planned, branch_rows, IsRightOutcome, IsBranch};
+ghost use Rattle.lia_solver.specs.steps.Branches.{planned, IsRightOutcome, IsBranch};
 ghost use Rattle.lia_solver.specs.steps.Further.{AreOutcomeTerms};
 ghost use Rattle.lia_solver.specs.steps.Numbers.{numbered_from};
+ghost use Rattle.lia_solver.specs.steps.Merged.{AreMerged, AreSmallFirst, AreBranchRows};
 ghost use Rattle.lia_solver.specs.steps.Pruned.{NameEarlier};
 ghost use Rattle.lia_solver.specs.steps.Settling.{IsEliminated, IsDerived, IsSettled};
 
@@ -25,6 +27,9 @@ use shadow_elim::row::{Row, lower_range, upper_range};
 use shadow_elim::shadow::ShadowError;
 use std::alloc::{AllocError, Global};
 
+/// How many rows are looked at for one with the same coefficients.
+const LOOK: usize = 256;
+
 #[derive(Drop)]
 pub enum BranchOutcome {
     Point(Assignment),
@@ -34,19 +39,96 @@ pub enum BranchOutcome {
     Rows,
 }
 
-/// Adds a row. Where its number is beyond 32 bits, there would be no memory for the rows.
+/// A row with its number. Where this is beyond 32 bits, there would be no memory for the rows.
+fn numbered(term: Term, number: usize) -> Result<Row, OutOfMemory>
+    ensures { IfOk result (λ r. r ≡ record { term = term; number = number }) }
+{
+    match u32::try_from(number) {
+        Ok(number) => Ok(Row { term, number }),
+        Err(_) => Err(AllocError),
+    }
+}
+
 fn push_row(rows: &mut Vec<Row>, term: Term, number: usize) -> Result<(), OutOfMemory>
     ensures { OnOk result (rows.new.items ≡ rows.old.items
         ++ record { term = term; number = number }
         ∷ []) }
 {
-    match u32::try_from(number) {
-        Ok(number) => {
-            rows.push(Row { term, number })?;
+    rows.push(numbered(term, number)?)?;
+    Ok(())
+}
+
+/// Whether no sum of two of the atoms' rows can have a constant beyond the limits, where the column
+/// is eliminated.
+fn are_small(column: u32, atoms: &[Atom]) -> bool
+    ensures { result ≡ true → All (λ a. IsSmall column a.term) atoms.now }
+{
+    for atom in atoms {
+        if atom.term.coefficient(column).unsigned_abs() > 1 << 19 {
+            return false;
+        }
+        if atom.term.constant().unsigned_abs() > 1 << 64 {
+            return false;
+        }
+    }
+    true
+}
+
+/// Whether weaker rows meet no limit of their own in the first column.
+fn may_merge(columns: &[u32], question: &[Atom], splits: &[Atom]) -> bool
+    ensures { result ≡ true → AreSmallFirst columns.now (question.now ++ splits.now) }
+{
+    match columns.first() {
+        Some(column) => are_small(*column, question) && are_small(*column, splits),
+        None => true,
+    }
+}
+
+/// The place of a row with these coefficients, among the first ones.
+fn place_of(rows: &[Row], term: &Term) -> Option<usize>
+    ensures { IfSome result
+        (λ i. (i < length rows.now) × ((r : Row) → (slice_index_or rows.now i r).term.parts
+        ≡ term.now.parts)) }
+{
+    for (place, row) in rows.iter().take(LOOK).enumerate() {
+        if row.term.parts == term.parts {
+            return Some(place);
+        }
+    }
+    None
+}
+
+/// Adds an atom's row, or puts it in the place of a weaker one, or leaves it out where one is as
+/// strong.
+fn merge_row(
+    rows: &mut Vec<Row>,
+    alloc: Global,
+    term: &Term,
+    number: usize,
+) -> Result<(), OutOfMemory>
+    ensures { OnOk result (AreMerged (record { term = term.now; number = number } ∷ [])
+        rows.old.items rows.new.items) }
+{
+    match place_of(rows, term) {
+        Some(place) => {
+            if rows[place].term.constant() < term.constant() {
+                rows[place] = numbered(term.copy(alloc)?, number)?;
+            }
             Ok(())
         }
-        Err(_) => Err(AllocError),
+        None => push_row(rows, term.copy(alloc)?, number),
     }
+}
+
+/// Adds of the atoms' rows those that are needed, numbered from 0 on.
+fn merge_atoms(rows: &mut Vec<Row>, alloc: Global, atoms: &[Atom]) -> Result<(), OutOfMemory>
+    ensures { OnOk result (AreMerged (numbered_from 0 (rows_of atoms.now)) rows.old.items
+        rows.new.items) }
+{
+    for (place, atom) in atoms.iter().enumerate() {
+        merge_row(rows, alloc, &atom.term, place)?;
+    }
+    Ok(())
 }
 
 /// Adds the atoms as rows numbered from `first` on.
@@ -85,7 +167,7 @@ fn push_ranges(
 }
 
 /// The rows of a branch with their numbers in its certificate: there the ranges come before the
-/// rows of the splits.
+/// rows of the splits. Weaker rows of the question are left out where they meet no limit.
 fn numbered_rows(
     alloc: Global,
     question: &[Atom],
@@ -93,17 +175,16 @@ fn numbered_rows(
     columns: &[u32],
 ) -> Result<Vec<Row>, OutOfMemory>
     requires { columns.now ≡ columns_of (rows_of question.now) }
-    ensures terms { IfOk result (λ rows. terms_of rows.items ≡ rows_of (question.now ++ splits.now)
-        ++ range_rows columns.now) }
-    ensures numbers { IfOk result (λ rows. AreNumbered (branch_rows question.now splits.now)
-        rows.items) }
-    ensures count { IfOk result
-        (λ rows. length rows.items ≡ length (branch_rows question.now splits.now)) }
+    ensures { IfOk result (λ rows. AreBranchRows question.now splits.now columns.now rows.items) }
 {
     let ranges = question.len();
     let further = ranges + 2 * columns.len();
-    let mut rows = Vec::with_capacity(alloc, further + splits.len())?;
-    push_atoms(&mut rows, alloc, question, 0)?;
+    let mut rows = Vec::new(alloc);
+    if may_merge(columns, question, splits) {
+        merge_atoms(&mut rows, alloc, question)?;
+    } else {
+        push_atoms(&mut rows, alloc, question, 0)?;
+    }
     push_atoms(&mut rows, alloc, splits, further)?;
     push_ranges(&mut rows, alloc, columns, ranges)?;
     Ok(rows)
@@ -152,10 +233,11 @@ pub fn solve_branch(
     ensures right { IfOk result (λ o. IsRightOutcome question.now splits.now o) }
     ensures terms { IfOk result (λ o. AreOutcomeTerms o) }
 {
-    let rows = numbered_rows(alloc, question, splits, columns)?;
-    let Ok(first) = u32::try_from(rows.len()) else {
+    let count = question.len() + 2 * columns.len() + splits.len();
+    let Ok(first) = u32::try_from(count) else {
         return Err(AllocError);
     };
+    let rows = numbered_rows(alloc, question, splits, columns)?;
     match eliminate_columns(alloc, columns, rows, first) {
         Ok(elimination) => settled(alloc, elimination, first),
         Err(ShadowError::Wide) => Ok(BranchOutcome::Wide),

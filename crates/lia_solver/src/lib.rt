@@ -10,3 +10,4 @@ mod refutation;
 mod search;
 pub mod solve;
 pub mod solved;
+mod table;

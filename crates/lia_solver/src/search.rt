@@ -71,9 +71,35 @@ impl Search {
         solve_branch(self.alloc, question, splits, &self.columns)
     }
 
+    /// Searches the whole question. It is copied only where it is split or kept with a limit.
+    pub fn question(&mut self, cube: &Cube) -> Result<Searched, OutOfMemory>
+        requires { IsSearchable self.old cube.now.atoms }
+        ensures searched { IfOk result
+            (λ s. IsSearched (take self.old.atoms cube.now.atoms)
+            (drop self.old.atoms cube.now.atoms) MAX_SPLITS self.new.splits.items
+            (search MAX_SPLITS self.old.splits.items cube.now.atoms) s) }
+        ensures terms { IfOk result (λ s. AreSearchedTerms s) }
+        ensures answered { IfOk result (λ s. IsAnswered s) }
+    {
+        match self.outcome(cube)? {
+            BranchOutcome::Point(at) => Ok(Searched::Answer(Solved::Point(at))),
+            BranchOutcome::Refuted(rows) => Ok(Searched::Nothing(Certificate::Close(rows))),
+            BranchOutcome::Wide => Ok(limited(Limit::Wide {
+                branch: Question::Cube(cube.copy(self.alloc)?),
+            })),
+            BranchOutcome::Rows => Ok(limited(Limit::Rows {
+                branch: cube.copy(self.alloc)?,
+            })),
+            BranchOutcome::Split { column, at } => {
+                let cube = cube.copy(self.alloc)?;
+                self.split(cube, MAX_SPLITS, column, at)
+            }
+        }
+    }
+
     /// Searches a branch whose splits may nest so deep.
     #[cycle(search)]
-    pub fn branch(&mut self, cube: Cube, depth: u32) -> Result<Searched, OutOfMemory>
+    fn branch(&mut self, cube: Cube, depth: u32) -> Result<Searched, OutOfMemory>
         requires { IsSearchable self.old cube.atoms }
         ensures searched { IfOk result
             (λ s. IsSearched (take self.old.atoms cube.atoms) (drop self.old.atoms cube.atoms) depth

@@ -15,7 +15,7 @@ use crate::search::{Search, Searched};
 use crate::solved::Solved;
 use linear_formula::error::OutOfMemory;
 use linear_formula::formula::Cube;
-use shadow_elim::limit::{Limit, MAX_COLUMNS, MAX_SPLITS};
+use shadow_elim::limit::{Limit, MAX_COLUMNS};
 use std::alloc::Global;
 
 /// A point of the cube, a certificate that it has none, or the limit that was met.
@@ -35,7 +35,7 @@ pub fn solve(alloc: Global, cube: &Cube) -> Result<Solved, OutOfMemory>
         return Ok(Solved::Limit(Limit::Columns));
     }
     let mut search = Search::new(alloc, atoms.len(), columns);
-    match search.branch(cube.copy(alloc)?, MAX_SPLITS)? {
+    match search.question(cube)? {
         Searched::Answer(solved) => Ok(solved),
         Searched::Nothing(certificate) => Ok(Solved::Never(certificate)),
     }

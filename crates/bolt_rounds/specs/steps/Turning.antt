@@ -1,24 +1,28 @@
--- Turns of a worker who works alone.
-use Rattle.std.specs.Prelude.{◌≡◌, ℕ, suc, ◌*◌, ◌<◌, ◌≤◌, List, length, Bool, true, false, Some, slice_get}
+-- Turns of a worker who works alone, and which takes came back.
+use Rattle.std.specs.Prelude.{◌≡◌, ◌⊎◌, ℕ, suc, ◌*◌, ◌<◌, ◌≤◌, List, length, Bool, true, false, Some, slice_get}
+use Rattle.query_rules.specs.Seen.{Seen}
 use Rattle.summary_form.specs.declared.summary.Summary.{Summary}
 use Rattle.summary_table.specs.Tables.{StartsWith}
 use Rattle.bolt_core.specs.Boards.{Shown, most_queries}
 use Rattle.bolt_core.specs.Histories.{Told, gives_back, took}
-use Rattle.bolt_core.specs.Machine.{Event, is_over}
+use Rattle.bolt_core.specs.Keeps.{IsEnd}
+use Rattle.bolt_core.specs.Machine.{Core, Event, is_over}
 use Rattle.bolt_core.specs.States.{reads}
 
--- an event after this place gives the query back
-pub record IsBack (h : List Told) (id taken : ℕ) : Type 0 where
+-- an event after this place gave the query back, closed it or dropped it
+pub record IsBack (c : Core Seen) (id taken : ℕ) : Type 0 where
   pub place : ℕ
-  pub event : Told
   pub after : taken < place
-  pub at : slice_get h place ≡ Some event
-  pub back : gives_back id event ≡ true
+  pub is_end : IsEnd c id place
 
--- each query that was taken was given back
-pub record AreBack (h : List Told) : Type 0 where
+-- each query that was taken came back since, but for takes that are out
+pub record AreBackBut (c : Core Seen) (IsOut : ℕ → Type 0) : Type 0 where
   pub all : (t w i left steps : ℕ) (waiting : Bool) →
-      slice_get h t ≡ Some (took w i left steps waiting) → IsBack h i t
+      slice_get c.history t ≡ Some (took w i left steps waiting) → IsBack c i t ⊎ IsOut t
+
+-- each came back
+abbrev pub AreBack : Core Seen → Type 0
+AreBack c = AreBackBut c (λ t. ⊥)
 
 -- one event, which gives the query back, and there was room for it
 pub record GivesBack (old : Shown) (id : ℕ) (new : Shown) : Type 0 where
@@ -29,7 +33,7 @@ pub record GivesBack (old : Shown) (id : ℕ) (new : Shown) : Type 0 where
 
 -- two events, the second of which gives back what the first took
 pub record HasTurned (old : Shown) (known : List Summary) (new : Shown) : Type 0 where
-  pub back : AreBack new.core.history
+  pub back : AreBack new.core
   pub going : new.core.is_stopped ≡ false
   pub front : StartsWith new.core.table known
   pub more : length new.core.history ≡ suc (suc (length old.core.history))

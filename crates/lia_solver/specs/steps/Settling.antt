@@ -6,14 +6,17 @@ use Rattle.linear_formula.specs.declared.formula.Atom.{Atom}
 use Rattle.infeasible_cert.specs.Right.{columns_of, rows_of, base_rows, rows_after, AreRightSteps, EndsInContradiction}
 use Rattle.shadow_elim.specs.declared.elimination.Elimination.{Elimination}
 use Rattle.shadow_elim.specs.Stages.{terms_of, AreStages, AreNumbered}
+use Rattle.lia_solver.specs.steps.Merged.{SaySame}
 use Rattle.lia_solver.specs.declared.branch.BranchOutcome.{BranchOutcome}
 use Rattle.lia_solver.specs.declared.branch.BranchOutcome.TheVariants as branch
 
--- all columns of the atoms were eliminated from their rows and those of the ranges
+-- all columns of the atoms were eliminated from rows that say as much as theirs and those of the
+-- ranges
 pub record IsEliminated (atoms : List Atom) (e : Elimination) : Type 0 where
   pub terms : IsTrue (are_terms atoms)
-  pub passed : AreStages (columns_of (rows_of atoms)) (base_rows atoms) e.stages.items
-      (terms_of e.rows.items)
+  pub rows : List LinearSum
+  pub say : SaySame (columns_of (rows_of atoms)) rows (base_rows atoms)
+  pub passed : AreStages (columns_of (rows_of atoms)) rows e.stages.items (terms_of e.rows.items)
 
 -- each step follows from these rows, and the rows that are left are among them and the steps' rows
 pub record IsDerived (base : List LinearSum) (e : Elimination) : Type 0 where

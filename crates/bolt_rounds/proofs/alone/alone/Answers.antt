@@ -8,7 +8,7 @@ loop-board-init c =
     let b = c.args.board in
     record {
       same = record { graphs = refl; main = refl; asserts = refl; budget = refl };
-      back = none_back b.core.history c.requires;
+      back = none_back b.core c.requires;
       going = begun_going b c.reached.ensures c.requires;
       room = c.in_ok-known.ensures.room ∙ c.room.ensures.room;
       front = record { rest = b.core.table; is = ap (λ (l : List Summary). l ++ b.core.table) (sym c.in_ok-known.ensures.none) };

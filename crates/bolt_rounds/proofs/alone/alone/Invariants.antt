@@ -7,7 +7,7 @@ use Rattle.bolt_rounds.proofs.alone.alone.Given as goal
 abbrev pub invariant-loop-board : goal.invariant-loop-board
 invariant-loop-board l = record {
   same : SameProgram l.fn.board l.board;
-  back : AreBack l.board.core.history;
+  back : AreBack l.board.core;
   going : l.board.core.is_stopped ≡ false;
   room : l.known.room ≡ most_queries l.board;
   front : StartsWith l.board.core.table l.known.summaries;

@@ -1,31 +1,28 @@
-use Rattle.std.proofs.Common.{◌+◌, ◌*◌, length}
-use Rattle.infeasible_cert.specs.Right.{rows_of, range_rows}
+use Rattle.std.proofs.Common.{◌≡◌, ◌⊎◌, ◌++◌, [], List, Vec, Global, inl, inr, subst, sym, ap, ◌∙◌}
+use Rattle.infeasible_cert.specs.Right.{rows_of}
+use Rattle.shadow_elim.specs.declared.row.Row.{Row}
+use Rattle.lia_solver.specs.steps.Merged.{AreMerged, AreSmallFirst}
 use Rattle.lia_solver.specs.steps.Numbers.{numbered_from}
-use Rattle.lia_solver.proofs.Branching.{ArePushed, pushed-in_order, pushed-terms, pushed-numbers, pushed-count}
+use Rattle.lia_solver.proofs.BranchRows.{branch-rows-pushed}
+use Rattle.lia_solver.proofs.Merging.{merged-pushed}
 use Rattle.lia_solver.proofs.branch.numbered_rows.Goals as goal
+use Rattle.lia_solver.proofs.branch.numbered_rows.Goals.{then-may_merge+in_ok-merge_atoms, else-may_merge+in_ok-push_atoms}
 
-pushed : (c : goal.In_ok-push_ranges) → ArePushed c.args.question.now c.args.splits.now c.args.columns.now c.push_ranges.new.rows.items
-pushed c =
+pub returns : goal.returns
+returns c =
     let question = c.args.question.now in
-    let splits = c.args.splits.now in
-    let columns = c.args.columns.now in
-    record {
-      columns_are = c.requires;
-      rows_are = pushed-in_order (numbered_from 0 (rows_of question)) (numbered_from (length question + 2 * length columns)
-          (rows_of splits))
-          (numbered_from (length question) (range_rows columns)) c.in_ok-rows.rows.items c.push_atoms.new.rows.items
-          c.push_atoms-2.new.rows.items c.push_ranges.new.rows.items c.in_ok-rows.ensures.items c.in_ok-push_atoms.ensures
-          c.in_ok-push_atoms-2.ensures c.in_ok-push_ranges.ensures;
-    }
-
-pub returns-clause-terms : goal.returns-clause-terms
-returns-clause-terms c =
-    pushed-terms c.args.question.now c.args.splits.now c.args.columns.now c.push_ranges.new.rows.items (pushed c)
-
-pub returns-clause-numbers : goal.returns-clause-numbers
-returns-clause-numbers c =
-    pushed-numbers c.args.question.now c.args.splits.now c.args.columns.now c.push_ranges.new.rows.items (pushed c)
-
-pub returns-clause-count : goal.returns-clause-count
-returns-clause-count c =
-    pushed-count c.args.question.now c.args.splits.now c.args.columns.now c.push_ranges.new.rows.items (pushed c)
+    let nq = numbered_from 0 (rows_of question) in
+    let none = c.new-rows.result.items in
+    let first = c.if-may_merge.rows.items in
+    let merged : AreMerged nq none first = elim c.if-may_merge.branch [
+      | then-may_merge+in_ok-merge_atoms w ↦ subst (λ (rs : List Row). AreMerged nq none rs)
+          (sym (ap (λ (v : Vec Row Global). v.items) w.rows-is)) w.in_ok-merge_atoms.ensures
+      | else-may_merge+in_ok-push_atoms w ↦ subst (λ (rs : List Row). AreMerged nq none rs)
+          (sym (ap (λ (v : Vec Row Global). v.items) w.rows-is ∙ w.in_ok-push_atoms.ensures)) (merged-pushed none nq)
+    ] in
+    let either : AreSmallFirst c.args.columns.now (question ++ c.args.splits.now) ⊎ (first ≡ none ++ nq) = elim c.if-may_merge.branch [
+      | then-may_merge+in_ok-merge_atoms w ↦ inl (c.may_merge.ensures w.if-may_merge.true)
+      | else-may_merge+in_ok-push_atoms w ↦ inr (ap (λ (v : Vec Row Global). v.items) w.rows-is ∙ w.in_ok-push_atoms.ensures)
+    ] in
+    branch-rows-pushed question c.args.splits.now c.args.columns.now none first c.push_atoms-2.new.rows.items
+    c.push_ranges.new.rows.items c.requires c.new-rows.ensures.items merged either c.in_ok-push_atoms-2.ensures c.in_ok-push_ranges.ensures

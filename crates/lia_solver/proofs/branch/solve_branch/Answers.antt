@@ -6,6 +6,7 @@ use Rattle.shadow_elim.specs.Stages.{terms_of}
 use Rattle.shadow_elim.specs.Plan.{outcome_of}
 use Rattle.lia_solver.specs.steps.Branches.{planned, branch_rows, IsRightOutcome}
 use Rattle.lia_solver.specs.steps.Settling.{IsEliminated, IsDerived, IsSettled}
+use Rattle.lia_solver.proofs.BranchRows.{branch-count}
 use Rattle.lia_solver.proofs.Renumbering.{names-earlier}
 use Rattle.lia_solver.proofs.Settling.{asked-eliminated, asked-wide, asked-too_many, right-settled}
 use Rattle.lia_solver.proofs.branch.solve_branch.Goals as goal
@@ -14,20 +15,13 @@ pub settled-requires : goal.settled-requires
 settled-requires c =
     let e = c.in-Ok-eliminate_columns.elimination in
     let base = branch_rows c.args.question.now c.args.splits.now in
-    let count : length base ≡ c.in-Ok.first = omega (
-      arith,
-      c.in_ok-rows.ensures.count,
-      c.in_ok-rows.rows.ok.0,
-      c.in-Ok.ensures,
-      c.len.ensures,
-    )
-    in
+    let count : length base ≡ c.in-Ok.first = omega (arith, c.in-Ok.ensures, branch-count c.args.question.now c.args.splits.now c.args.columns.now c.requires.columns) in
     let d = c.in-Ok-eliminate_columns.ensures.steps base count c.in_ok-rows.ensures.numbers in record {
       eliminated = (
         c.args.question.now ++ c.args.splits.now,
         asked-eliminated c.args.question.now c.args.splits.now c.args.columns.now
             (terms_of c.in_ok-rows.rows.items) c.in-Ok-eliminate_columns.elimination
-            (record { columns_are = c.requires.columns; branch = c.requires.branch; rows_are = c.in_ok-rows.ensures.terms })
+            (record { columns_are = c.requires.columns; branch = c.requires.branch; say = c.in_ok-rows.ensures.say })
             c.requires.terms
             c.in-Ok-eliminate_columns.ensures.stages,
       );
@@ -39,7 +33,7 @@ returns-in-Ok-eliminate_columns-clause-plan c =
     let atoms = c.args.question.now ++ c.args.splits.now in
     let e = c.in-Ok-eliminate_columns.elimination in
     let done = asked-eliminated c.args.question.now c.args.splits.now c.args.columns.now (terms_of c.in_ok-rows.rows.items) e
-    (record { columns_are = c.requires.columns; branch = c.requires.branch; rows_are = c.in_ok-rows.ensures.terms }) c.requires.terms
+    (record { columns_are = c.requires.columns; branch = c.requires.branch; say = c.in_ok-rows.ensures.say }) c.requires.terms
     c.in-Ok-eliminate_columns.ensures.stages in
     IfOk-weaker c.settled.result (λ o. (as_ : List Atom) → IsEliminated as_ e → outcome_of as_ ≡ planned o)
     (λ o. outcome_of atoms ≡ planned o)
@@ -53,9 +47,9 @@ returns-in-Ok-eliminate_columns-clause-right c =
     let rows = c.in_ok-rows.rows in
     let e = c.in-Ok-eliminate_columns.elimination in
     let done = asked-eliminated question splits c.args.columns.now (terms_of rows.items) e
-    (record { columns_are = c.requires.columns; branch = c.requires.branch; rows_are = c.in_ok-rows.ensures.terms }) c.requires.terms
+    (record { columns_are = c.requires.columns; branch = c.requires.branch; say = c.in_ok-rows.ensures.say }) c.requires.terms
     c.in-Ok-eliminate_columns.ensures.stages in
-    let count : length base ≡ c.in-Ok.first = omega (arith, c.in_ok-rows.ensures.count, rows.ok.0, c.in-Ok.ensures, c.len.ensures) in
+    let count : length base ≡ c.in-Ok.first = omega (arith, c.in-Ok.ensures, branch-count c.args.question.now c.args.splits.now c.args.columns.now c.requires.columns) in
     let d = c.in-Ok-eliminate_columns.ensures.steps base count c.in_ok-rows.ensures.numbers in
     let derived : IsDerived base e = record { steps = d.0; numbers = d.1 } in
     IfOk-weaker c.settled.result (λ o. (as_ : List Atom) (ts : List LinearSum) → IsEliminated as_ e → length ts ≡ c.in-Ok.first →
@@ -65,11 +59,11 @@ returns-in-Ok-eliminate_columns-clause-right c =
 pub returns-in-Err-Wide-clause-plan : goal.returns-in-Err-Wide-clause-plan
 returns-in-Err-Wide-clause-plan c =
     asked-wide c.args.question.now c.args.splits.now c.args.columns.now (terms_of c.in_ok-rows.rows.items)
-    (record { columns_are = c.requires.columns; branch = c.requires.branch; rows_are = c.in_ok-rows.ensures.terms })
+    (record { columns_are = c.requires.columns; branch = c.requires.branch; say = c.in_ok-rows.ensures.say })
     (c.in-Err-Wide.ensures.wide (ap Err c.in-Err-Wide.field-0-is))
 
 pub returns-in-Err-Rows-clause-plan : goal.returns-in-Err-Rows-clause-plan
 returns-in-Err-Rows-clause-plan c =
     asked-too_many c.args.question.now c.args.splits.now c.args.columns.now (terms_of c.in_ok-rows.rows.items)
-    (record { columns_are = c.requires.columns; branch = c.requires.branch; rows_are = c.in_ok-rows.ensures.terms })
+    (record { columns_are = c.requires.columns; branch = c.requires.branch; say = c.in_ok-rows.ensures.say })
     (c.in-Err-Rows.ensures.too_many (ap Err c.in-Err-Rows.field-0-is))

@@ -1,5 +1,4 @@
-use Rattle.std.proofs.Common.{◌≡◌, [], length, arith, ap, subst, ◌∙◌}
-use Rattle.linear_formula.specs.declared.formula.Cube.{Cube}
+use Rattle.std.proofs.Common.{◌≡◌, [], length, arith, refl, ap, subst, ◌∙◌}
 use Rattle.infeasible_cert.specs.Refutation.{refutation_of}
 use Rattle.infeasible_cert.specs.Right.{rows_of, columns_of}
 use Rattle.infeasible_cert.proofs.Sound.{right-sound}
@@ -22,20 +21,20 @@ returns-in-Answer-clause-plan c =
     let listed : c.in_ok-columns.columns.items ≡ columns_of (rows_of atoms) = c.in_ok-columns.ensures ∙ ap (λ as_. columns_of (rows_of as_))
     c.as_slice-atoms.ensures.value in
     let few = few-columns atoms (omega (arith, ap length listed, c.len.ensures, c.if-len-gt-MAX_COLUMNS.false)) in
-    let whole = searched-whole atoms c.in_ok-copy.field-0.atoms c.new-search.result.atoms 512 c.new-search.result.splits.items
-    c.branch-search.new.self.splits.items c.in_ok-solved.field-0 (ap (λ (k : Cube). k.atoms) c.in_ok-copy.ensures)
+    let whole = searched-whole atoms atoms c.new-search.result.atoms 512 c.new-search.result.splits.items
+    c.question.new.self.splits.items c.in_ok-solved.field-0 refl
     (c.new-search.ensures.atoms ∙ ap length c.as_slice-atoms.ensures.value) c.new-search.ensures.splits c.in_ok-solved.ensures.searched in
-    let answer = subst (λ (s : Searched). IsSearched atoms [] 512 c.branch-search.new.self.splits.items (search 512 [] atoms) s)
+    let answer = subst (λ (s : Searched). IsSearched atoms [] 512 c.question.new.self.splits.items (search 512 [] atoms) s)
     c.in-Answer.is whole in
     rw few answer.0
 
 pub returns-in-Answer-clause-point : goal.returns-in-Answer-clause-point
 returns-in-Answer-clause-point c =
     let atoms = c.args.cube.now.atoms in
-    let whole = searched-whole atoms c.in_ok-copy.field-0.atoms c.new-search.result.atoms 512 c.new-search.result.splits.items
-    c.branch-search.new.self.splits.items c.in_ok-solved.field-0 (ap (λ (k : Cube). k.atoms) c.in_ok-copy.ensures)
+    let whole = searched-whole atoms atoms c.new-search.result.atoms 512 c.new-search.result.splits.items
+    c.question.new.self.splits.items c.in_ok-solved.field-0 refl
     (c.new-search.ensures.atoms ∙ ap length c.as_slice-atoms.ensures.value) c.new-search.ensures.splits c.in_ok-solved.ensures.searched in
-    (subst (λ (s : Searched). IsSearched atoms [] 512 c.branch-search.new.self.splits.items (search 512 [] atoms) s) c.in-Answer.is whole).1
+    (subst (λ (s : Searched). IsSearched atoms [] 512 c.question.new.self.splits.items (search 512 [] atoms) s) c.in-Answer.is whole).1
 
 pub returns-clause-plan : goal.returns-clause-plan
 returns-clause-plan c =
@@ -43,20 +42,20 @@ returns-clause-plan c =
     let listed : c.in_ok-columns.columns.items ≡ columns_of (rows_of atoms) = c.in_ok-columns.ensures ∙ ap (λ as_. columns_of (rows_of as_))
     c.as_slice-atoms.ensures.value in
     let few = few-columns atoms (omega (arith, ap length listed, c.len.ensures, c.if-len-gt-MAX_COLUMNS.false)) in
-    let whole = searched-whole atoms c.in_ok-copy.field-0.atoms c.new-search.result.atoms 512 c.new-search.result.splits.items
-    c.branch-search.new.self.splits.items c.in_ok-solved.field-0 (ap (λ (k : Cube). k.atoms) c.in_ok-copy.ensures)
+    let whole = searched-whole atoms atoms c.new-search.result.atoms 512 c.new-search.result.splits.items
+    c.question.new.self.splits.items c.in_ok-solved.field-0 refl
     (c.new-search.ensures.atoms ∙ ap length c.as_slice-atoms.ensures.value) c.new-search.ensures.splits c.in_ok-solved.ensures.searched in
-    let found = subst (λ (s : Searched). IsSearched atoms [] 512 c.branch-search.new.self.splits.items (search 512 [] atoms) s)
+    let found = subst (λ (s : Searched). IsSearched atoms [] 512 c.question.new.self.splits.items (search 512 [] atoms) s)
     c.in-Nothing.is whole in
-    (c.branch-search.new.self.splits.items, few ∙ found.0)
+    (c.question.new.self.splits.items, few ∙ found.0)
 
 pub returns-clause-never : goal.returns-clause-never
 returns-clause-never c =
     let atoms = c.args.cube.now.atoms in
-    let whole = searched-whole atoms c.in_ok-copy.field-0.atoms c.new-search.result.atoms 512 c.new-search.result.splits.items
-    c.branch-search.new.self.splits.items c.in_ok-solved.field-0 (ap (λ (k : Cube). k.atoms) c.in_ok-copy.ensures)
+    let whole = searched-whole atoms atoms c.new-search.result.atoms 512 c.new-search.result.splits.items
+    c.question.new.self.splits.items c.in_ok-solved.field-0 refl
     (c.new-search.ensures.atoms ∙ ap length c.as_slice-atoms.ensures.value) c.new-search.ensures.splits c.in_ok-solved.ensures.searched in
-    let found = subst (λ (s : Searched). IsSearched atoms [] 512 c.branch-search.new.self.splits.items (search 512 [] atoms) s)
+    let found = subst (λ (s : Searched). IsSearched atoms [] 512 c.question.new.self.splits.items (search 512 [] atoms) s)
     c.in-Nothing.is whole in
     record { shallow = found.1; right = refutes-whole atoms (refutation_of c.in-Nothing.certificate) found.2 }
 

@@ -20,6 +20,7 @@ use Rattle.bolt_core.proofs.Asking.{ask_on, ask_room, asked_few, asked_some, chi
 use Rattle.bolt_core.proofs.BoardKeeps.{board_keeps}
 use Rattle.bolt_core.proofs.Going.{most_small, roomy_query, said_stays, told_length}
 use Rattle.bolt_core.proofs.Parking.{sound_here, sound_lent}
+use Rattle.bolt_core.proofs.Storing.{ask_stores}
 use Rattle.bolt_core.proofs.board.Board.ask.Goals as goal
 
 pub ended-requires-clause-here : goal.ended-requires-clause-here
@@ -289,3 +290,25 @@ returns-clause-asked c =
     (b.events.items ++ stored.Ask c.args.worker c.args.job.id c.args.job.spent c.len-number.result ∷ []) b.stopped in
     rw (← c.self.view_is, c.push_reserved-2.ensures.items, c.push_reserved.ensures.items)
     (subst (λ n. Event (reads p.graphs) p.core (asked c.args.worker c.args.job.id c.args.job.spent n q) core) (place ∙ sym len) g.event)
+
+pub returns-clause-stored : goal.returns-clause-stored
+returns-clause-stored c =
+    let b = c.self.inside in
+    let p : Shown = the_view b in
+    let len : length b.forest.entries ≡ length b.slots.items =
+    (board_keeps p c.self.invariant.0).paired.count ∙ length-map b.slots.items node_of in
+    let place : c.len-number.result ≡ length b.forest.entries = c.len-number.ensures ∙ b.slots.ok.0 ∙ sym len in
+    let last : length c.args.job.state.asked - 1 ≡ length c.asked.result.now - 1 =
+    omega (arith, ap (λ (l : List Asked). length l) c.asked.ensures) in
+    let told : c.await_child.new.self ≡ told_child (reads p.graphs) c.args.job.state c.len-number.result =
+    c.await_child.ensures.seen
+    ∙ ap (λ k. record c.args.job.state { asked = updated (with_child c.len-number.result news.Waiting) c.args.job.state.asked k })
+    (sym last)
+    in
+    let k = ask_stores b.forest.entries c.ask.new.self.entries c.args.job.id c.args.job.spent c.await_child.new.self c.args.child
+    c.in-Ok.ensures.asked.1 in
+    rw (← c.self.view_is) (record {
+      own = k.0;
+      at = k.1;
+      payload = k.2 ∙ ap Some (told ∙ ap (λ n. told_child (reads p.graphs) c.args.job.state n) place);
+    })

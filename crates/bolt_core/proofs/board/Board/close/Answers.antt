@@ -13,6 +13,7 @@ use Rattle.bolt_core.proofs.ClosesOn.{close_goes, close_group, close_is, close_r
 use Rattle.bolt_core.proofs.Going.{board_queries, most_small, said_stays, told_length}
 use Rattle.bolt_core.proofs.Parking.{sound_here, sound_lent}
 use Rattle.bolt_core.specs.steps.Closes.{appended_by, closed_as, settled_slot, value_of}
+use Rattle.bolt_core.proofs.Storing.{close_stores}
 use Rattle.bolt_core.proofs.board.Board.close.Goals as goal
 
 pub ended-requires-clause-here : goal.ended-requires-clause-here
@@ -284,3 +285,9 @@ returns-clause-closed c =
     c.len-place.result here c.settle.new.slots are c.settle.new.table.summaries table c.push_reserved.new.self.items
     (length c.all.result.now) (length c.all-2.result.now - length c.all.result.now) from total
     c.push_reserved.ensures.items c.close.new.self.entries went))
+
+pub returns-clause-stored : goal.returns-clause-stored
+returns-clause-stored c =
+    let k = close_stores c.self.inside.forest.entries c.close.new.self.entries c.args.job.id c.args.job.spent c.args.job.state
+    c.len-place.result c.in-Ok.ensures.closed in
+    record { own = k.0; at = k.1; payload = k.2 }

@@ -12,6 +12,7 @@ use Rattle.query_rules.specs.declared.step.Asked.{Asked}
 use Rattle.query_tree.proofs.Lists.{at_place}
 use Rattle.bolt_core.proofs.LastFeeds.{feeds_within}
 use Rattle.bolt_core.proofs.Parking.{feed_child, feed_on, sound_here, sound_lent}
+use Rattle.bolt_core.proofs.Storing.{feed_stores}
 use Rattle.bolt_core.proofs.board.Board.feed.Goals as goal
 
 pub bounds-asked-asked : goal.bounds-asked-asked
@@ -165,3 +166,9 @@ returns-clause-fed c =
           (λ (xs : List Stored). Event (reads p.graphs) p.core (fed c.args.worker c.args.job.id c.args.job.spent a.child)
           (core_of c.feed.new.self.entries b.slots.items b.table.summaries xs b.stopped)) (sym c.push_reserved.ensures.items) g.event;
     })
+
+pub returns-clause-stored : goal.returns-clause-stored
+returns-clause-stored c =
+    let k = feed_stores c.self.inside.forest.entries c.feed.new.self.entries c.args.job.id c.args.job.spent c.args.job.state _
+    c.in-Ok.ensures.fed in
+    record { own = k.0; at = k.1; payload = k.2 }

@@ -8,6 +8,7 @@ use Rattle.bolt_core.specs.States.{reads}
 use Rattle.bolt_core.specs.contracts.board.Board.{the_view}
 use Rattle.bolt_core.proofs.Going.{roomy_event, said_stays, told_length}
 use Rattle.bolt_core.proofs.Parking.{park_gives, park_on, sound_here, sound_lent}
+use Rattle.bolt_core.proofs.Storing.{back_stores}
 use Rattle.bolt_core.proofs.board.Board.park.Goals as goal
 
 pub ended-requires-clause-here : goal.ended-requires-clause-here
@@ -90,3 +91,9 @@ returns-clause-parked c =
     (subst
     (λ (xs : List Stored). Event (reads p.graphs) p.core (parked c.args.worker c.args.job.id c.args.job.spent c.args.rest)
     (core_of c.give_back.new.self.entries b.slots.items b.table.summaries xs b.stopped)) (sym c.push_reserved.ensures.items) g.event)
+
+pub returns-clause-stored : goal.returns-clause-stored
+returns-clause-stored c =
+    let k = back_stores c.self.inside.forest.entries c.give_back.new.self.entries c.args.job.id c.args.job.spent c.args.job.state
+    c.args.rest c.in-Ok.ensures.given in
+    record { own = k.0; at = k.1; payload = k.2 }

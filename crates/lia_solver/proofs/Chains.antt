@@ -1,0 +1,289 @@
+-- The chains of a table's rows.
+use Rattle.std.proofs.Common.{◌≡◌, ◌⊎◌, inl, inr, ℕ, suc, zero, ◌+◌, ◌-◌, ◌<◌, ◌≤◌, List, [], ◌∷◌, ◌++◌, length, map, get_or, set, replicate, take, drop, fold, ℤ, pos, Bool, true, false, ◌*◌, ◌%◌, arith, refl, sym, ap, subst, ◌∙◌}
+use Rattle.std.specs.Prelude.{int_lt, unsigned_abs, if◌then◌else◌}
+use Rattle.std.proofs.lemmas.Bool.{cases_lt, cases_eq}
+use Rattle.lia_solver.specs.declared.table.Line.{Line}
+use Rattle.lia_solver.specs.declared.table.Origin.{Origin}
+use Rattle.lia_solver.specs.declared.table.Origin.TheVariants.{Given}
+use Rattle.lia_solver.specs.steps.Buckets.{next_bucket, bucket_of}
+use Rattle.std.specs.Int.{int_min}
+use Rattle.std.specs.List.{slice_range}
+use Rattle.std.proofs.lemmas.List.{get_or-map, get_or-replicate, length-map, length-set, length-drop, length-append, take-append-le, take_all, get_or_append_left, get_or_push, get_or_default, drop-append-le, map-append, get_or-set_same, get_or-set_other}
+use Rattle.std.proofs.Math.Nat.{mod-lt}
+use Rattle.std.proofs.Math.Seq.{drop-append_seam, map-set_same}
+use Rattle.lia_solver.specs.steps.Lines.{parts_of_line, parts_at, bucket_at, IsPast, AreInChains, AreLines, IsChained, joined_line}
+
+-- A search along a chain
+
+-- no line from `past` on has these coefficients, and the one before it is in their chain
+pub record IsFinding (pool : List (ℕ × ℤ)) (lines : List Line) (past : ℕ) (parts : List (ℕ × ℤ)) : Type 0 where
+  pub limit : past ≤ length lines
+  pub other : (j : ℕ) → past ≤ j → j < length lines → parts_at pool lines j ≡ parts → ⊥
+  pub chain : (j : ℕ) → past ≡ suc j → bucket_at pool lines j ≡ bucket_of parts
+
+pub finding-first : (pool : List (ℕ × ℤ)) (lines : List Line) (past : ℕ) (parts : List (ℕ × ℤ)) → IsChained pool lines past parts →
+    IsFinding pool lines past parts
+finding-first pool lines past parts h = record {
+  limit = h.head.limit;
+  other = λ j a b e. h.head.none j a b (ap bucket_of e);
+  chain = h.head.last;
+}
+
+-- the line before has other coefficients
+pub finding-more : (pool : List (ℕ × ℤ)) (lines : List Line) (past place before : ℕ) (parts : List (ℕ × ℤ)) → past ≡ suc place →
+    IsFinding pool lines past parts → IsPast pool lines place (bucket_at pool lines place) before →
+    (parts_at pool lines place ≡ parts → ⊥) → IsFinding pool lines before parts
+finding-more pool lines past place before parts e f h n = record {
+  limit = omega (arith, h.limit, f.limit, e);
+  other = λ j a b d. by_side j a b d (cases_lt j place);
+  chain = λ j d. h.last j d ∙ f.chain place e;
+} where
+  by_side : (j : ℕ) → before ≤ j → j < length lines → parts_at pool lines j ≡ parts → (j < place) ⊎ (place ≤ j) → ⊥
+  by_side j a b d (inl lt) = h.none j a lt (ap bucket_of d ∙ sym (f.chain place e))
+  by_side j a b d (inr le) = by_place (cases_lt place j) where
+    by_place : (place < j) ⊎ (j ≤ place) → ⊥
+    by_place (inl lt) = f.other j (omega (arith, e, lt)) b d
+    by_place (inr ge) =
+        let same : j ≡ place = omega (arith, le, ge) in
+        n (ap (parts_at pool lines) (sym same) ∙ d)
+
+-- Lines at their places
+
+pub parts-map : (pool : List (ℕ × ℤ)) (lines : List Line) (i : ℕ) (d : Line) → i < length lines → parts_at pool lines i
+    ≡ parts_of_line pool (get_or lines i d)
+parts-map pool lines i d h = get_or-map (parts_of_line pool) lines i d [] h
+
+-- the lines of both lie at the same places and are in the same chains
+pub record AreAlike (pool other : List (ℕ × ℤ)) (lines more : List Line) : Type 0 where
+  pub count : length more ≡ length lines
+  pub parts : (i : ℕ) → parts_at other more i ≡ parts_at pool lines i
+  pub inside : (i : ℕ) (d : Line) → i < length lines → ((get_or more i d).start ≤ (get_or more i d).end)
+      × ((get_or more i d).end ≤ length other)
+  pub before : (i : ℕ) (d : Line) → i < length lines → (get_or more i d).before ≡ (get_or lines i d).before
+
+past-alike : (pool other : List (ℕ × ℤ)) (lines more : List Line) (n b past : ℕ) → ((i : ℕ) → parts_at other more i ≡ parts_at pool lines i) →
+    IsPast pool lines n b past → IsPast other more n b past
+past-alike pool other lines more n b past e h = record {
+  limit = h.limit;
+  none = λ j l k g. h.none j l k (sym (ap bucket_of (e j)) ∙ g);
+  last = λ j g. ap bucket_of (e j) ∙ h.last j g;
+}
+
+pub lines-alike : (pool other : List (ℕ × ℤ)) (lines more : List Line) (heads : List ℕ) → AreLines pool lines heads →
+    AreAlike pool other lines more → AreLines other more heads
+lines-alike pool other lines more heads h a = record {
+  chains = record {
+    inside = λ i d k. a.inside i d (omega (arith, k, a.count));
+    before = λ i d k.
+        let q : i < length lines = omega (arith, k, a.count) in
+        subst (λ (p : ℕ). IsPast other more i (bucket_at other more i) p) (sym (a.before i d q))
+        (subst (λ (b : ℕ). IsPast other more i b (get_or lines i d).before) (sym (ap bucket_of (a.parts i)))
+        (past-alike pool other lines more i (bucket_at pool lines i) (get_or lines i d).before a.parts (h.chains.before i d q)));
+  };
+  count = h.count;
+  last = λ b k. subst (λ (n : ℕ). IsPast other more n b (get_or heads b 0)) (sym a.count)
+      (past-alike pool other lines more (length lines) b (get_or heads b 0) a.parts (h.last b k));
+}
+
+-- A line that is joined with one more row
+
+-- what code reads where there is no line
+abbrev pub no_line : Line
+no_line = record { start = 0; end = 0; constant = pos 0; least = pos 0; origin = Given 0; before = 0 }
+
+line-set : (lines : List Line) (i k : ℕ) (l d : Line) → k < length lines → l.start ≡ (get_or lines i d).start →
+    l.end ≡ (get_or lines i d).end → l.before ≡ (get_or lines i d).before → ((get_or (set lines i l) k d).start ≡ (get_or lines k d).start)
+    × ((get_or (set lines i l) k d).end ≡ (get_or lines k d).end) × ((get_or (set lines i l) k d).before ≡ (get_or lines k d).before)
+line-set [] i k l d h e f g = absurd (omega (arith, h))
+line-set (r ∷ rs) zero zero l d h e f g = (e, f, g)
+line-set (r ∷ rs) zero (suc k) l d h e f g = (refl, refl, refl)
+line-set (r ∷ rs) (suc i) zero l d h e f g = (refl, refl, refl)
+line-set (r ∷ rs) (suc i) (suc k) l d h e f g = line-set rs i k l d (omega (arith, h)) e f g
+
+joined-same : (l : Line) (c : ℤ) (o : Origin) → ((joined_line l c o).start ≡ l.start) × ((joined_line l c o).end ≡ l.end)
+    × ((joined_line l c o).before ≡ l.before)
+joined-same l c o = by_test (int_lt l.constant c) where
+  of : Bool → Line
+  of b = if b then record l { constant = c; least = int_min l.least c; origin = o } else record l { least = int_min l.least c }
+
+  by_test : (b : Bool) → ((of b).start ≡ l.start) × ((of b).end ≡ l.end) × ((of b).before ≡ l.before)
+  by_test true = (refl, refl, refl)
+  by_test false = (refl, refl, refl)
+
+pub lines-joined : (pool : List (ℕ × ℤ)) (lines : List Line) (heads : List ℕ) (i : ℕ) (c : ℤ) (o : Origin) → AreLines pool lines heads →
+    i < length lines → AreLines pool (set lines i (joined_line (get_or lines i no_line) c o)) heads
+lines-joined pool lines heads i c o h k = lines-alike pool pool lines (set lines i l) heads h (record {
+  count = length-set lines i l;
+  parts = λ j. ap (λ ps. get_or ps j []) (map-set_same (parts_of_line pool) lines i l no_line (range_same s.0 s.1));
+  inside = λ j d q.
+      let e = line-set lines i j l d q (s.0 ∙ ap (λ (r : Line). r.start) (get_or_default lines i no_line d k))
+      (s.1 ∙ ap (λ (r : Line). r.end) (get_or_default lines i no_line d k)) (s.2 ∙ ap (λ (r : Line). r.before)
+      (get_or_default lines i no_line d k)) in
+      let b = h.chains.inside j d q in
+      (omega (arith, e.0, e.1, b.0), omega (arith, e.1, b.1));
+  before = λ j d q. (line-set lines i j l d q (s.0 ∙ ap (λ (r : Line). r.start) (get_or_default lines i no_line d k))
+      (s.1 ∙ ap (λ (r : Line). r.end) (get_or_default lines i no_line d k)) (s.2 ∙ ap (λ (r : Line). r.before)
+      (get_or_default lines i no_line d k))).2;
+}) where
+  l : Line
+  l = joined_line (get_or lines i no_line) c o
+
+  s : (l.start ≡ (get_or lines i no_line).start) × (l.end ≡ (get_or lines i no_line).end) × (l.before ≡ (get_or lines i no_line).before)
+  s = joined-same (get_or lines i no_line) c o
+
+  range_same : l.start ≡ (get_or lines i no_line).start → l.end ≡ (get_or lines i no_line).end → parts_of_line pool l
+      ≡ parts_of_line pool (get_or lines i no_line)
+  range_same e f = ap (λ a. slice_range pool a l.end) e ∙ ap (λ b. slice_range pool (get_or lines i no_line).start b) f
+
+-- A line more
+
+pub range-more : (pool more : List (ℕ × ℤ)) (a b : ℕ) → a ≤ b → b ≤ length pool → slice_range (pool ++ more) a b ≡ slice_range pool a b
+range-more pool more a b h k =
+    ap (take (b - a)) (drop-append-le a pool more (omega (arith, h, k))) ∙ take-append-le (b - a) (drop a pool) more
+    (omega (arith, length-drop a pool, h, k))
+
+pub map-more : {B : Type 0} (f g : Line → B) (lines : List Line) → ((i : ℕ) (d : Line) → i < length lines → f (get_or lines i d)
+    ≡ g (get_or lines i d)) → map f lines ≡ map g lines
+map-more f g [] h = refl
+map-more f g (l ∷ ls) h =
+    ap (λ y. y ∷ map f ls) (h 0 l (omega arith)) ∙ ap (λ ys. g l ∷ ys) (map-more f g ls (λ i d k. h (suc i) d (omega (arith, k))))
+
+parts-grown : (pool more : List (ℕ × ℤ)) (lines : List Line) → AreInChains pool lines → map (parts_of_line (pool ++ more)) lines
+    ≡ map (parts_of_line pool) lines
+parts-grown pool more lines h =
+    map-more (parts_of_line (pool ++ more)) (parts_of_line pool) lines (λ i d k. range-more pool more _ _ (h.inside i d k).0 (h.inside i d k).1)
+
+-- the pool alone has grown
+pub lines-grown : (pool more : List (ℕ × ℤ)) (lines : List Line) (heads : List ℕ) → AreLines pool lines heads →
+    AreLines (pool ++ more) lines heads
+lines-grown pool more lines heads h = lines-alike pool (pool ++ more) lines lines heads h (record {
+  count = refl;
+  parts = λ i. ap (λ ps. get_or ps i []) (parts-grown pool more lines h.chains);
+  inside = λ i d k. ((h.chains.inside i d k).0, omega (arith, (h.chains.inside i d k).1, length-append pool more));
+  before = λ i d k. refl;
+})
+
+-- a line at the end, with these coefficients and in their chain
+pub record IsLastLine (pool parts : List (ℕ × ℤ)) (heads : List ℕ) (l : Line) : Type 0 where
+  pub start : l.start ≡ length pool
+  pub end : l.end ≡ length (pool ++ parts)
+  pub before : l.before ≡ get_or heads (bucket_of parts) 0
+
+pub last-parts : (pool parts : List (ℕ × ℤ)) (heads : List ℕ) (l : Line) → IsLastLine pool parts heads l → parts_of_line (pool ++ parts) l ≡ parts
+last-parts pool parts heads l h =
+    ap (λ a. slice_range (pool ++ parts) a l.end) h.start ∙ ap (λ b. take (b - length pool) (drop (length pool) (pool ++ parts))) h.end
+    ∙ ap (take (length (pool ++ parts) - length pool)) (drop-append_seam pool parts)
+    ∙ take_all (length (pool ++ parts) - length pool) parts (omega (arith, length-append pool parts))
+
+bucket-bound : (parts : List (ℕ × ℤ)) → bucket_of parts < 64
+bucket-bound parts = bound 0 parts (omega arith) where
+  bound : (b : ℕ) (ps : List (ℕ × ℤ)) → b < 64 → fold next_bucket b ps < 64
+  bound b [] h = h
+  bound b (p ∷ ps) h = bound (next_bucket b p) ps (mod-lt (31 * b + p.0 + unsigned_abs p.1) {m = 64} (omega arith))
+
+pub lines-pushed : (pool parts : List (ℕ × ℤ)) (lines : List Line) (heads : List ℕ) (l : Line) → AreLines pool lines heads →
+    IsLastLine pool parts heads l → AreLines (pool ++ parts) (lines ++ l ∷ []) (set heads (bucket_of parts) (length lines + 1))
+lines-pushed pool parts lines heads l h k = record {
+  chains = record {
+    inside = λ i d q. inside i d (cases_lt i (length lines)) q;
+    before = λ i d q. before i d (cases_lt i (length lines)) q;
+  };
+  count = length-set heads (bucket_of parts) (length lines + 1) ∙ h.count;
+  last = λ b q. last b q (cases_eq b (bucket_of parts));
+} where
+  all : List (ℕ × ℤ)
+  all = pool ++ parts
+
+  lines' : List Line
+  lines' = lines ++ l ∷ []
+
+  parts_are : map (parts_of_line all) lines' ≡ map (parts_of_line pool) lines ++ parts ∷ []
+  parts_are = map-append (parts_of_line all) lines (l ∷ []) ∙ ap (λ ps. ps ++ parts_of_line all l ∷ []) (parts-grown pool parts lines h.chains)
+      ∙ ap (λ ps. map (parts_of_line pool) lines ++ ps ∷ []) (last-parts pool parts heads l k)
+
+  count : length (map (parts_of_line pool) lines) ≡ length lines
+  count = length-map lines (parts_of_line pool)
+
+  old : (j : ℕ) → j < length lines → parts_at all lines' j ≡ parts_at pool lines j
+  old j q = ap (λ ps. get_or ps j []) parts_are
+      ∙ get_or_append_left (map (parts_of_line pool) lines) (parts ∷ []) [] j (omega (arith, count, q))
+
+  new : parts_at all lines' (length lines) ≡ parts
+  new = ap (λ ps. get_or ps (length lines) []) parts_are ∙ get_or_push (map (parts_of_line pool) lines) parts [] (length lines) count
+
+  inside : (i : ℕ) (d : Line) → (i < length lines) ⊎ (length lines ≤ i) → i < length lines' → ((get_or lines' i d).start
+      ≤ (get_or lines' i d).end) × ((get_or lines' i d).end ≤ length all)
+  inside i d (inl lt) q =
+      let e = get_or_append_left lines (l ∷ []) d i lt in
+      let b = h.chains.inside i d lt in
+      subst (λ (r : Line). (r.start ≤ r.end) × (r.end ≤ length all)) (sym e)
+      (b.0, omega (arith, b.1, length-append pool parts))
+  inside i d (inr le) q =
+      let e = get_or_push lines l d i (omega (arith, le, q, length-append lines (l ∷ []))) in
+      subst (λ (r : Line). (r.start ≤ r.end) × (r.end ≤ length all)) (sym e)
+      (omega (arith, k.start, k.end, length-append pool parts), omega (arith, k.end))
+
+  -- what is known of the first lines
+  past-old : (n b past : ℕ) → n ≤ length lines → IsPast pool lines n b past → IsPast all lines' n b past
+  past-old n b past q g = record {
+    limit = g.limit;
+    none = λ j u v w. g.none j u v (sym (ap bucket_of (old j (omega (arith, q, v)))) ∙ w);
+    last = λ j u. ap bucket_of (old j (omega (arith, q, u, g.limit))) ∙ g.last j u;
+  }
+
+  before : (i : ℕ) (d : Line) → (i < length lines) ⊎ (length lines ≤ i) → i < length lines' →
+      IsPast all lines' i (bucket_at all lines' i) (get_or lines' i d).before
+  before i d (inl lt) q =
+      let e = get_or_append_left lines (l ∷ []) d i lt in
+      subst (λ (r : Line). IsPast all lines' i (bucket_at all lines' i) r.before) (sym e)
+      (subst (λ (b : ℕ). IsPast all lines' i b (get_or lines i d).before) (sym (ap bucket_of (old i lt)))
+      (past-old i (bucket_at pool lines i) (get_or lines i d).before (omega (arith, lt)) (h.chains.before i d lt)))
+  before i d (inr le) q =
+      let at : i ≡ length lines = omega (arith, le, q, length-append lines (l ∷ [])) in
+      let e = get_or_push lines l d i (sym at) in
+      let b = bucket_of parts in
+      subst (λ (r : Line). IsPast all lines' i (bucket_at all lines' i) r.before) (sym e)
+      (subst (λ (m : ℕ). IsPast all lines' m (bucket_at all lines' m) l.before) (sym at)
+      (subst (λ (c : ℕ). IsPast all lines' (length lines) c l.before) (sym (ap bucket_of new))
+      (subst (λ (p : ℕ). IsPast all lines' (length lines) b p) (sym k.before)
+      (past-old (length lines) b (get_or heads b 0) (omega arith) (h.last b (bucket-bound parts))))))
+
+  last : (b : ℕ) → b < 64 → (b ≡ bucket_of parts) ⊎ (b ≡ bucket_of parts → ⊥) →
+      IsPast all lines' (length lines') b (get_or (set heads (bucket_of parts) (length lines + 1)) b 0)
+  last b q (inl e) =
+      let here = get_or-set_same heads (bucket_of parts) (length lines + 1) 0 (omega (arith, h.count, bucket-bound parts)) in
+      subst (λ (p : ℕ). IsPast all lines' (length lines') b p) (sym (ap (λ (c : ℕ). get_or (set heads (bucket_of parts) (length lines + 1)) c
+      0) e ∙ here)) (record {
+        limit = omega (arith, length-append lines (l ∷ []));
+        none = λ j u v w. omega (arith, u, v, length-append lines (l ∷ []));
+        last = λ j u. ap (bucket_at all lines') (omega (arith, u)) ∙ ap bucket_of new ∙ sym e;
+      })
+  last b q (inr n) =
+      let there = get_or-set_other heads (bucket_of parts) b (length lines + 1) 0 n in
+      let g = past-old (length lines) b (get_or heads b 0) (omega arith) (h.last b q) in
+      subst (λ (p : ℕ). IsPast all lines' (length lines') b p) (sym there) (record {
+        limit = omega (arith, g.limit, length-append lines (l ∷ []));
+        none = λ j u v w. beyond j u v w (cases_lt j (length lines));
+        last = g.last;
+      }) where
+        beyond : (j : ℕ) → get_or heads b 0 ≤ j → j < length lines' → bucket_at all lines' j ≡ b → (j < length lines) ⊎ (length lines ≤ j) → ⊥
+        beyond j u v w (inl lt) = (past-old (length lines) b (get_or heads b 0) (omega arith) (h.last b q)).none j u lt w
+        beyond j u v w (inr le) =
+            let at : j ≡ length lines = omega (arith, le, v, length-append lines (l ∷ [])) in
+            n (sym w ∙ ap (bucket_at all lines') at ∙ ap bucket_of new)
+
+-- A table without rows
+
+pub lines-none : AreLines [] [] (replicate 64 0)
+lines-none = record {
+  chains = record {
+    inside = λ i d k. absurd (omega (arith, k));
+    before = λ i d k. absurd (omega (arith, k));
+  };
+  count = refl;
+  last = λ b k. subst (λ (p : ℕ). IsPast [] [] 0 b p) (sym (get_or-replicate 64 b 0 0 k)) (record {
+    limit = omega arith;
+    none = λ j u v w. omega (arith, v);
+    last = λ j u. absurd (omega (arith, u));
+  });
+}

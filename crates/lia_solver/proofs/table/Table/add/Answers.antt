@@ -1,0 +1,108 @@
+use Rattle.std.proofs.Common.{◌≡◌, ◌<◌, ◌+◌, ◌∷◌, ◌++◌, [], List, ℕ, ℤ, length, get_or, set, to_z, of_z, FitsSigned, to_z-of_z, arith, rules, refl, sym, ap, subst, ◌∙◌}
+use Rattle.std.specs.Int.{w128}
+use Rattle.std.proofs.lemmas.List.{get_or_default, length-append}
+use Rattle.linear_formula.specs.LinearSum.{LinearSum}
+use Rattle.lia_solver.specs.declared.table.Line.{Line}
+use Rattle.lia_solver.specs.declared.table.Origin.{Origin}
+use Rattle.lia_solver.specs.steps.Buckets.{bucket_of}
+use Rattle.lia_solver.specs.steps.Entries.{IsAdded}
+use Rattle.lia_solver.specs.steps.Lines.{AreLines, entries_of, parts_at, joined_line}
+use Rattle.lia_solver.proofs.Chains.{no_line, lines-joined, lines-grown, lines-pushed, IsLastLine}
+use Rattle.lia_solver.proofs.TableEntries.{added-joined, added-new}
+use Rattle.lia_solver.proofs.table.Table.add.Goals as goal
+
+-- the line that is joined, as it stood
+joined-is : (lines : List Line) (place : ℕ) (line result : Line) (constant : ℤ) (o : Origin) → place < length lines →
+    line ≡ get_or lines place line → FitsSigned w128 constant → result ≡ joined_line line (to_z w128 (of_z w128 constant)) o → result
+    ≡ joined_line (get_or lines place no_line) constant o
+joined-is lines place line result constant o h e f g =
+    g ∙ ap (λ z. joined_line line z o) (to_z-of_z f) ∙ ap (λ l. joined_line l constant o)
+    (e ∙ get_or_default lines place line no_line h)
+
+pub invariant_of-self : goal.invariant_of-self
+invariant_of-self c =
+    let pool = c.self.inside.parts.items in
+    let lines = c.self.inside.lines.items in
+    let h : c.in-Some.place < length lines = omega (arith, c.in-Some.ensures.0, ap (λ (ls : List Line). length ls) c.deref-2.ensures.value) in
+    let f : FitsSigned w128 c.args.constant = search rules in
+    subst (λ (l : Line). AreLines pool (set lines c.in-Some.place l) c.self.inside.heads)
+    (sym (joined-is lines c.in-Some.place c.index-line.result.now c.joined.result c.args.constant c.args.origin h c.index-line.ensures f
+    c.joined.ensures)) (lines-joined pool lines c.self.inside.heads c.in-Some.place c.args.constant c.args.origin c.self.invariant h)
+
+pub returns-in-Some : goal.returns-in-Some
+returns-in-Some c =
+    let pool = c.self.inside.parts.items in
+    let lines = c.self.inside.lines.items in
+    let h : c.in-Some.place < length lines = omega (arith, c.in-Some.ensures.0, ap (λ (ls : List Line). length ls) c.deref-2.ensures.value) in
+    let f : FitsSigned w128 c.args.constant = search rules in
+    let t : LinearSum = record { parts = c.args.parts.now; constant = c.args.constant } in
+    let here : parts_at pool lines c.in-Some.place ≡ t.parts = ap (λ ls. parts_at pool ls c.in-Some.place) (sym c.deref-2.ensures.value)
+    ∙ ap (λ ps. parts_at ps c.deref-2.result.now c.in-Some.place) (sym c.deref.ensures.value) ∙ c.in-Some.ensures.1 in
+    subst (λ (l : Line). IsAdded t c.args.origin c.args.self.now (entries_of pool (set lines c.in-Some.place l)))
+    (sym (joined-is lines c.in-Some.place c.index-line.result.now c.joined.result c.args.constant c.args.origin h c.index-line.ensures f
+    c.joined.ensures)) (added-joined pool lines c.args.self.now c.in-Some.place t c.args.origin c.self.view_is h here)
+
+pub invariant_of-self-in_err-push-in-None : goal.invariant_of-self-in_err-push-in-None
+invariant_of-self-in_err-push-in-None c =
+    subst (λ (ps : List (ℕ × ℤ)). AreLines ps c.push.new.self.items c.self.inside.heads) (sym c.in_ok-extend_from_slice-in-None.ensures.items)
+    (subst (λ (ls : List Line). AreLines (c.self.inside.parts.items ++ c.args.parts.now) ls c.self.inside.heads)
+    (sym c.in_err-push-in-None.ensures.items)
+    (lines-grown c.self.inside.parts.items c.args.parts.now c.self.inside.lines.items c.self.inside.heads c.self.invariant))
+
+-- the line that is pushed
+abbrev line_of : (start end before : ℕ) → ℤ → Origin → Line
+line_of start end before c o =
+    record { start = start; end = end; constant = c; least = c; origin = o; before = before }
+
+pushed-line : (pool parts more : List (ℕ × ℤ)) (heads : List ℕ) (start end bucket : ℕ) (c : ℤ) (o : Origin) → start ≡ length pool →
+    end ≡ length more → more ≡ pool ++ parts → bucket ≡ bucket_of parts → IsLastLine pool parts heads
+    (line_of start end (get_or heads bucket 0) c o)
+pushed-line pool parts more heads start end bucket c o e f g b = record {
+  start = e;
+  end = f ∙ ap (λ (ps : List (ℕ × ℤ)). length ps) g;
+  before = ap (λ (k : ℕ). get_or heads k 0) b;
+}
+
+pub invariant_of-self-in-None : goal.invariant_of-self-in-None
+invariant_of-self-in-None c =
+    let pool = c.self.inside.parts.items in
+    let lines = c.self.inside.lines.items in
+    let heads = c.self.inside.heads in
+    let parts = c.args.parts.now in
+    let bucket = c.bucket_of-bucket.result in
+    let l = line_of c.len-start.result c.len-end.result (get_or heads bucket 0) (to_z w128 (of_z w128 c.args.constant)) c.args.origin in
+    let more : c.extend_from_slice.new.self.items ≡ pool ++ parts = c.in_ok-extend_from_slice-in-None.ensures.items in
+    let items : c.push.new.self.items ≡ lines ++ l ∷ [] = c.in_ok-push-in-None.ensures.items in
+    let last = pushed-line pool parts c.extend_from_slice.new.self.items heads c.len-start.result c.len-end.result bucket
+    (to_z w128 (of_z w128 c.args.constant)) c.args.origin (c.len-start.ensures ∙ c.self.inside.parts.ok.0)
+    (c.len-end.ensures ∙ c.extend_from_slice.new.self.ok.0) more c.bucket_of-bucket.ensures.value in
+    let count : c.len.result ≡ length lines + 1 = omega (arith, c.len.ensures, c.push.new.self.ok.0, ap (λ (ls : List Line). length ls) items,
+      length-append lines (l ∷ [])) in
+    subst (λ (ps : List (ℕ × ℤ)). AreLines ps c.push.new.self.items (set heads bucket c.len.result)) (sym more)
+    (subst (λ (ls : List Line). AreLines (pool ++ parts) ls (set heads bucket c.len.result)) (sym items)
+    (subst (λ (n : ℕ). AreLines (pool ++ parts) (lines ++ l ∷ []) (set heads bucket n)) (sym count)
+    (subst (λ (b : ℕ). AreLines (pool ++ parts) (lines ++ l ∷ []) (set heads b (length lines + 1))) (sym c.bucket_of-bucket.ensures.value)
+    (lines-pushed pool parts lines heads l c.self.invariant last))))
+
+pub returns-in_ok-push-in-None : goal.returns-in_ok-push-in-None
+returns-in_ok-push-in-None c =
+    let pool = c.self.inside.parts.items in
+    let lines = c.self.inside.lines.items in
+    let heads = c.self.inside.heads in
+    let parts = c.args.parts.now in
+    let bucket = c.bucket_of-bucket.result in
+    let f : FitsSigned w128 c.args.constant = search rules in
+    let t : LinearSum = record { parts = parts; constant = c.args.constant } in
+    let l = line_of c.len-start.result c.len-end.result (get_or heads bucket 0) (to_z w128 (of_z w128 c.args.constant)) c.args.origin in
+    let more : c.extend_from_slice.new.self.items ≡ pool ++ parts = c.in_ok-extend_from_slice-in-None.ensures.items in
+    let items : c.push.new.self.items ≡ lines ++ l ∷ [] = c.in_ok-push-in-None.ensures.items in
+    let last = pushed-line pool parts c.extend_from_slice.new.self.items heads c.len-start.result c.len-end.result bucket
+    (to_z w128 (of_z w128 c.args.constant)) c.args.origin (c.len-start.ensures ∙ c.self.inside.parts.ok.0)
+    (c.len-end.ensures ∙ c.extend_from_slice.new.self.ok.0) more c.bucket_of-bucket.ensures.value in
+    let other : (i : ℕ) → i < length lines → parts_at pool lines i ≡ parts → ⊥ =
+    λ i k e. c.in-None.ensures i (subst (λ (ls : List Line). i < length ls) (sym c.deref-2.ensures.value) k)
+    (ap (λ ls. parts_at c.deref.result.now ls i) c.deref-2.ensures.value ∙ ap (λ ps. parts_at ps lines i) c.deref.ensures.value ∙ e) in
+    subst (λ (ps : List (ℕ × ℤ)). IsAdded t c.args.origin c.args.self.now (entries_of ps c.push.new.self.items)) (sym more)
+    (subst (λ (ls : List Line). IsAdded t c.args.origin c.args.self.now (entries_of (pool ++ parts) ls)) (sym items)
+    (added-new pool lines heads c.args.self.now t c.args.origin l c.self.view_is c.self.invariant.chains other last (to_z-of_z f)
+    (to_z-of_z f) refl))
