@@ -44,7 +44,8 @@ returns-in-Err-clause-sits g c =
     let same = subst (λ (x : Shown). SameProgram x c.stop.new.self) c.in-Err.ensures.taken c.stop.ensures.same in
     let stops = subst (λ (x : Shown). Stops x mid.worker c.stop.new.self) c.in-Err.ensures.taken c.stop.ensures.stopped in
     freed_sits (record mid { known = c.fetch.new.known }) c.free-in-Err.new.desk b c.stop.new.self
-    (c.hold-board.ensures.later c.requires.sits.board c.requires.sits.has_seen).is_new same (stops_ended b c.stop.new.self mid.worker stops).0
+    (c.hold-board.ensures.later c.requires.sits.board c.requires.sits.has_seen).is_new same
+    (stops_ended b c.stop.new.self mid.worker stops).0
     c.free-in-Err.ensures
     (brought_of b mid.graphs.value.graphs mid.known c.fetch.new.known
     (held_of c.args.desk.now mid b c.requires.sits c.hold-board.ensures) c.fetch.ensures.room c.fetch.ensures.front)
