@@ -1,7 +1,9 @@
 //! One worker: its turns with the board, and what it makes between them.
 
-ghost use Rattle.std.specs.Prelude.{◌≡◌, IfErr, IfOk, IfSome, OnOk, Some, false, true};
+ghost use Rattle.std.specs.Prelude.{◌≡◌, ◌≤◌, IfErr, IfOk, IfSome, MatchResult, OnOk, Some, false, length, true};
+ghost use Rattle.summary_table.specs.Tables.{StartsWith as FrontOf};
 ghost use Rattle.board_lock.specs.Views.{StartsWith};
+ghost use Rattle.bolt_core.specs.Boards.{Gives, SameProgram};
 ghost use Rattle.bolt_workers.specs.steps.Desks.{CanGive, CanShow, CanWork, Frees, HasEnded, Holds, IsBack, IsTold, Sits, program_of};
 
 use crate::desk::{Desk, wake};
@@ -15,6 +17,7 @@ use outer_io::Gate;
 use std::alloc::Global;
 use std::sync::{Arc, Wait};
 use summary_form::summary::Summary;
+use summary_table::table::Table;
 
 /// Passes the gate, and waits for the board.
 fn hold<R: Wait, G: Gate>(rt: &R, lock: &BoardLock<Board>, desk: &mut Desk, gate: &G) -> Board
@@ -47,6 +50,21 @@ fn free<G: Gate>(lock: &BoardLock<Board>, desk: &mut Desk, board: Board, all: &[
     gate.pass(desk.worker, desk.calls, true);
 }
 
+/// Brings a table up to the board's, and takes a query.
+fn fetch(board: &mut Board, worker: u32, known: &mut Table) -> Result<Taken, OutOfMemory>
+    requires room { length board.old.core.table ≤ known.old.room }
+    requires front { FrontOf board.old.core.table known.old.summaries }
+    ensures same { SameProgram board.old board.new }
+    ensures room { known.new.room ≡ known.old.room }
+    ensures front { FrontOf board.old.core.table known.new.summaries }
+    ensures taken { MatchResult result
+        (λ t. Gives board.old worker board.new t × (known.new.summaries ≡ board.old.core.table))
+        (λ _. board.new ≡ board.old) }
+{
+    board.bring(known)?;
+    Ok(board.take(worker, known))
+}
+
 /// A take, with the worker's table brought up to the board's before. Want of memory stops the
 /// board.
 fn take_once<R: Wait, G: Gate>(
@@ -65,9 +83,8 @@ fn take_once<R: Wait, G: Gate>(
     ensures ended { IfErr result (λ _. HasEnded desk.new) }
 {
     let mut board = hold(rt, lock, desk, gate);
-    match board.bring(&mut desk.known) {
-        Ok(()) => {
-            let taken = board.take(desk.worker, &desk.known);
+    match fetch(&mut board, desk.worker, &mut desk.known) {
+        Ok(taken) => {
             free(lock, desk, board, all, gate);
             Ok(taken)
         }
