@@ -13,6 +13,7 @@ ghost use Rattle.smash_main.specs.steps.Judging.{AreVerdicts};
 use bolt_core::board::Board;
 use bolt_core::job::Verdict;
 use bolt_rounds::alone::alone;
+use bolt_workers::work::work;
 use c_tree::tree::Program;
 use flow_build::build::build;
 use linear_formula::error::OutOfMemory;
@@ -42,22 +43,27 @@ fn verdicts_of(alloc: Global, board: &Board, count: u32) -> Result<Vec<Verdict>,
     Ok(verdicts)
 }
 
-/// A board without history, worked at until it is over.
+/// A board without history, worked at until it is over: by one worker in the calling thread, or by
+/// several under a lock.
 fn worked<R: Threads + Wait + Sync, G: Gate>(
-    _rt: &R,
+    rt: &R,
     alloc: Global,
     board: Board,
-    _workers: u32,
-    _gate: &G,
+    workers: u32,
+    gate: &G,
 ) -> Result<Board, OutOfMemory>
-    requires some { 1 ≤ _workers }
-    requires most { _workers ≤ max_workers }
+    requires some { 1 ≤ workers }
+    requires most { workers ≤ max_workers }
     requires begun { board.core.history ≡ [] }
     ensures same { IfOk result (λ b. SameProgram board b) }
     ensures over { IfOk result (λ b. is_over (reads b.graphs) b.core ≡ true) }
     ensures going { IfOk result (λ b. b.core.is_stopped ≡ false) }
 {
-    alone(alloc, board)
+    if workers == 1 {
+        alone(alloc, board)
+    } else {
+        work(rt, alloc, board, workers, gate)
+    }
 }
 
 /// The board of a program, with a root of this budget for each assertion, worked at until it is
