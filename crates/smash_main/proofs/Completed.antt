@@ -8,10 +8,10 @@ use Rattle.c_tree.specs.Meaning.{ReplayOutcome, Comes, Starved, Fuel, Returned, 
 use Rattle.bolt_core.specs.declared.job.Verdict.{Verdict}
 use Rattle.report_text.specs.Report.{is_found, is_unknown}
 use Rattle.smash_main.specs.Analysis.{Witness}
-use Rattle.smash_main.specs.Words.{Command, check, replay}
+use Rattle.smash_main.specs.Words.{Command, check, replay, workload}
 use Rattle.smash_main.specs.Source.{IsAccepted}
 use Rattle.smash_main.specs.Asked.{Answers, replay_status, status_of}
-use Rattle.smash_main.specs.Run.{Change, EndsWith, Obeys, Completes, IsVerdictStatus}
+use Rattle.smash_main.specs.Run.{Change, EndsWith, EndsWorkload, HasFault, Obeys, ObeysSource, Completes, CompletesSource, IsVerdictStatus}
 
 -- what was read whole is all that there was
 whole : (before after : Option (List ℕ)) (all bytes : List ℕ) → before ≡ Some all → Consumes before after bytes → IsAtEnd after →
@@ -48,12 +48,13 @@ replay_ends Fuel status e = inr (inr (inl e))
 
 -- the status of an answer is one of a verdict
 answered : (c : Command) (P : PureProgram) (status : ℕ) (text : List ℕ) (w : Witness) → Answers c P status text w → IsVerdictStatus status
-answered (check budget) P status text w k = check_ends k.verdicts status k.ended
+answered (check budget workers) P status text w k = check_ends k.verdicts status k.ended
 answered (replay fuel list) P status text w k = replay_ends k.outcome status k.ended
+answered (workload number budget workers) P status text w k = check_ends k.verdicts status k.ended
 
-pub completes : (c : Command) (status : ℕ) (source sink : Change) (w : Witness) → Obeys c status source sink w →
-    Completes c status source sink
-completes c status source sink w (inl k) all P told fits accepted read_well write_well = ended k.ends
+source_completes : (c : Command) (status : ℕ) (source sink : Change) (w : Witness) → ObeysSource c status source sink w →
+    CompletesSource status source sink
+source_completes c status source sink w (inl k) all P told fits accepted read_well write_well = ended k.ends
   where
     same : k.bytes ≡ all
     same = whole source.before source.after all k.bytes told k.read.consumed k.read.at_end
@@ -62,7 +63,22 @@ completes c status source sink w (inl k) all P told fits accepted read_well writ
     ended (inl e) = subst IsVerdictStatus (sym e.0)
         (answered c P k.due k.text w (k.settled P (subst (λ z. IsAccepted z P) (sym same) accepted)))
     ended (inr e) = absurd (write_well e.1)
-completes c status source sink w (inr (inl l)) all P told fits accepted read_well write_well =
+source_completes c status source sink w (inr (inl l)) all P told fits accepted read_well write_well =
     absurd (omega (arith, at_most source.before source.after all l.taken.0 told l.taken.1, l.taken.2))
-completes c status source sink w (inr (inr (inl b))) all P told fits accepted read_well write_well = absurd (read_well b.failed)
-completes c status source sink w (inr (inr (inr m))) all P told fits accepted read_well write_well = inr (inr (inr m.is_seven))
+source_completes c status source sink w (inr (inr (inl b))) all P told fits accepted read_well write_well = absurd (read_well b.failed)
+source_completes c status source sink w (inr (inr (inr m))) all P told fits accepted read_well write_well = inr (inr (inr m.is_seven))
+
+workload_completes : (n b status : ℕ) (sink : Change) (w : Witness) → EndsWorkload n b status sink w → (HasFault sink → ⊥) →
+    IsVerdictStatus status
+workload_completes n b status sink w k write_well = ended k.ends
+  where
+    ended : EndsWith status sink k.due k.text → IsVerdictStatus status
+    ended (inl e) = subst IsVerdictStatus (sym e.0) (check_ends k.reported.verdicts k.due k.reported.ended)
+    ended (inr e) = absurd (write_well e.1)
+
+pub completes : (c : Command) (status : ℕ) (source sink : Change) (w : Witness) → Obeys c status source sink w →
+    Completes c status source sink
+completes (check b v) status source sink w h = source_completes (check b v) status source sink w h
+completes (replay f zs) status source sink w h = source_completes (replay f zs) status source sink w h
+completes (workload n b v) status source sink w (inl k) = workload_completes n b status sink w k
+completes (workload n b v) status source sink w (inr m) = λ write_well. inr (inr (inr m.is_seven))

@@ -1,163 +1,324 @@
--- The words of the command line.
-use Rattle.std.specs.Prelude.{◌≡◌, ℕ, ◌-◌, ◌≤◌, List, [], ◌∷◌, length, take, map, string_bytes, Bool, true, false, nat_eq, ◌==◌, refl, ℤ, ◌⊎◌, Option, Some, None, unwrap_or, codes}
-use Rattle.std.specs.declared.string.String.{String}
-use Rattle.std.specs.declared.alloc.Global.{Global}
-use Rattle.std.specs.Cmp.Lexicographic.{same_text}
-use lib.Pointwise.{pointwise}
-use Rattle.std.proofs.Common.{drop, get_or, sym, ◌∙◌, ap, subst, arith, inl, inr}
-use Rattle.std.proofs.Math.Seq.{take-length}
-use Rattle.std.proofs.lemmas.List.{length-drop, drop-map}
-use Rattle.std.proofs.lemmas.Bool.Decides.{nat_tests}
+-- The words are a command exactly where `clap` takes them and what they give is that of the command.
+use Rattle.std.proofs.Common.{◌≡◌, ◌∙◌, ℕ, ◌≤◌, Bool, true, false, List, [], ◌∷◌, length, refl, Option, Some, None, ap, ap₂, sym, subst, arith, codes}
+use Rattle.std.specs.Prelude.{Contains, ◌&&◌, nat_le, ℤ}
+use Rattle.std.specs.List.{list_all}
+use Rattle.std.specs.Str.{bytes_eq}
 use Rattle.std.proofs.lemmas.Slice.Eq.{bytes_eq-Decides}
-use Rattle.smash_main.specs.Words.{Command, check, replay, AreWords, check_budget, check_default, replay_fuel, replay_default, default_fuel, default_budget}
-use Rattle.smash_main.specs.declared.words.Setting.TheVariants as setting
-use Rattle.smash_main.specs.steps.WordsView.{IsRest}
-use Rattle.smash_main.specs.Words.{HasOneCommand}
-use Rattle.smash_main.proofs.WordsRest.{rest_same}
-use Rattle.smash_main.proofs.WordsForms.{replay_rest, rest_replay, check_rest, rest_check}
+use Rattle.clap.specs.Simple.{subcommand_of}
+use Rattle.clap.specs.Walk.{Row, Rule, first_of, nothing_held, rows_after}
+use Rattle.clap.specs.Faults.{fault_of, level_fault}
+use Rattle.std.proofs.lemmas.Bool.Decides.{nat_tests}
+use Rattle.run_replay.proofs.Keeps.{and_left}
+use Rattle.smash_main.specs.Words.{AreParted, AreWords, Command, GivesBudget, GivesFuel, GivesWorkers, default_budget, default_fuel, default_workers, max_budget, max_fuel, max_number, max_workers, HasOneCommand, IsGivenOr, IsList, IsNumber, Text, is_digit, is_numeral, none, some, value_from, check, check_options, given, is_check, is_replay, is_workload, missing, replay, replay_options, texts_of, workload}
+use Rattle.smash_main.specs.steps.WordsLine as steps
+use Rattle.smash_main.specs.steps.WordsView.{FitsCheck, FitsCommand}
+use Rattle.smash_main.specs.steps.WordsLine.{Gives, line_app, listed, name_of}
+use Rattle.smash_main.proofs.WordsRows.{Texts, first_listed, rows}
+use Rattle.smash_main.proofs.WordsLists.{list_same}
+use Rattle.smash_main.proofs.WordsShapes.{AllOther, IsOther, first_byte, other_byte}
+use Rattle.smash_main.proofs.WordsLeaf.{HasOptions, Place, free, full, leaf}
+use Rattle.smash_main.proofs.WordsReading.{Asks, taken, what_is_taken}
+use Rattle.smash_main.proofs.WordsLine.{AreBare, check_bare, check_entered, check_faults, check_has, check_place, check_rules, for_check, for_replay, is_budget, is_fuel, is_workers, leaf_rows, leaf_takes, leaf_well, no_name, no_words, replay_bare, replay_entered, replay_faults, replay_has, replay_place, replay_rules, workload_bare, workload_entered, workload_faults, workload_has, workload_place, workload_rules}
 
-abbrev pub texts : List (String Global) → List (List ℕ)
-texts words = map string_bytes words
+-- The words behind a name, with the rows that `clap` makes of them
 
--- the first word and the words behind it
-pub head_is : (words : List (String Global)) (word : String Global) (text : List ℕ) → 1 ≤ length words → word ≡ get_or words 0 word →
-    text ≡ string_bytes word → texts words ≡ text ∷ texts (drop 1 words)
-head_is [] word text some at is = absurd (omega arith)
-head_is (w ∷ ws) word text some at is = ap (λ t. t ∷ texts ws) (sym (ap string_bytes at) ∙ sym is)
+pub record Parts (c : List Rule) (names : List Text) (other : Text) (room : ℕ) (words : List Text) (options : Texts) (others : List Text) :
+    Type 0 where
+  pub parted : AreParted names false words options others
+  pub of_options : (n : Text) → Contains names n → listed (first_of n (rows_after c [] words)) ≡ texts_of n options
+  pub of_others : listed (first_of other (rows_after c [] words)) ≡ others
+  pub fits : length others ≤ room
 
-pub slice_words : (xs : List (String Global)) (at : ℕ) → take (length xs - at) (drop at xs) ≡ drop at xs
-slice_words xs at = let n : length (drop at xs) ≡ length xs - at = length-drop at xs in ap (λ k. take k (drop at xs)) (sym n)
-    ∙ take-length (drop at xs)
+room_is : {c : List Rule} {other : Text} {room position : ℕ} → Place c other room position → room ≤ 1
+room_is (full e) = omega arith
+room_is (free one two by_id) = omega arith
 
-pub texts_behind : (xs : List (String Global)) (at n : ℕ) → at ≡ n → drop n (texts xs) ≡ texts (take (length xs - at) (drop at xs))
-texts_behind xs at n e = drop-map string_bytes n xs ∙ ap (λ k. texts (drop k xs)) (sym e) ∙ ap texts (sym (slice_words xs at))
+module _ (name : Text) (c : List Rule) (names : List Text) (other : Text) (room : ℕ) (o : HasOptions c names other)
+    (place : Place c other room 1)
+    (b : AreBare c) (words : List Text) where
+  rows_listed : (n : Text) (all : Texts) (ts : List Text) → rows_after c [] words ≡ rows all → texts_of n all ≡ ts → length ts ≤ 1 →
+      listed (first_of n (rows_after c [] words)) ≡ ts
+  rows_listed n all ts is e few =
+      ap (λ rs. listed (first_of n rs)) is ∙ first_listed n all (subst (λ us. length us ≤ 1) (sym e) few) ∙ e
 
-pub text_is : (text want : List ℕ) (b : Bool) → b ≡ pointwise nat_eq text want → b ≡ true → text ≡ want
-text_is text want b e t = same_text text want (sym t ∙ e)
+  pub parts_of : level_fault (leaf name c) [] nothing_held words false [] ≡ [] →
+      (options : Texts) × (others : List Text) × Parts c names other room words options others
+  parts_of h =
+      let q = what_is_taken name c names other o words room place (leaf_takes name c b words h) in
+      let is = leaf_rows name c b words ∙ q.rows_are in (
+        q.options,
+        q.others,
+        record {
+          parted = q.parted;
+          of_options = λ n within. rows_listed n q.all (texts_of n q.options) is (q.of_options n within) (q.few n within);
+          of_others = rows_listed other q.all q.others is q.of_others (let f = q.fits in let m = room_is place in omega arith);
+          fits = q.fits;
+        },
+      )
 
-pub text_is_not : (text want : List ℕ) (b : Bool) → b ≡ pointwise nat_eq text want → b ≡ false → text ≡ want → ⊥
-text_is_not text want b e f is = let d = bytes_eq-Decides text want in let n : true ≡ false = sym (d.1 is) ∙ sym e ∙ f in differ n
+  pub parts_taken : (options : Texts) (others : List Text) → AreParted names false words options others →
+      Asks name c names other o options others [] room →
+      (level_fault (leaf name c) [] nothing_held words false [] ≡ []) × Parts c names other room words options others
+  parts_taken options others parted a =
+      let q = taken name c names other o parted [] None room 1 place tt tt a in
+      let is = leaf_rows name c b words ∙ q.ends.rows_are in (
+        leaf_well name c b words q.ends.walks q.ends.settles,
+        record {
+          parted = parted;
+          of_options = λ n within. rows_listed n q.all (texts_of n options) is (q.of_options n within) (a.few n within);
+          of_others = rows_listed other q.all others is q.of_others (let f = a.fits in let m = room_is place in omega arith);
+          fits = a.fits;
+        },
+      )
+
+-- Numbers and lists are no options
+
+numeral_first : (text : Text) → is_numeral text ≡ true → first_byte text ≡ 45 → ⊥
+numeral_first [] h e = cc
+numeral_first (b ∷ []) h e = grind (arith, nat_tests)
+numeral_first (b ∷ d ∷ bs) h e = let k = and_left (nat_le 49 b && nat_le b 57) (list_all is_digit (d ∷ bs)) h in grind (arith, nat_tests)
+
+number_other : (low high n : ℕ) (text : Text) → IsNumber low high text n → IsOther text
+number_other low high n text h = other_byte text (numeral_first text h.numeral)
+
+list_first : {text : Text} {zs : List ℤ} → IsList text zs → first_byte text ≡ 91
+list_first (none n) = refl
+list_first (some h le) = refl
+
+list_other : (text : Text) (zs : List ℤ) → IsList text zs → IsOther text
+list_other text zs h = other_byte text (λ e. let k : 91 ≡ 45 = sym (list_first h) ∙ e in absurd (omega arith))
+
+module _ {default high : ℕ} where
+  given_other : {ts : List Text} {n : ℕ} → IsGivenOr default high ts n → AllOther ts
+  given_other missing = tt
+  given_other (given {text} {n} h) = (number_other 1 high n text h, tt)
+
+  given_few : {ts : List Text} {n : ℕ} → IsGivenOr default high ts n → length ts ≤ 1
+  given_few missing = omega arith
+  given_few (given h) = omega arith
+
+  given_same : {ts : List Text} {m n : ℕ} → IsGivenOr default high ts m → IsGivenOr default high ts n → m ≡ n
+  given_same missing missing = refl
+  given_same (given g) (given h) = g.value ∙ sym h.value
+
+listed_some : (o : Option Text) (t : Text) → listed o ≡ t ∷ [] → o ≡ Some t
+listed_some None t e = cc
+listed_some (Some u) t e = cc
+
+-- What a command gives is what its words give
+
+pub record IsLine (ws : List Text) (c : Command) : Type 0 where
+  pub taken_well : fault_of line_app ws ≡ []
+  pub all : List Row
+  pub entered : subcommand_of line_app ws ≡ Some (name_of c, all)
+  pub gives : Gives c (λ id. first_of id all)
+
+module _ (options : Texts) (b w : ℕ) (budget : GivesBudget options b) (workers : GivesWorkers options w) where
+  check_asks : (others : List Text) (room : ℕ) → AllOther others → length others ≤ room → room ≤ 1 →
+      (name other : Text) (c : List Rule) (o : HasOptions c check_options other) → Asks name c check_options other o options others [] room
+  check_asks others room plain fits le name other c o = record {
+    fine = for_check (λ n. AllOther (texts_of n options)) (given_other budget) (given_other workers);
+    plain = plain;
+    few = for_check (λ n. length (texts_of n options) ≤ 1) (given_few budget) (given_few workers);
+    fits = fits;
+    clear = omega arith;
+  }
+
+  gives_numbers : (rs : List Row) → ((n : Text) → Contains check_options n → listed (first_of n rs) ≡ texts_of n options) →
+      steps.GivesBudget (λ id. first_of id rs) b × steps.GivesWorkers (λ id. first_of id rs) w
+  gives_numbers rs h = (
+    subst (λ ts. IsGivenOr default_budget max_budget ts b) (sym (h (codes "budget") is_budget)) budget,
+    subst (λ ts. IsGivenOr default_workers max_workers ts w) (sym (h (codes "workers") is_workers)) workers,
+  )
+
+replay_asks : (options : Texts) (f : ℕ) (list : Text) (zs : List ℤ) → GivesFuel options f → IsList list zs →
+    Asks (codes "replay") replay_rules replay_options (codes "list") replay_has options (list ∷ []) [] 1
+replay_asks options f list zs fuel read = record {
+  fine = for_replay (λ n. AllOther (texts_of n options)) (given_other fuel);
+  plain = (list_other list zs read, tt);
+  few = for_replay (λ n. length (texts_of n options) ≤ 1) (given_few fuel);
+  fits = omega arith;
+  clear = omega arith;
+}
+
+pub is_line : {ws : List Text} {c : Command} → AreWords ws c → IsLine ws c
+is_line (is_check {words} {options} {b} {w} parted budget workers) =
+    let q = parts_taken (codes "check") check_rules check_options (codes "number") 0 check_has check_place check_bare words options []
+    parted
+    (check_asks options b w budget workers [] 0 tt (omega arith) (omega arith) (codes "check") (codes "number") check_rules check_has) in
+    record {
+      taken_well = check_faults words ∙ q.0;
+      all = rows_after check_rules [] words;
+      entered = check_entered words;
+      gives = gives_numbers options b w budget workers (rows_after check_rules [] words) q.1.of_options;
+    }
+is_line (is_replay {words} {options} {list} {f} {zs} parted fuel read) =
+    let q = parts_taken (codes "replay") replay_rules replay_options (codes "list") 1 replay_has replay_place replay_bare words options
+    (list ∷ []) parted (replay_asks options f list zs fuel read) in
+    record {
+      taken_well = replay_faults words ∙ q.0;
+      all = rows_after replay_rules [] words;
+      entered = replay_entered words;
+      gives = (
+        subst (λ ts. IsGivenOr default_fuel max_fuel ts f) (sym (q.1.of_options (codes "fuel") is_fuel)) fuel,
+        (list, listed_some _ list q.1.of_others, read),
+      );
+    }
+is_line (is_workload {words} {options} {number} {n} {b} {w} parted read budget workers) =
+    let q = parts_taken (codes "workload") workload_rules check_options (codes "number") 1 workload_has workload_place workload_bare words
+    options
+    (number ∷ []) parted
+    (check_asks options b w budget workers (number ∷ []) 1 (number_other 1 max_number n number read, tt) (omega arith) (omega arith)
+    (codes "workload") (codes "number") workload_rules workload_has) in
+    record {
+      taken_well = workload_faults words ∙ q.0;
+      all = rows_after workload_rules [] words;
+      entered = workload_entered words;
+      gives = let g = gives_numbers options b w budget workers (rows_after workload_rules [] words) q.1.of_options in
+          ((number, listed_some _ number q.1.of_others, read), g.0, g.1);
+    }
+
+-- The other direction
+
+none_left : (ts : List Text) → length ts ≤ 0 → ts ≡ []
+none_left [] h = refl
+none_left (t ∷ ts) h = absurd (omega arith)
+
+check_is : (words : List Text) (b w : ℕ) → fault_of line_app (codes "check" ∷ words) ≡ [] →
+    Gives (check b w) (λ id. first_of id (rows_after check_rules [] words)) → AreWords (codes "check" ∷ words) (check b w)
+check_is words b w h g =
+    let q = parts_of (codes "check") check_rules check_options (codes "number") 0 check_has check_place check_bare words
+    (sym (check_faults words) ∙ h) in
+    let none : q.1 ≡ [] = none_left q.1 q.2.fits in
+    is_check (subst (λ os. AreParted check_options false words q.0 os) none q.2.parted)
+    (subst (λ ts. IsGivenOr default_budget max_budget ts b) (q.2.of_options (codes "budget") is_budget) g.0)
+    (subst (λ ts. IsGivenOr default_workers max_workers ts w) (q.2.of_options (codes "workers") is_workers) g.1)
+
+replay_is : (words : List Text) (f : ℕ) (zs : List ℤ) → fault_of line_app (codes "replay" ∷ words) ≡ [] →
+    Gives (replay f zs) (λ id. first_of id (rows_after replay_rules [] words)) → AreWords (codes "replay" ∷ words) (replay f zs)
+replay_is words f zs h (fuel, (list, is, read)) =
+    let q = parts_of (codes "replay") replay_rules replay_options (codes "list") 1 replay_has replay_place replay_bare words
+    (sym (replay_faults words) ∙ h) in
+    let one : q.1 ≡ list ∷ [] = sym q.2.of_others ∙ ap listed is in
+    is_replay (subst (λ os. AreParted replay_options false words q.0 os) one q.2.parted)
+    (subst (λ ts. IsGivenOr default_fuel max_fuel ts f) (q.2.of_options (codes "fuel") is_fuel) fuel) read
+
+workload_is : (words : List Text) (n b w : ℕ) → fault_of line_app (codes "workload" ∷ words) ≡ [] →
+    Gives (workload n b w) (λ id. first_of id (rows_after workload_rules [] words)) → AreWords (codes "workload" ∷ words) (workload n b w)
+workload_is words n b w h ((number, is, read), budget, workers) =
+    let q = parts_of (codes "workload") workload_rules check_options (codes "number") 1 workload_has workload_place workload_bare words
+    (sym (workload_faults words) ∙ h) in
+    let one : q.1 ≡ number ∷ [] = sym q.2.of_others ∙ ap listed is in
+    is_workload (subst (λ os. AreParted check_options false words q.0 os) one q.2.parted) read
+    (subst (λ ts. IsGivenOr default_budget max_budget ts b) (q.2.of_options (codes "budget") is_budget) budget)
+    (subst (λ ts. IsGivenOr default_workers max_workers ts w) (q.2.of_options (codes "workers") is_workers) workers)
+
+-- by the name, since the names of the commands differ
+check_all : (words : List Text) (c : Command) → fault_of line_app (codes "check" ∷ words) ≡ [] → name_of c ≡ codes "check" →
+    Gives c (λ id. first_of id (rows_after check_rules [] words)) → AreWords (codes "check" ∷ words) c
+check_all words (check b w) h e g = check_is words b w h g
+check_all words (replay f zs) h e g = let k = ap first_byte e in absurd (omega arith)
+check_all words (workload n b w) h e g = let k = ap first_byte e in absurd (omega arith)
+
+replay_all : (words : List Text) (c : Command) → fault_of line_app (codes "replay" ∷ words) ≡ [] → name_of c ≡ codes "replay" →
+    Gives c (λ id. first_of id (rows_after replay_rules [] words)) → AreWords (codes "replay" ∷ words) c
+replay_all words (check b w) h e g = let k = ap first_byte e in absurd (omega arith)
+replay_all words (replay f zs) h e g = replay_is words f zs h g
+replay_all words (workload n b w) h e g = let k = ap first_byte e in absurd (omega arith)
+
+workload_all : (words : List Text) (c : Command) → fault_of line_app (codes "workload" ∷ words) ≡ [] → name_of c ≡ codes "workload" →
+    Gives c (λ id. first_of id (rows_after workload_rules [] words)) → AreWords (codes "workload" ∷ words) c
+workload_all words (check b w) h e g = let k = ap first_byte e in absurd (omega arith)
+workload_all words (replay f zs) h e g = let k = ap first_byte e in absurd (omega arith)
+workload_all words (workload n b w) h e g = workload_is words n b w h g
+
+pub same_pair : (m n : Text) (xs ys : List Row) → ◌≡◌ {A = Option (Text × List Row)} (Some (m, xs)) (Some (n, ys)) → (m ≡ n) × (xs ≡ ys)
+same_pair m n xs ys e =
+    let p : ◌≡◌ {A = Text × List Row} (m, xs) (n, ys) = cc in
+    (ap (λ (q : Text × List Row). q.0) p, ap (λ (q : Text × List Row). q.1) p)
+
+module _ (sub : Text) (words : List Text) (rs : List Row) (c : Command) (entered : subcommand_of line_app (sub ∷ words) ≡ Some (sub, rs))
+    (is_it : fault_of line_app (sub ∷ words) ≡ [] → name_of c ≡ sub → Gives c (λ id. first_of id rs) → AreWords (sub ∷ words) c) where
+  by_name : (word name : Text) (all : List Row) → bytes_eq sub word ≡ true → fault_of line_app (word ∷ words) ≡ [] →
+      subcommand_of line_app (word ∷ words) ≡ Some (name, all) → name_of c ≡ name → Gives c (λ id. first_of id all) →
+      AreWords (word ∷ words) c
+  by_name word name all e h is n g =
+      let same : sub ≡ word = (bytes_eq-Decides sub word).0 e in
+      let met = same_pair sub name rs all (sym entered ∙ ap (λ w. subcommand_of line_app (w ∷ words)) same ∙ is) in
+      subst (λ w. AreWords (w ∷ words) c) same
+      (is_it (ap (λ w. fault_of line_app (w ∷ words)) same ∙ h) (n ∙ sym met.0) (subst (λ r. Gives c (λ id. first_of id r)) (sym met.1) g))
+
+pub are_words : (ws : List Text) (name : Text) (all : List Row) (c : Command) → fault_of line_app ws ≡ [] →
+    subcommand_of line_app ws ≡ Some (name, all) → name_of c ≡ name → Gives c (λ id. first_of id all) → AreWords ws c
+are_words [] name all c h is n g = absurd (no_words h)
+are_words (word ∷ words) name all c h is n g =
+    pick (bytes_eq (codes "check") word) (bytes_eq (codes "replay") word) (bytes_eq (codes "workload") word) refl refl refl
   where
-    differ : true ≡ false → ⊥
-    differ n = cc
+    pick : (x y z : Bool) → bytes_eq (codes "check") word ≡ x → bytes_eq (codes "replay") word ≡ y → bytes_eq (codes "workload") word ≡ z →
+        AreWords (word ∷ words) c
+    pick true y z e f k =
+        by_name (codes "check") words (rows_after check_rules [] words) c (check_entered words) (check_all words c) word name all e h is n g
+    pick false true z e f k =
+        by_name (codes "replay") words (rows_after replay_rules [] words) c (replay_entered words) (replay_all words c) word name all f h is
+        n g
+    pick false false true e f k =
+        by_name (codes "workload") words (rows_after workload_rules [] words) c (workload_entered words) (workload_all words c) word name
+        all k h
+        is n g
+    pick false false false e f k = absurd (no_name word words e f k h)
 
--- the words begin with a text that the code asked for
-pub line_is : (words : List (String Global)) (word : String Global) (text want : List ℕ) (b : Bool) → 1 ≤ length words →
-    word ≡ get_or words 0 word → text ≡ string_bytes word → b ≡ pointwise nat_eq text want → b ≡ true → texts words ≡ want
-    ∷ texts (take (length words - 1) (drop 1 words))
-line_is words word text want b some at is e t =
-    head_is words word text some at is ∙ ap (λ x. x ∷ texts (drop 1 words)) (text_is text want b e t) ∙ ap (λ x. want ∷ texts x)
-    (sym (slice_words words 1))
+-- One command
 
-pub not_zero : (n : ℕ) → (n == 0) ≡ false → 1 ≤ n
-not_zero n h = grind (arith, nat_tests)
+module _ {default high : ℕ} where
+  pub same_given : {ts us : List Text} {m n : ℕ} → ts ≡ us → IsGivenOr default high ts m → IsGivenOr default high us n → m ≡ n
+  same_given {n = n} e g h = given_same g (subst (λ vs. IsGivenOr default high vs n) (sym e) h)
 
-pub is_zero : (n : ℕ) → (n == 0) ≡ true → n ≡ 0
-is_zero n h = grind (arith, nat_tests)
-
--- Lines
-
-abbrev first_word : List (List ℕ) → List ℕ
-first_word [] = []
-first_word (w ∷ ws) = w
-
-pub record IsCheckLine (words : List (List ℕ)) (c : Command) : Type 0 where
-  pub rest : List (List ℕ)
-  pub budget : Option ℕ
-  pub whole : words ≡ codes "check" ∷ rest
-  pub given : IsRest setting.Budget false rest budget None
-  pub is : c ≡ check (unwrap_or budget default_budget)
-
-pub record IsReplayLine (words : List (List ℕ)) (c : Command) : Type 0 where
-  pub rest : List (List ℕ)
-  pub fuel : Option ℕ
-  pub values : List ℤ
-  pub whole : words ≡ codes "replay" ∷ rest
-  pub given : IsRest setting.Fuel false rest fuel (Some values)
-  pub is : c ≡ replay (unwrap_or fuel default_fuel) values
-
-line : {words : List (List ℕ)} {c : Command} → AreWords words c → IsCheckLine words c ⊎ IsReplayLine words c
-line (check_budget {words} {n} h) = inl (record { rest = words; budget = Some n; whole = refl; given = check_rest h; is = refl })
-line (check_default {words} h) = inl (record { rest = words; budget = None; whole = refl; given = check_rest h; is = refl })
-line (replay_fuel {words} {n} {zs} h) = inr
-    (record { rest = words; fuel = Some n; values = zs; whole = refl; given = replay_rest h; is = refl })
-line (replay_default {words} {zs} h) = inr
-    (record { rest = words; fuel = None; values = zs; whole = refl; given = replay_rest h; is = refl })
-
-apart : (rest others : List (List ℕ)) → codes "check" ∷ rest ≡ codes "replay" ∷ others → ⊥
-apart rest others e = let a : 5 ≡ 6 = ap (λ x. length (first_word x)) e in omega (arith, a)
+gives_same : (c d : Command) (text_of : Text → Option Text) → name_of c ≡ name_of d → Gives c text_of → Gives d text_of → c ≡ d
+gives_same (check b w) (check b2 w2) t e g h = ap₂ check (given_same g.0 h.0) (given_same g.1 h.1)
+gives_same (check b w) (replay f zs) t e g h = let k = ap first_byte e in absurd (omega arith)
+gives_same (check b w) (workload n b2 w2) t e g h = let k = ap first_byte e in absurd (omega arith)
+gives_same (replay f zs) (check b w) t e g h = let k = ap first_byte e in absurd (omega arith)
+gives_same (replay f zs) (replay f2 ys) t e (fuel, (list, is, read)) (fuel2, (list2, is2, read2)) =
+    let l : list2 ≡ list = let k : Some list2 ≡ Some list = sym is2 ∙ is in cc in
+    ap₂ replay (given_same fuel fuel2) (list_same list zs ys read (subst (λ x. IsList x ys) l read2))
+gives_same (replay f zs) (workload n b w) t e g h = let k = ap first_byte e in absurd (omega arith)
+gives_same (workload n b w) (check b2 w2) t e g h = let k = ap first_byte e in absurd (omega arith)
+gives_same (workload n b w) (replay f zs) t e g h = let k = ap first_byte e in absurd (omega arith)
+gives_same (workload n b w) (workload n2 b2 w2) t e ((text, is, read), budget, workers) ((text2, is2, read2), budget2, workers2) =
+    let l : text2 ≡ text = let k : Some text2 ≡ Some text = sym is2 ∙ is in cc in
+    let m : n ≡ n2 = read.value ∙ ap (value_from 0) (sym l) ∙ sym read2.value in
+    let o : b ≡ b2 = given_same budget budget2 in
+    let p : w ≡ w2 = given_same workers workers2 in
+    (λ i. workload (m i) (o i) (p i))
 
 pub one_command : HasOneCommand
-one_command ws c d g h = elim (line g) [
-  | inl v ↦ elim (line h) [
-    | inl w ↦
-        let r : v.rest ≡ w.rest = ap (drop 1) (sym v.whole ∙ w.whole) in
-        let s = rest_same setting.Budget w.budget None (subst (λ x. IsRest setting.Budget false x v.budget None) r v.given) w.given in
-        v.is ∙ ap (λ b. check (unwrap_or b default_budget)) s.numbers ∙ sym w.is
-    | inr w ↦ absurd (apart v.rest w.rest (sym v.whole ∙ w.whole))
-  ]
-  | inr v ↦ elim (line h) [
-    | inl w ↦ absurd (apart w.rest v.rest (sym w.whole ∙ v.whole))
-    | inr w ↦
-        let e : codes "replay" ∷ v.rest ≡ codes "replay" ∷ w.rest = sym v.whole ∙ w.whole in
-        let r : v.rest ≡ w.rest = ap (drop 1) e in
-        let s = rest_same setting.Fuel w.fuel (Some w.values)
-        (subst (λ x. IsRest setting.Fuel false x v.fuel (Some v.values)) r v.given) w.given in
-        let z : v.values ≡ w.values = let l = s.lists in cc in
-        v.is ∙ ap (λ f. replay (unwrap_or f default_fuel) v.values) s.numbers ∙ ap (replay (unwrap_or w.fuel default_fuel)) z ∙ sym w.is
-  ]
-]
+one_command ws c d g h =
+    let j = is_line g in
+    let k = is_line h in
+    let met = same_pair (name_of c) (name_of d) j.all k.all (sym j.entered ∙ k.entered) in
+    gives_same c d (λ id. first_of id k.all) met.0 (subst (λ r. Gives c (λ id. first_of id r)) met.1 j.gives) k.gives
 
--- What the code reads
+-- The numbers of a command
 
-pub replay_line : (words : List (List ℕ)) (fuel : Option ℕ) (zs : List ℤ) (n : ℕ) → n ≡ unwrap_or fuel default_fuel →
-    IsRest setting.Fuel false words fuel (Some zs) → AreWords (codes "replay" ∷ words) (replay n zs)
-replay_line words None zs n e h = subst (λ k. AreWords (codes "replay" ∷ words) (replay k zs)) (sym e) (replay_default (rest_replay h))
-replay_line words (Some m) zs n e h = subst (λ k. AreWords (codes "replay" ∷ words) (replay k zs)) (sym e) (replay_fuel (rest_replay h))
+module _ {default high : ℕ} where
+  given_some : {ts : List Text} {n : ℕ} → 1 ≤ default → IsGivenOr default high ts n → 1 ≤ n
+  given_some le missing = le
+  given_some le (given h) = h.low_enough
 
-pub check_line : (words : List (List ℕ)) (budget : Option ℕ) (n : ℕ) → n ≡ unwrap_or budget default_budget →
-    IsRest setting.Budget false words budget None → AreWords (codes "check" ∷ words) (check n)
-check_line words None n e h = subst (λ k. AreWords (codes "check" ∷ words) (check k)) (sym e) (check_default (rest_check h refl))
-check_line words (Some m) n e h = subst (λ k. AreWords (codes "check" ∷ words) (check k)) (sym e) (check_budget (rest_check h refl))
+  given_most : {ts : List Text} {n : ℕ} → default ≤ high → IsGivenOr default high ts n → n ≤ high
+  given_most le missing = le
+  given_most le (given h) = h.high_enough
 
-differ : (o : Option (List ℤ)) (zs : List ℤ) → o ≡ None → o ≡ Some zs → ⊥
-differ o zs a b = let n : None ≡ Some zs = sym a ∙ b in cc
+fits_check : (options : Texts) (b w : ℕ) → GivesBudget options b → GivesWorkers options w → FitsCheck b w
+fits_check options b w budget workers = record {
+  some_budget = given_some (omega arith) budget;
+  most_budget = given_most (omega arith) budget;
+  some_workers = given_some (omega arith) workers;
+  most_workers = given_most (omega arith) workers;
+}
 
-pub no_replay_list : (words : List (List ℕ)) (fuel : Option ℕ) (l : Option (List ℤ)) → l ≡ None →
-    IsRest setting.Fuel false words fuel l → (c : Command) → AreWords (codes "replay" ∷ words) c → ⊥
-no_replay_list words fuel l e g c h = elim (line h) [
-  | inl w ↦ apart w.rest words (sym w.whole)
-  | inr w ↦
-      let s = rest_same setting.Fuel w.fuel (Some w.values) g
-      (subst (λ x. IsRest setting.Fuel false x w.fuel (Some w.values)) (sym (ap (drop 1) w.whole)) w.given)
-      in
-      differ (Some w.values) w.values (sym s.lists ∙ e) refl
-]
-
-pub no_check_list : (words : List (List ℕ)) (budget : Option ℕ) (l : Option (List ℤ)) → (l ≡ None → ⊥) →
-    IsRest setting.Budget false words budget l → (c : Command) → AreWords (codes "check" ∷ words) c → ⊥
-no_check_list words budget l some g c h = elim (line h) [
-  | inl w ↦
-      let s = rest_same setting.Budget w.budget None g
-      (subst (λ x. IsRest setting.Budget false x w.budget None) (sym (ap (drop 1) w.whole)) w.given)
-      in
-      some s.lists
-  | inr w ↦ apart words w.rest w.whole
-]
-
--- What can't be read is no command
-
-pub no_replay : (words : List (List ℕ)) → ((n : Option ℕ) (l : Option (List ℤ)) → IsRest setting.Fuel false words n l → ⊥) →
-    (c : Command) → AreWords (codes "replay" ∷ words) c → ⊥
-no_replay words none c h = elim (line h) [
-  | inl w ↦ apart w.rest words (sym w.whole)
-  | inr w ↦ none w.fuel (Some w.values)
-      (subst (λ x. IsRest setting.Fuel false x w.fuel (Some w.values)) (sym (ap (drop 1) w.whole)) w.given)
-]
-
-pub no_check : (words : List (List ℕ)) → ((n : Option ℕ) (l : Option (List ℤ)) → IsRest setting.Budget false words n l → ⊥) →
-    (c : Command) → AreWords (codes "check" ∷ words) c → ⊥
-no_check words none c h = elim (line h) [
-  | inl w ↦ none w.budget None (subst (λ x. IsRest setting.Budget false x w.budget None) (sym (ap (drop 1) w.whole)) w.given)
-  | inr w ↦ apart words w.rest w.whole
-]
+pub fits_command : {ws : List Text} {c : Command} → AreWords ws c → FitsCommand c
+fits_command (is_check {words} {options} {b} {w} parted budget workers) = fits_check options b w budget workers
+fits_command (is_replay parted fuel read) = tt
+fits_command (is_workload {words} {options} {number} {n} {b} {w} parted read budget workers) =
+    (read.low_enough, read.high_enough, fits_check options b w budget workers)

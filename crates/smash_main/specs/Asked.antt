@@ -9,7 +9,7 @@ use Rattle.bolt_core.specs.declared.job.Verdict.{Verdict}
 use Rattle.report_text.specs.Refused.{refusal_line}
 use Rattle.report_text.specs.Replay.{replay_text}
 use Rattle.report_text.specs.Report.{is_found, is_unknown, report_of}
-use Rattle.smash_main.specs.Words.{Command, check, replay}
+use Rattle.smash_main.specs.Words.{Command, check, replay, workload}
 use Rattle.smash_main.specs.Source.{IsAccepted, IsRefused}
 use Rattle.smash_main.specs.Analysis.{IsAnalysis, Witness, no_witness}
 
@@ -59,8 +59,10 @@ pub record IsReplayed (program : PureProgram) (fuel : ℕ) (list : List ℤ) (st
 
 -- the answer to a program under a command
 abbrev pub Answers : Command → PureProgram → ℕ → List ℕ → Witness → Type 0
-Answers (check budget) program status text w = IsReported program budget status text w
+Answers (check budget workers) program status text w = IsReported program budget status text w
 Answers (replay fuel list) program status text w = IsReplayed program fuel list status text w
+Answers (workload number budget workers) program status text w =
+    IsReported program budget status text w
 
 -- an accepted source, and the answer to its program
 pub record AsksAnswer (c : Command) (bytes : List ℕ) (status : ℕ) (text : List ℕ) (w : Witness) :

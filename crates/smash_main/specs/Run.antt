@@ -6,10 +6,11 @@ use Rattle.outer_io.specs.Causes.{Rose, Took, TookAtMost, WritesFront}
 use Rattle.c_tree.specs.Syntax.{PureProgram}
 use Rattle.report_text.specs.Refused.{too_long_text}
 use Rattle.report_text.specs.Usage.{usage_text}
-use Rattle.smash_main.specs.Words.{Command}
+use Rattle.smash_main.specs.Words.{Command, check, replay, workload}
 use Rattle.smash_main.specs.Source.{IsAccepted, source_limit}
 use Rattle.smash_main.specs.Analysis.{Witness, no_witness}
-use Rattle.smash_main.specs.Asked.{AsksFor, Answers}
+use Rattle.smash_main.specs.Asked.{AsksFor, Answers, IsReported}
+use Rattle.workload_gen.specs.Workload.{text_of, workload_lines}
 
 -- a source or a sink before and after: what is known of its bytes, and its count of faults
 pub record Change : Type 0 where
@@ -82,19 +83,46 @@ pub record EndsUsage (status : ℕ) (sink : Change) (w : Witness) : Type 0 where
   pub ends : EndsWith status sink 4 usage_text ⊎ ((status ≡ 7) × StaysAsItWas sink)
   pub nothing : w ≡ no_witness
 
--- how a command ends
-abbrev pub Obeys : Command → ℕ → Change → Change → Witness → Type 0
-Obeys c status source sink w =
+-- The text of the workload of this number is accepted, its program has as many assertions, and the
+-- end is its report, with its board handed back.
+pub record EndsWorkload (number budget status : ℕ) (sink : Change) (w : Witness) : Type 0 where
+  pub program : PureProgram
+  pub accepted : IsAccepted (text_of (workload_lines number)) program
+  pub each : length program.asserts ≡ number
+  pub due : ℕ
+  pub text : List ℕ
+  pub reported : IsReported program budget due text w
+  pub ends : EndsWith status sink due text
+
+-- how a command ends that reads a source
+abbrev pub ObeysSource : Command → ℕ → Change → Change → Witness → Type 0
+ObeysSource c status source sink w =
     EndsWhole c status source sink w ⊎ (EndsTooLong status source sink w ⊎
     (EndsFaulty status source sink w ⊎ EndsEmpty status source sink w))
 
--- a check and a replay end with 0, 1 or 2
+-- how a command ends
+abbrev pub Obeys : Command → ℕ → Change → Change → Witness → Type 0
+Obeys (check budget workers) status source sink w =
+    ObeysSource (check budget workers) status source sink w
+Obeys (replay fuel list) status source sink w =
+    ObeysSource (replay fuel list) status source sink w
+Obeys (workload number budget workers) status source sink w =
+    EndsWorkload number budget status sink w ⊎ EndsEmpty status source sink w
+
+-- a command that goes well ends with 0, 1 or 2
 abbrev pub IsVerdictStatus : ℕ → Type 0
 IsVerdictStatus status = (status ≡ 0) ⊎ ((status ≡ 1) ⊎ ((status ≡ 2) ⊎ (status ≡ 7)))
 
 -- where an accepted source is told and no count of faults rises, the command ends with a verdict,
 -- or memory runs out
-abbrev pub Completes : Command → ℕ → Change → Change → Type 0
-Completes c status source sink =
+abbrev pub CompletesSource : ℕ → Change → Change → Type 0
+CompletesSource status source sink =
     (bytes : List ℕ) (P : PureProgram) → source.before ≡ Some bytes → length bytes ≤ source_limit →
     IsAccepted bytes P → (HasFault source → ⊥) → (HasFault sink → ⊥) → IsVerdictStatus status
+
+-- so it does, and a workload wherever the sink's count of faults doesn't rise
+abbrev pub Completes : Command → ℕ → Change → Change → Type 0
+Completes (check budget workers) status source sink = CompletesSource status source sink
+Completes (replay fuel list) status source sink = CompletesSource status source sink
+Completes (workload number budget workers) status source sink =
+    (HasFault sink → ⊥) → IsVerdictStatus status

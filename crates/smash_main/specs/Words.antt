@@ -1,12 +1,14 @@
 -- The words of the command line: which are a command.
-use Rattle.std.specs.Prelude.{◌≡◌, ℕ, ◌+◌, ◌-◌, ◌*◌, ◌≤◌, nat_le, ◌==◌, Bool, true, false, ◌&&◌, List, [], ◌∷◌, ◌++◌, length, map, Option, Some, None, ℤ, pos, neg_ℤ, codes, string_bytes, replicate, MatchBool}
+use Rattle.std.specs.Prelude.{◌≡◌, ℕ, ◌+◌, ◌-◌, ◌*◌, ◌≤◌, nat_le, ◌==◌, Bool, true, false, ◌&&◌, List, [], ◌∷◌, ◌++◌, length, map, ℤ, pos, neg_ℤ, codes, string_bytes, replicate, MatchBool, Contains, filter}
 use Rattle.std.specs.List.{list_all}
+use Rattle.std.specs.Str.{bytes_eq}
 use Rattle.std.specs.declared.string.String.{String}
 use Rattle.std.specs.declared.alloc.Global.{Global}
 
 pub data Command : Type 0 where
-  check : (budget : ℕ) → Command
+  check : (budget workers : ℕ) → Command
   replay : (fuel : ℕ) (list : List ℤ) → Command
+  workload : (number budget workers : ℕ) → Command
 
 -- Numbers
 
@@ -70,64 +72,92 @@ pub data IsList : List ℕ → List ℤ → Type 0 where
   some : {text : List ℕ} {zs : List ℤ} → ArePieces text zs → length zs ≤ max_inputs →
       IsList (91 ∷ (text ++ 93 ∷ [])) zs
 
--- Commands
+-- Options and other words
+
+abbrev pub Text : Type 0
+Text = List ℕ
+
+-- The words behind a command's name, where its options have these names: the options that they
+-- give, each with its text, and the words that are none. An option is two words, `--name` and its
+-- text, whatever that looks like, or one word, `--name=` and its text. One `--` may stand, behind
+-- which no word is an option.
+pub data AreParted (names : List Text) : (dashed : Bool) → List Text →
+    (options : List (Text × Text)) → (others : List Text) → Type 0 where
+  end : {d : Bool} → AreParted names d [] [] []
+  other_word : {d : Bool} {word : Text} {words others : List Text}
+      {options : List (Text × Text)} → AreParted names d words options others →
+      AreParted names d (word ∷ words) options (word ∷ others)
+  two_words : {name text : Text} {words others : List Text} {options : List (Text × Text)} →
+      Contains names name → AreParted names false words options others →
+      AreParted names false ((codes "--" ++ name) ∷ text ∷ words) ((name, text) ∷ options) others
+  one_word : {name text : Text} {words others : List Text} {options : List (Text × Text)} →
+      Contains names name → AreParted names false words options others →
+      AreParted names false ((codes "--" ++ (name ++ 61 ∷ text)) ∷ words)
+      ((name, text) ∷ options) others
+  dashes : {words others : List Text} {options : List (Text × Text)} →
+      AreParted names true words options others →
+      AreParted names false (codes "--" ∷ words) options others
+
+-- the texts that options of this name have
+abbrev pub texts_of : Text → List (Text × Text) → List Text
+texts_of name options = map (λ o. o.1) (filter (λ o. bytes_eq o.0 name) options)
+
+-- a number from 1 to `high`, given once, or the default where it isn't given
+pub data IsGivenOr (default high : ℕ) : List Text → ℕ → Type 0 where
+  missing : IsGivenOr default high [] default
+  given : {text : Text} {n : ℕ} → IsNumber 1 high text n → IsGivenOr default high (text ∷ []) n
 
 abbrev pub max_fuel : ℕ
 max_fuel = 1000000000
 
-abbrev pub IsFuel : List ℕ → ℕ → Type 0
-IsFuel text n = IsNumber 1 max_fuel text n
-
--- The words behind `replay`: options, one list, and one `--` behind which no word is an option, in
--- any order.
-pub data IsReplayRest : (dashed : Bool) → List (List ℕ) → (fuel : Option ℕ) →
-    (list : Option (List ℤ)) → Type 0 where
-  end : {d : Bool} → IsReplayRest d [] None None
-  list : {d : Bool} {word : List ℕ} {words : List (List ℕ)} {fuel : Option ℕ} {zs : List ℤ} →
-      IsList word zs → IsReplayRest d words fuel None → IsReplayRest d (word ∷ words) fuel (Some zs)
-  fuel_word : {word : List ℕ} {words : List (List ℕ)} {n : ℕ} {l : Option (List ℤ)} →
-      IsFuel word n →
-      IsReplayRest false words None l → IsReplayRest false (codes "--fuel" ∷ word ∷ words) (Some n)
-      l
-  fuel_equals : {words : List (List ℕ)} {n : ℕ} {l : Option (List ℤ)} → (text : List ℕ) →
-      IsFuel text n → IsReplayRest false words None l →
-      IsReplayRest false ((codes "--fuel=" ++ text) ∷ words) (Some n) l
-  dashes : {words : List (List ℕ)} {l : Option (List ℤ)} → IsReplayRest true words None l →
-      IsReplayRest false (codes "--" ∷ words) None l
-
 abbrev pub default_fuel : ℕ
 default_fuel = 1000000
+
+abbrev pub GivesFuel : List (Text × Text) → ℕ → Type 0
+GivesFuel options n = IsGivenOr default_fuel max_fuel (texts_of (codes "fuel") options) n
 
 abbrev pub max_budget : ℕ
 max_budget = 20000
 
-abbrev pub IsBudget : List ℕ → ℕ → Type 0
-IsBudget text n = IsNumber 1 max_budget text n
-
--- The words behind `check`: one option, and one `--` behind which no word is an option, in any
--- order.
-pub data IsCheckRest : (dashed : Bool) → List (List ℕ) → (budget : Option ℕ) → Type 0 where
-  end : {d : Bool} → IsCheckRest d [] None
-  budget_word : {word : List ℕ} {words : List (List ℕ)} {n : ℕ} → IsBudget word n →
-      IsCheckRest false words None → IsCheckRest false (codes "--budget" ∷ word ∷ words) (Some n)
-  budget_equals : {words : List (List ℕ)} {n : ℕ} → (text : List ℕ) → IsBudget text n →
-      IsCheckRest false words None → IsCheckRest false ((codes "--budget=" ++ text) ∷ words)
-      (Some n)
-  dashes : {words : List (List ℕ)} → IsCheckRest true words None →
-      IsCheckRest false (codes "--" ∷ words) None
-
 abbrev pub default_budget : ℕ
 default_budget = 2000
 
-pub data AreWords : List (List ℕ) → Command → Type 0 where
-  check_budget : {words : List (List ℕ)} {n : ℕ} → IsCheckRest false words (Some n) →
-      AreWords (codes "check" ∷ words) (check n)
-  check_default : {words : List (List ℕ)} → IsCheckRest false words None →
-      AreWords (codes "check" ∷ words) (check default_budget)
-  replay_fuel : {words : List (List ℕ)} {n : ℕ} {zs : List ℤ} → IsReplayRest false words (Some n)
-      (Some zs) → AreWords (codes "replay" ∷ words) (replay n zs)
-  replay_default : {words : List (List ℕ)} {zs : List ℤ} → IsReplayRest false words None (Some zs) →
-      AreWords (codes "replay" ∷ words) (replay default_fuel zs)
+abbrev pub GivesBudget : List (Text × Text) → ℕ → Type 0
+GivesBudget options n = IsGivenOr default_budget max_budget (texts_of (codes "budget") options) n
+
+abbrev pub max_workers : ℕ
+max_workers = 16
+
+abbrev pub default_workers : ℕ
+default_workers = 4
+
+abbrev pub GivesWorkers : List (Text × Text) → ℕ → Type 0
+GivesWorkers options n =
+    IsGivenOr default_workers max_workers (texts_of (codes "workers") options) n
+
+-- Commands
+
+-- the most procedures of a workload, beside `main`
+abbrev pub max_number : ℕ
+max_number = 60
+
+abbrev pub replay_options : List Text
+replay_options = codes "fuel" ∷ []
+
+abbrev pub check_options : List Text
+check_options = codes "budget" ∷ codes "workers" ∷ []
+
+pub data AreWords : List Text → Command → Type 0 where
+  is_check : {words : List Text} {options : List (Text × Text)} {b w : ℕ} →
+      AreParted check_options false words options [] → GivesBudget options b →
+      GivesWorkers options w → AreWords (codes "check" ∷ words) (check b w)
+  is_replay : {words : List Text} {options : List (Text × Text)} {list : Text} {f : ℕ}
+      {zs : List ℤ} → AreParted replay_options false words options (list ∷ []) →
+      GivesFuel options f → IsList list zs → AreWords (codes "replay" ∷ words) (replay f zs)
+  is_workload : {words : List Text} {options : List (Text × Text)} {number : Text} {n b w : ℕ} →
+      AreParted check_options false words options (number ∷ []) → IsNumber 1 max_number number n →
+      GivesBudget options b → GivesWorkers options w →
+      AreWords (codes "workload" ∷ words) (workload n b w)
 
 -- the words are this command
 abbrev pub IsCommand : List (String Global) → Command → Type 0

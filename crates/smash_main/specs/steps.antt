@@ -1,4 +1,5 @@
 pub mod Accepting
 pub mod Handing
 pub mod Judging
+pub mod WordsLine
 pub mod WordsView

@@ -1,21 +1,26 @@
 //! The analysis of a program: a board with a root for each assertion, worked at until it is over.
 
-ghost use Rattle.std.specs.Prelude.{◌≡◌, ◌≤◌, IfOk, false, true};
+ghost use Rattle.std.specs.Prelude.{◌≡◌, ◌≤◌, [], IfOk, false, true};
 ghost use Rattle.c_tree.specs.Whole.{program_of};
 ghost use Rattle.bolt_core.specs.Machine.{is_over};
 ghost use Rattle.bolt_core.specs.States.{reads};
 ghost use Rattle.smash_main.specs.Analysis.{IsAnalysis, IsBoardOf};
-ghost use Rattle.smash_main.specs.Words.{max_budget};
+ghost use Rattle.bolt_core.specs.Boards.{SameProgram};
+ghost use Rattle.smash_main.specs.Words.{max_workers};
+ghost use Rattle.smash_main.specs.steps.WordsView.{FitsCheck};
 ghost use Rattle.smash_main.specs.steps.Judging.{AreVerdicts};
 
 use bolt_core::board::Board;
 use bolt_core::job::Verdict;
 use bolt_rounds::alone::alone;
+use bolt_workers::work::work;
 use c_tree::tree::Program;
 use flow_build::build::build;
 use linear_formula::error::OutOfMemory;
+use outer_io::Gate;
 use std::alloc::Global;
-use std::sync::Arc;
+use std::sync::{Arc, Wait};
+use std::thread::Threads;
 
 /// A board that is over, and the verdicts of its roots.
 #[derive(Drop)]
@@ -38,31 +43,65 @@ fn verdicts_of(alloc: Global, board: &Board, count: u32) -> Result<Vec<Verdict>,
     Ok(verdicts)
 }
 
+/// A board without history, worked at until it is over: by one worker in the calling thread, or by
+/// several under a lock.
+fn worked<R: Threads + Wait + Sync, G: Gate>(
+    rt: &R,
+    alloc: Global,
+    board: Board,
+    workers: u32,
+    gate: &G,
+) -> Result<Board, OutOfMemory>
+    requires some { 1 ≤ workers }
+    requires most { workers ≤ max_workers }
+    requires begun { board.core.history ≡ [] }
+    ensures same { IfOk result (λ b. SameProgram board b) }
+    ensures over { IfOk result (λ b. is_over (reads b.graphs) b.core ≡ true) }
+    ensures going { IfOk result (λ b. b.core.is_stopped ≡ false) }
+{
+    if workers == 1 {
+        alone(alloc, board)
+    } else {
+        work(rt, alloc, board, workers, gate)
+    }
+}
+
 /// The board of a program, with a root of this budget for each assertion, worked at until it is
 /// over.
-fn board_of(alloc: Global, program: &Program, budget: u32) -> Result<Board, OutOfMemory>
-    requires some { 1 ≤ budget }
-    requires most { budget ≤ max_budget }
+fn board_of<R: Threads + Wait + Sync, G: Gate>(
+    rt: &R,
+    alloc: Global,
+    program: &Program,
+    budget: u32,
+    workers: u32,
+    gate: &G,
+) -> Result<Board, OutOfMemory>
+    requires { FitsCheck budget workers }
     ensures { IfOk result (IsBoardOf (program_of program.now) budget) }
 {
     let graphs = Arc::new(alloc, build(alloc, program)?)?;
     let count = program.asserts.len() as u32;
-    let board = alone(
-        alloc,
-        Board::begin(alloc, graphs, program.main, count, budget)?,
-    )?;
+    let begun = Board::begin(alloc, graphs, program.main, count, budget)?;
+    let board = worked(rt, alloc, begun, workers, gate)?;
     board.reached();
     Ok(board)
 }
 
-/// Analyses each assertion of a program with a budget of legal steps of its own.
-pub fn analyse(alloc: Global, program: &Program, budget: u32) -> Result<Analysis, OutOfMemory>
-    requires some { 1 ≤ budget }
-    requires most { budget ≤ max_budget }
+/// Analyses each assertion of a program with a budget of legal steps of its own, by so many
+/// workers.
+pub fn analyse<R: Threads + Wait + Sync, G: Gate>(
+    rt: &R,
+    alloc: Global,
+    program: &Program,
+    budget: u32,
+    workers: u32,
+    gate: &G,
+) -> Result<Analysis, OutOfMemory>
+    requires { FitsCheck budget workers }
     ensures { IfOk result (λ a. IsAnalysis (program_of program.now) budget a.board
         a.verdicts.items) }
 {
-    let board = board_of(alloc, program, budget)?;
+    let board = board_of(rt, alloc, program, budget, workers, gate)?;
     let verdicts = verdicts_of(alloc, &board, program.asserts.len() as u32)?;
     Ok(Analysis { board, verdicts })
 }

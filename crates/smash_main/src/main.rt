@@ -11,7 +11,7 @@ mod tests;
 mod words;
 
 use crate::run::run;
-use outer_io::{FromReader, ToWriter};
+use outer_io::{FromReader, NoGate, ToWriter};
 use std::alloc::AllocError;
 use std::io;
 use std::process::ExitCode;
@@ -40,7 +40,7 @@ fn main(rt: HostRuntime) -> ExitCode {
         Ok(words) => {
             let mut source = FromReader::new(rt.stdin());
             let mut sink = ToWriter::new(rt.stdout());
-            run(rt.alloc(), &words, &mut source, &mut sink).status
+            run(&rt, rt.alloc(), &words, &mut source, &mut sink, &NoGate).status
         }
         Err(_) => NO_MEMORY,
     };

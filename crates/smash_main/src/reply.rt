@@ -8,10 +8,9 @@ ghost use Rattle.report_text.specs.Refused.{IsOfSource};
 ghost use Rattle.smash_main.specs.Analysis.{no_witness};
 ghost use Rattle.smash_main.specs.Asked.{AsksFor, AsksRefusal, Answers, IsReported, IsReplayed, replay_status};
 ghost use Rattle.smash_main.specs.Source.{IsAccepted, source_limit};
-ghost use Rattle.smash_main.specs.Words.{max_budget};
 ghost use Rattle.smash_main.specs.steps.Accepting.{IsRefusedFor};
 ghost use Rattle.smash_main.specs.steps.Handing.{handed_in};
-ghost use Rattle.smash_main.specs.steps.WordsView.{HasFitBudget, command_of};
+ghost use Rattle.smash_main.specs.steps.WordsView.{FitsCheck, FitsCommand, command_of};
 
 use crate::accept::{Rejection, accept};
 use crate::analysis::{Analysis, analyse};
@@ -19,10 +18,13 @@ use crate::statuses::status;
 use crate::words::Command;
 use bolt_core::board::Board;
 use c_tree::tree::Program;
+use outer_io::Gate;
 use report_text::fault::Refusal;
 use report_text::{refusal, replayed, report};
 use run_replay::{Outcome, replay};
 use std::alloc::{AllocError, Global};
+use std::sync::Wait;
+use std::thread::Threads;
 
 /// A status and the whole text that is written with it, and the board of an analysis that came to
 /// its end.
@@ -57,13 +59,19 @@ fn refused(alloc: Global, why: &Refusal) -> Result<Reply, AllocError>
 }
 
 /// The report of a program.
-fn check_program(alloc: Global, program: &Program, budget: u32) -> Result<Reply, AllocError>
-    requires some { 1 ≤ budget }
-    requires most { budget ≤ max_budget }
+fn check_program<R: Threads + Wait + Sync, G: Gate>(
+    rt: &R,
+    alloc: Global,
+    program: &Program,
+    budget: u32,
+    workers: u32,
+    gate: &G,
+) -> Result<Reply, AllocError>
+    requires { FitsCheck budget workers }
     ensures { IfOk result (λ a. IsReported (program_of program.now) budget a.status
         a.text.items (handed_in a)) }
 {
-    let Analysis { board, verdicts } = analyse(alloc, program, budget)?;
+    let Analysis { board, verdicts } = analyse(rt, alloc, program, budget, workers, gate)?;
     let text = report(alloc, program, &verdicts)?;
     Ok(Reply {
         status: status(&verdicts),
@@ -101,28 +109,47 @@ fn replay_program(
 }
 
 /// The answer to a program.
-fn answer(alloc: Global, command: &Command, program: &Program) -> Result<Reply, AllocError>
-    requires { HasFitBudget (command_of command.now) }
+fn answer<R: Threads + Wait + Sync, G: Gate>(
+    rt: &R,
+    alloc: Global,
+    command: &Command,
+    program: &Program,
+    gate: &G,
+) -> Result<Reply, AllocError>
+    requires { FitsCommand (command_of command.now) }
     ensures { IfOk result (λ a. Answers (command_of command.now) (program_of program.now) a.status
         a.text.items (handed_in a)) }
 {
     match command {
-        Command::Check { budget } => check_program(alloc, program, *budget),
+        Command::Check { budget, workers } => {
+            check_program(rt, alloc, program, *budget, *workers, gate)
+        }
         Command::Replay { fuel, list } => replay_program(alloc, program, *fuel, list),
+        Command::Workload {
+            budget,
+            workers,
+            ..
+        } => check_program(rt, alloc, program, *budget, *workers, gate),
     }
 }
 
 /// The reply to a source, by its bytes.
-pub fn reply_to(alloc: Global, command: &Command, bytes: &[u8]) -> Result<Reply, AllocError>
+pub fn reply_to<R: Threads + Wait + Sync, G: Gate>(
+    rt: &R,
+    alloc: Global,
+    command: &Command,
+    bytes: &[u8],
+    gate: &G,
+) -> Result<Reply, AllocError>
     requires fits { length bytes.now ≤ source_limit }
-    requires budget { HasFitBudget (command_of command.now) }
+    requires numbers { FitsCommand (command_of command.now) }
     ensures asked { IfOk result (λ a. AsksFor (command_of command.now) bytes.now a.status
         a.text.items (handed_in a)) }
     ensures settled { IfOk result (λ a. (P : PureProgram) → IsAccepted bytes.now P →
         Answers (command_of command.now) P a.status a.text.items (handed_in a)) }
 {
     match accept(alloc, bytes) {
-        Ok(program) => answer(alloc, command, &program),
+        Ok(program) => answer(rt, alloc, command, &program, gate),
         Err(Rejection::Refused(why)) => refused(alloc, &why),
         Err(Rejection::Memory) => Err(AllocError),
     }

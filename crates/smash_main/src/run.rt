@@ -1,22 +1,25 @@
 //! The top call: words, a source and a sink.
 
-ghost use Rattle.std.specs.Prelude.{◌≡◌, ◌+◌, ◌⊎◌};
+ghost use Rattle.std.specs.Prelude.{◌≡◌, ◌+◌, ◌≤◌, ℕ, length, ◌⊎◌};
 ghost use Rattle.outer_io.specs.Causes.{TookAtMost};
 ghost use Rattle.report_text.specs.Refused.{too_long_text};
 ghost use Rattle.smash_main.specs.Analysis.{no_witness};
 ghost use Rattle.smash_main.specs.Source.{source_limit};
-ghost use Rattle.smash_main.specs.Words.{IsCommand, IsNoCommand, Command as PureCommand};
-ghost use Rattle.smash_main.specs.steps.Handing.{handed_by, handed_in};
-ghost use Rattle.smash_main.specs.steps.WordsView.{HasFitBudget, command_of};
-ghost use Rattle.smash_main.specs.Run.{change, EndsWith, EndsUsage, StaysAsItWas, Obeys, Completes};
+ghost use Rattle.smash_main.specs.Words.{IsCommand, IsNoCommand, Command as PureCommand, workload};
+ghost use Rattle.smash_main.specs.steps.Handing.{EndsAsked, EndsSilent, handed_by, handed_in};
+ghost use Rattle.smash_main.specs.steps.WordsView.{FitsCommand, command_of};
+ghost use Rattle.smash_main.specs.Run.{change, EndsWith, EndsUsage, StaysAsItWas, Obeys, ObeysSource, Completes};
 
 use crate::reply::{Reply, reply_to};
 use crate::words::{Command, command_from};
 use bolt_core::board::Board;
-use outer_io::{ReadError, Sink, Source, read_all, write_all};
+use outer_io::{Gate, ReadError, Sink, Source, read_all, write_all};
 use report_text::fault::Refusal;
 use report_text::{refusal, usage};
 use std::alloc::Global;
+use std::sync::Wait;
+use std::thread::Threads;
+use workload_gen::program_of;
 
 /// The most bytes that a source may have, `source_limit` of the clauses.
 const SOURCE_LIMIT: usize = 65_536;
@@ -83,37 +86,89 @@ fn tell_too_long<K: Sink>(alloc: Global, sink: &mut K) -> Finish
     }
 }
 
+/// Writes the reply to bytes, unless memory runs out.
+fn reply_with<R: Threads + Wait + Sync, K: Sink, G: Gate>(
+    rt: &R,
+    alloc: Global,
+    command: &Command,
+    bytes: &[u8],
+    sink: &mut K,
+    gate: &G,
+) -> Finish
+    requires fits { length bytes.now ≤ source_limit }
+    requires numbers { FitsCommand (command_of command.now) }
+    ensures { EndsAsked (command_of command.now) bytes.now result.status
+        (change (K.taken sink.old) (K.taken sink.new) (K.faults sink.old) (K.faults sink.new))
+        (handed_by result)
+        ⊎ EndsSilent result.status
+        (change (K.taken sink.old) (K.taken sink.new) (K.faults sink.old) (K.faults sink.new))
+        (handed_by result) }
+{
+    match reply_to(rt, alloc, command, bytes, gate) {
+        Ok(reply) => tell_reply(sink, reply),
+        Err(_) => end(7),
+    }
+}
+
 /// Reads a source, and writes the reply to it.
-fn obey<S: Source, K: Sink>(
+fn obey_source<R: Threads + Wait + Sync, S: Source, K: Sink, G: Gate>(
+    rt: &R,
     alloc: Global,
     command: &Command,
     source: &mut S,
     sink: &mut K,
+    gate: &G,
 ) -> Finish
-    requires { HasFitBudget (command_of command.now) }
-    ensures { Obeys (command_of command.now) result.status
+    requires { FitsCommand (command_of command.now) }
+    ensures { ObeysSource (command_of command.now) result.status
         (change (S.left source.old) (S.left source.new) (S.faults source.old) (S.faults source.new))
         (change (K.taken sink.old) (K.taken sink.new) (K.faults sink.old) (K.faults sink.new))
         (handed_by result) }
 {
     match read_all(alloc, source, SOURCE_LIMIT) {
-        Ok(bytes) => match reply_to(alloc, command, &bytes) {
-            Ok(reply) => tell_reply(sink, reply),
-            Err(_) => end(7),
-        },
+        Ok(bytes) => reply_with(rt, alloc, command, &bytes, sink, gate),
         Err(ReadError::TooLong) => tell_too_long(alloc, sink),
         Err(ReadError::ReadFault) => end(5),
         Err(ReadError::Memory) => end(7),
     }
 }
 
+/// Obeys a command. The text of a workload is its source, and the given one stays as it was.
+fn obey<R: Threads + Wait + Sync, S: Source, K: Sink, G: Gate>(
+    rt: &R,
+    alloc: Global,
+    command: &Command,
+    source: &mut S,
+    sink: &mut K,
+    gate: &G,
+) -> Finish
+    requires { FitsCommand (command_of command.now) }
+    ensures obeys { Obeys (command_of command.now) result.status
+        (change (S.left source.old) (S.left source.new) (S.faults source.old) (S.faults source.new))
+        (change (K.taken sink.old) (K.taken sink.new) (K.faults sink.old) (K.faults sink.new))
+        (handed_by result) }
+    ensures unread { (n b w : ℕ) → command_of command.now ≡ workload n b w →
+        source.new ≡ source.old }
+{
+    match command {
+        Command::Workload { number, .. } => match program_of(alloc, *number) {
+            Ok(text) => reply_with(rt, alloc, command, &text, sink, gate),
+            Err(_) => end(7),
+        },
+        _ => obey_source(rt, alloc, command, source, sink, gate),
+    }
+}
+
 /// Runs the program on its words, a source and a sink. All that it says goes to the sink, and its
-/// whole output is made before the first byte is written.
-pub fn run<S: Source, K: Sink>(
+/// whole output is made before the first byte is written. The gate is passed around each call of a
+/// worker at the board.
+pub fn run<R: Threads + Wait + Sync, S: Source, K: Sink, G: Gate>(
+    rt: &R,
     alloc: Global,
     words: &[String],
     source: &mut S,
     sink: &mut K,
+    gate: &G,
 ) -> Finish
     // Words that are no command get the usage text, nothing is read, and nothing is handed back.
     ensures usage { IsNoCommand words.now → EndsUsage result.status
@@ -132,9 +187,13 @@ pub fn run<S: Source, K: Sink>(
     ensures complete { (c : PureCommand) → IsCommand words.now c → Completes c result.status
         (change (S.left source.old) (S.left source.new) (S.faults source.old) (S.faults source.new))
         (change (K.taken sink.old) (K.taken sink.new) (K.faults sink.old) (K.faults sink.new)) }
+
+    // A workload reads none.
+    ensures workload_unread { (n b w : ℕ) → IsCommand words.now (workload n b w) →
+        source.new ≡ source.old }
 {
     match command_from(alloc, words) {
-        Ok(Some(given)) => obey(alloc, &given, source, sink),
+        Ok(Some(given)) => obey(rt, alloc, &given, source, sink, gate),
         Ok(None) => end(tell(sink, 4, usage())),
         Err(_) => end(7),
     }

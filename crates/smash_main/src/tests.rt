@@ -2,21 +2,25 @@
 
 mod agreement;
 mod analyses;
+mod command_lines;
 mod tables;
 
 use self::agreement::{tally_alone, tally_calling};
 use self::analyses::{ANALYSES, CALLS, OPEN};
+use self::command_lines::{CHECK_WORDS, REPLAY_WORDS, WORKLOAD_WORDS};
 use self::tables::{
-    BLANKS, BODIES, CHECKS, COMMANDS, FAULTS, Fault, LIMITS, Limit, NO_COMMANDS, REFUSALS, REPLAYS,
-    Row, SUM, WORKED,
+    BLANKS, BODIES, CHECKS, FAULTS, Fault, LIMITS, Limit, NO_COMMANDS, REFUSALS, REPLAYS, Row, SUM,
+    WORKED, WORKLOADS,
 };
 use crate::run::run;
 use crate::words::{Command, command_from, one_command};
-use outer_io::{MemSink, MemSource};
+use outer_io::{MemSink, MemSource, NoGate};
 use std::alloc::Global;
 use std::fmt::Write;
 use std::process::Abort;
+use std::sync::Wait;
 use std::test::Fail;
+use std::thread::Threads;
 
 /// The words of a line, in which they are parted by `|`.
 fn words_in(alloc: Global, line: &str) -> Result<Vec<String>, Fail> {
@@ -37,34 +41,50 @@ fn source_of(alloc: Global, text: &str, piece: usize, failing: u32) -> Result<Me
 }
 
 /// The status and the output of words on a source.
-fn answer(
+fn answer<R: Threads + Wait + Sync>(
+    rt: &R,
     alloc: Global,
     words: &[String],
     source: &mut MemSource,
     sink: &mut MemSink,
 ) -> Result<String, Fail> {
-    let status = run(alloc, words, source, sink).status;
+    let status = run(rt, alloc, words, source, sink, &NoGate).status;
     let output = std::str::from_utf8(sink.written())?;
     Ok(format!(in alloc; "{status} {output}")?)
 }
 
 /// The status and the output of a line of words, on a source and into a sink with so much room.
-fn told(alloc: Global, line: &str, source: MemSource, room: usize) -> Result<String, Fail> {
+fn told<R: Threads + Wait + Sync>(
+    rt: &R,
+    alloc: Global,
+    line: &str,
+    source: MemSource,
+    room: usize,
+) -> Result<String, Fail> {
     let mut source = source;
     let words = words_in(alloc, line)?;
     let mut sink = MemSink::new(alloc, room, Vec::new(alloc), 7)?;
-    answer(alloc, &words, &mut source, &mut sink)
+    answer(rt, alloc, &words, &mut source, &mut sink)
 }
 
 /// The same on a text that is read without a fault.
-fn told_of(alloc: Global, line: &str, text: &str) -> Result<String, Fail> {
-    told(alloc, line, source_of(alloc, text, 4096, 1000)?, 4096)
+fn told_of<R: Threads + Wait + Sync>(
+    rt: &R,
+    alloc: Global,
+    line: &str,
+    text: &str,
+) -> Result<String, Fail> {
+    told(rt, alloc, line, source_of(alloc, text, 4096, 1000)?, 4096)
 }
 
 /// Each row is told so.
-fn agree(rt: &impl Abort, alloc: Global, rows: &[Row]) -> Result<(), Fail> {
+fn agree<R: Abort + Threads + Wait + Sync>(
+    rt: &R,
+    alloc: Global,
+    rows: &[Row],
+) -> Result<(), Fail> {
     for (line, text, wanted) in rows {
-        let got = told_of(alloc, line, text)?;
+        let got = told_of(rt, alloc, line, text)?;
         assert_eq!(rt; got.as_str(), *wanted, "{line} of {text}");
     }
     Ok(())
@@ -127,9 +147,13 @@ fn report_with(alloc: Global, told: &str, lines: &[&str]) -> Result<String, Fail
 }
 
 /// Each source has these lines, or other ones that they allow.
-fn agree_on_open(rt: &impl Abort, alloc: Global, rows: &[(&str, &[&str])]) -> Result<(), Fail> {
+fn agree_on_open<R: Abort + Threads + Wait + Sync>(
+    rt: &R,
+    alloc: Global,
+    rows: &[(&str, &[&str])],
+) -> Result<(), Fail> {
     for (text, lines) in rows {
-        let got = told_of(alloc, "check|--budget|20000", text)?;
+        let got = told_of(rt, alloc, "check|--budget|20000", text)?;
         let wanted = report_with(alloc, got.as_str(), lines)?;
         assert_eq!(rt; got.as_str(), wanted.as_str(), "{text}");
     }
@@ -144,6 +168,21 @@ fn answers_with_much_budget(rt: HostRuntime) -> Result<(), Fail> {
 #[test]
 fn answers_replays(rt: HostRuntime) -> Result<(), Fail> {
     agree(&rt, rt.alloc(), &REPLAYS)
+}
+
+#[test]
+fn answers_workloads(rt: HostRuntime) -> Result<(), Fail> {
+    agree(&rt, rt.alloc(), &WORKLOADS)
+}
+
+/// What the last lines of a larger one are.
+#[test]
+fn answers_a_larger_workload(rt: HostRuntime) -> Result<(), Fail> {
+    let got = told_of(&rt, rt.alloc(), "workload|12", "")?;
+    let last = "12:43: found [12, -12]\nsummary: 8 proved, 4 found, 0 unknown\n";
+    assert!(rt; got.as_str().starts_with("1 1:42: proved\n"), "{got}");
+    assert!(rt; got.as_str().ends_with(last), "{got}");
+    Ok(())
 }
 
 #[test]
@@ -162,14 +201,23 @@ fn tells_the_usage(rt: HostRuntime) -> Result<(), Fail> {
 }
 
 /// What is told of a source that gives 4 bytes a call, of which one fails.
-fn of_faults(alloc: Global, failing: u32, room: usize) -> Result<String, Fail> {
-    told(alloc, "check", source_of(alloc, SUM, 4, failing)?, room)
+fn of_faults<R: Threads + Wait + Sync>(
+    rt: &R,
+    alloc: Global,
+    failing: u32,
+    room: usize,
+) -> Result<String, Fail> {
+    told(rt, alloc, "check", source_of(alloc, SUM, 4, failing)?, room)
 }
 
 /// Each row of faults is told so.
-fn agree_on_faults(rt: &impl Abort, alloc: Global, rows: &[Fault]) -> Result<(), Fail> {
+fn agree_on_faults<R: Abort + Threads + Wait + Sync>(
+    rt: &R,
+    alloc: Global,
+    rows: &[Fault],
+) -> Result<(), Fail> {
     for (failing, room, wanted) in rows {
-        let got = of_faults(alloc, *failing, *room)?;
+        let got = of_faults(rt, alloc, *failing, *room)?;
         assert_eq!(rt; got.as_str(), *wanted, "call {failing} and room {room}");
     }
     Ok(())
@@ -181,16 +229,24 @@ fn tells_of_faults(rt: HostRuntime) -> Result<(), Fail> {
 }
 
 /// What is told of so many blanks.
-fn of_blanks(alloc: Global, count: usize) -> Result<String, Fail> {
+fn of_blanks<R: Threads + Wait + Sync>(
+    rt: &R,
+    alloc: Global,
+    count: usize,
+) -> Result<String, Fail> {
     let blanks = vec![in alloc; b' '; count]?;
     let source = MemSource::new(blanks, Vec::new(alloc), 4096);
-    told(alloc, "check", source, 4096)
+    told(rt, alloc, "check", source, 4096)
 }
 
 /// Each number of blanks is told so.
-fn agree_on_blanks(rt: &impl Abort, alloc: Global, rows: &[(usize, &str)]) -> Result<(), Fail> {
+fn agree_on_blanks<R: Abort + Threads + Wait + Sync>(
+    rt: &R,
+    alloc: Global,
+    rows: &[(usize, &str)],
+) -> Result<(), Fail> {
     for (count, wanted) in rows {
-        let got = of_blanks(alloc, *count)?;
+        let got = of_blanks(rt, alloc, *count)?;
         assert_eq!(rt; got.as_str(), *wanted, "{count} blanks");
     }
     Ok(())
@@ -202,17 +258,21 @@ fn bounds_a_source(rt: HostRuntime) -> Result<(), Fail> {
 }
 
 /// What is told of a body.
-fn of_body(alloc: Global, body: &str) -> Result<String, Fail> {
+fn of_body<R: Threads + Wait + Sync>(rt: &R, alloc: Global, body: &str) -> Result<String, Fail> {
     let text = format!(in alloc;
         "int f(int a, int b) {{ return a - b * 2; }} int main() {{ {body}\n}} /* end */ // end"
     )?;
-    told_of(alloc, "replay|[]", text.as_str())
+    told_of(rt, alloc, "replay|[]", text.as_str())
 }
 
 /// Each body is told so.
-fn agree_on_bodies(rt: &impl Abort, alloc: Global, rows: &[(&str, &str)]) -> Result<(), Fail> {
+fn agree_on_bodies<R: Abort + Threads + Wait + Sync>(
+    rt: &R,
+    alloc: Global,
+    rows: &[(&str, &str)],
+) -> Result<(), Fail> {
     for (body, wanted) in rows {
-        let got = of_body(alloc, body)?;
+        let got = of_body(rt, alloc, body)?;
         assert_eq!(rt; got.as_str(), *wanted, "{body}");
     }
     Ok(())
@@ -224,7 +284,8 @@ fn values_of_bodies(rt: HostRuntime) -> Result<(), Fail> {
 }
 
 /// What is told of a head, a part so many times, with its number between its halves, and a tail.
-fn of_parts(
+fn of_parts<R: Threads + Wait + Sync>(
+    rt: &R,
     alloc: Global,
     head: &str,
     part: (&str, &str),
@@ -236,13 +297,17 @@ fn of_parts(
         write!(text, "{}{}{}", part.0, number, part.1)?;
     }
     text.push_str(tail)?;
-    told_of(alloc, "replay|[]", text.as_str())
+    told_of(rt, alloc, "replay|[]", text.as_str())
 }
 
 /// Each limit is told so.
-fn agree_on_limits(rt: &impl Abort, alloc: Global, rows: &[Limit]) -> Result<(), Fail> {
+fn agree_on_limits<R: Abort + Threads + Wait + Sync>(
+    rt: &R,
+    alloc: Global,
+    rows: &[Limit],
+) -> Result<(), Fail> {
     for (head, part, tail, count, wanted) in rows {
-        let got = of_parts(alloc, head, *part, tail, *count)?;
+        let got = of_parts(rt, alloc, head, *part, tail, *count)?;
         assert_eq!(rt; got.as_str(), *wanted, "{head} with {count}");
     }
     Ok(())
@@ -258,8 +323,17 @@ fn command_of(alloc: Global, line: &str) -> Result<String, Fail> {
     let words = words_in(alloc, line)?;
     match command_from(alloc, &words)? {
         None => Ok(String::from_str(alloc, "none")?),
-        Some(Command::Check { budget }) => Ok(format!(in alloc; "check {budget}")?),
+        Some(Command::Check { budget, workers }) => {
+            Ok(format!(in alloc; "check {budget} {workers}")?)
+        }
         Some(Command::Replay { fuel, list }) => Ok(format!(in alloc; "{fuel} {list:?}")?),
+        Some(
+            Command::Workload {
+                number,
+                budget,
+                workers,
+            },
+        ) => Ok(format!(in alloc; "workload {number} {budget} {workers}")?),
     }
 }
 
@@ -273,9 +347,19 @@ fn agree_on_commands(rt: &impl Abort, alloc: Global, rows: &[(&str, &str)]) -> R
 }
 
 #[test]
-fn commands_of_words(rt: HostRuntime) -> Result<(), Fail> {
+fn checks_of_words(rt: HostRuntime) -> Result<(), Fail> {
     one_command();
-    agree_on_commands(&rt, rt.alloc(), &COMMANDS)
+    agree_on_commands(&rt, rt.alloc(), &CHECK_WORDS)
+}
+
+#[test]
+fn replays_of_words(rt: HostRuntime) -> Result<(), Fail> {
+    agree_on_commands(&rt, rt.alloc(), &REPLAY_WORDS)
+}
+
+#[test]
+fn workloads_of_words(rt: HostRuntime) -> Result<(), Fail> {
+    agree_on_commands(&rt, rt.alloc(), &WORKLOAD_WORDS)
 }
 
 /// Whether a replay may have a list of so many values.
@@ -298,7 +382,7 @@ fn lists_of_many_values(rt: HostRuntime) -> Result<(), Fail> {
 
 #[test]
 fn checks_and_replays_agree(rt: HostRuntime) -> Result<(), Fail> {
-    let tally = tally_alone(rt.alloc())?;
+    let tally = tally_alone(&rt, rt.alloc())?;
     assert_eq!(rt; tally.wrong, 0, "{tally:?}");
     assert!(rt; tally.found > 100 && tally.proved > 50, "{tally:?}");
     Ok(())
@@ -306,7 +390,7 @@ fn checks_and_replays_agree(rt: HostRuntime) -> Result<(), Fail> {
 
 #[test]
 fn checks_and_replays_of_calls_agree(rt: HostRuntime) -> Result<(), Fail> {
-    let tally = tally_calling(rt.alloc())?;
+    let tally = tally_calling(&rt, rt.alloc())?;
     assert_eq!(rt; tally.wrong, 0, "{tally:?}");
     assert!(rt; tally.found > 60 && tally.proved > 20, "{tally:?}");
     Ok(())

@@ -1,11 +1,16 @@
-//! The words of the command line.
+//! The words of the command line, read by `clap`.
 
-ghost use Rattle.std.specs.Prelude.{◌≡◌, ℕ, ◌+◌, ◌-◌, ◌*◌, ◌≤◌, ◌<◌, List, [], ◌∷◌, ◌++◌, length, map, string_bytes, ℤ, pos, IfOk, IfSome, IfNone, true, false, option_map, Option, ◌==◌, codes};
+ghost use Rattle.std.specs.Prelude.{◌≡◌, ◌≢◌, ℕ, ◌+◌, ◌-◌, ◌*◌, ◌≤◌, ◌<◌, ◌==◌, List, [], ◌∷◌, length, map, string_bytes, ℤ, IfOk, IfSome, IfNone, true, false, option_map, codes};
 ghost use Rattle.std.specs.List.{list_all};
+ghost use Rattle.clap.specs.Words.{app_of, fault_of, rule_of};
+ghost use Rattle.clap.specs.declared.builder.command.Command.TheViews.{out-Command};
 ghost use Rattle.smash_main.specs.Words as spec;
-ghost use Rattle.smash_main.specs.Words.{IsCommand, Command as PureCommand, IsNumber, IsValue, IsPiece, ArePieces, IsList, AreWords, HasOneCommand, value_from, max_inputs};
-ghost use Rattle.smash_main.specs.steps.WordsView.{command_of, test_of, IsRun, IsNegative, Encloses, name_of, high_of, Sets, IsNamed, IsRest, Gives, gives_of, used_of, IsOption, IsNumberWord, IsItem, state_of, with_item};
+ghost use Rattle.smash_main.specs.Words.{AreWords, IsCommand, Command as PureCommand, Text, IsNumber, IsValue, IsPiece, ArePieces, IsList, IsGivenOr, HasOneCommand, value_from, max_inputs};
+ghost use Rattle.smash_main.specs.steps.WordsView.{FitsCommand, command_of, test_of, IsRun, IsNegative, Encloses};
+ghost use Rattle.smash_main.specs.steps.WordsLine.{Gives, GivesBudget, GivesWorkers, IsTaken, check_app, line_app, listed, name_of, option_rule, replay_app, texts_in, top_app, word_rule, workload_app};
 
+use clap::error::ErrorKind;
+use clap::{Arg, ArgAction, ArgMatches, Command as Line};
 use std::alloc::{AllocError, Global};
 
 // The limits of `specs/Words`, which the clauses cite.
@@ -21,13 +26,30 @@ const MAX_BUDGET: u64 = 20_000;
 
 const DEFAULT_BUDGET: u64 = 2000;
 
-/// A command.
+const MAX_WORKERS: u64 = 16;
+
+const DEFAULT_WORKERS: u64 = 4;
+
+const MAX_NUMBER: u64 = 60;
+
+/// A command. A budget is from 1 to `MAX_BUDGET`, and workers are from 1 to `MAX_WORKERS`.
 #[derive(Drop)]
 pub enum Command {
-    /// The budget is from 1 to `MAX_BUDGET`.
-    Check { budget: u32 },
+    Check {
+        budget: u32,
+        workers: u32,
+    },
     /// The fuel is from 1 to `MAX_FUEL`, and the list has at most `MAX_INPUTS` values.
-    Replay { fuel: u64, list: Vec<i64> },
+    Replay {
+        fuel: u64,
+        list: Vec<i64>,
+    },
+    /// The number is from 1 to `MAX_NUMBER`.
+    Workload {
+        number: u32,
+        budget: u32,
+        workers: u32,
+    },
 }
 
 /// A kind of bytes.
@@ -38,36 +60,6 @@ enum Class {
     OfWord,
     /// Not a comma.
     OfPiece,
-}
-
-/// An option that takes a number from 1 to its `high`.
-#[derive(Clone, Copy, PartialEq, Eq, Debug)]
-enum Setting {
-    /// Of a replay.
-    Fuel,
-    /// Of a check.
-    Budget,
-}
-
-/// What the first words give.
-#[derive(Drop)]
-enum Item {
-    Dashes,
-    /// The number of an option, from 1 to the option's `high`, and the 1 or 2 words that give it.
-    Number { number: u64, used: usize },
-    /// At most `MAX_INPUTS` values.
-    List(Vec<i64>),
-}
-
-/// What the words gave so far.
-#[derive(Drop)]
-struct Given {
-    /// Whether `--` was among them.
-    dashed: bool,
-    /// From 1 to the option's `high`.
-    number: Option<u64>,
-    /// At most `MAX_INPUTS` values.
-    list: Option<Vec<i64>>,
 }
 
 fn is_in(class: Class, byte: u8) -> bool
@@ -252,229 +244,180 @@ fn list(alloc: Global, text: &[u8]) -> Result<Option<Vec<i64>>, AllocError>
     }
 }
 
-impl Setting {
-    fn name(self) -> &'static str
-        ensures { result.now ≡ name_of self }
-    {
-        match self {
-            Setting::Fuel => "--fuel",
-            Setting::Budget => "--budget",
-        }
-    }
+/// The option `--name` with a text.
+fn option<'a>(alloc: Global, name: &'a str) -> Arg<'a>
+    ensures rule { rule_of result ≡ option_rule name.entry.now }
+    ensures own { result.global ≡ false }
+{
+    Arg::new(alloc, name).long(name).action(ArgAction::Set)
+}
 
-    /// The highest number.
-    fn high(self) -> u64
-        ensures { result ≡ high_of self }
-    {
-        match self {
-            Setting::Fuel => MAX_FUEL,
-            Setting::Budget => MAX_BUDGET,
-        }
-    }
+/// A word that is no option.
+fn word<'a>(alloc: Global, name: &'a str) -> Arg<'a>
+    ensures rule { rule_of result ≡ word_rule name.entry.now }
+    ensures own { result.global ≡ false }
+{
+    Arg::new(alloc, name).action(ArgAction::Set)
+}
 
-    /// The number that a text gives, from 1 to `high`.
-    fn number(self, text: &[u8]) -> Option<u64>
-        ensures some { IfSome result (λ n. Sets self text.now n) }
-        ensures none { IfNone result ((n : ℕ) → Sets self text.now n → ⊥) }
-    {
-        number(text, 1, self.high())
-    }
+/// The line of a check.
+fn check_line<'a>(alloc: Global) -> Result<Line<'a>, AllocError>
+    ensures { IfOk result (λ l. (app_of l ≡ check_app) × ((out-Command l).has_globals ≡ false)) }
+{
+    Line::new(alloc, "check")
+        .arg(option(alloc, "budget"))?
+        .arg(option(alloc, "workers"))
+}
 
-    /// The text behind the name and `=`.
-    fn text_in(self, word: &[u8]) -> Option<&[u8]>
-        ensures some { IfSome result (λ text. IsNamed self word.now text.now) }
-        ensures none { IfNone result ((text : List ℕ) → IsNamed self word.now text → ⊥) }
-    {
-        word.strip_prefix(self.name().as_bytes())?
-            .strip_prefix(b"=")
+/// The line of a replay.
+fn replay_line<'a>(alloc: Global) -> Result<Line<'a>, AllocError>
+    ensures { IfOk result (λ l. (app_of l ≡ replay_app) × ((out-Command l).has_globals ≡ false)) }
+{
+    Line::new(alloc, "replay")
+        .arg(option(alloc, "fuel"))?
+        .arg(word(alloc, "list"))
+}
+
+/// The line of a workload.
+fn workload_line<'a>(alloc: Global) -> Result<Line<'a>, AllocError>
+    ensures { IfOk result (λ l. (app_of l ≡ workload_app) × ((out-Command l).has_globals ≡ false)) }
+{
+    Line::new(alloc, "workload")
+        .arg(option(alloc, "budget"))?
+        .arg(option(alloc, "workers"))?
+        .arg(word(alloc, "number"))
+}
+
+/// A line without commands, and with no flag of `clap`'s own.
+fn bare_line<'a>(alloc: Global) -> Line<'a>
+    ensures { app_of result ≡ top_app }
+{
+    Line::new(alloc, "smash")
+        .no_binary_name(true)
+        .disable_help_flag(true)
+        .disable_help_subcommand(true)
+        .disable_version_flag(true)
+        .subcommand_required(true)
+}
+
+/// The line of any command.
+fn line<'a>(alloc: Global) -> Result<Line<'a>, AllocError>
+    ensures { IfOk result (λ l. app_of l ≡ line_app) }
+{
+    bare_line(alloc)
+        .subcommand(check_line(alloc)?)?
+        .subcommand(replay_line(alloc)?)?
+        .subcommand(workload_line(alloc)?)
+}
+
+/// What the words give by the command line, or none where they don't fit it.
+fn matches<'a>(alloc: Global, words: &'a [String]) -> Result<Option<ArgMatches<'a>>, AllocError>
+    ensures some { IfOk result
+        (λ o. IfSome o (λ m. IsTaken (map string_bytes words.entry.now) m)) }
+    ensures none { IfOk result
+        (λ o. IfNone o (fault_of line_app (map string_bytes words.entry.now) ≢ [])) }
+{
+    match line(alloc)?.try_get_matches_from(words) {
+        Ok(matches) => Ok(Some(matches)),
+        Err(error) if error.kind() == ErrorKind::OutOfMemory => Err(AllocError),
+        Err(_) => Ok(None),
     }
 }
 
-/// The number in the word behind the name of an option.
-fn number_word(setting: Setting, words: &[String]) -> Option<Item>
+/// The number that a text gives, from 1 to `high`, or the default where there is none.
+fn number_or(default: u64, high: u64, text: Option<&str>) -> Option<u64>
     ensures some { IfSome result
-        (λ i. IsOption setting (name_of setting ∷ map string_bytes words.now) (gives_of i)) }
-    ensures none { IfNone result ((n : ℕ) →
-        IsNumberWord setting (name_of setting ∷ map string_bytes words.now) n → ⊥) }
+        (λ n. IsGivenOr default high (listed (option_map (λ t. t.now) text.entry)) n) }
+    ensures none { IfNone result
+        ((n : ℕ) → IsGivenOr default high (listed (option_map (λ t. t.now) text.entry)) n → ⊥) }
 {
-    let [word, ..] = words else { return None };
-    let number = setting.number(word.as_bytes())?;
-    Some(Item::Number { number, used: 2 })
+    match text {
+        Some(text) => number(text.as_bytes(), 1, high),
+        None => Some(default),
+    }
 }
 
-/// The option that words begin with.
-fn option(setting: Setting, words: &[String]) -> Option<Item>
-    requires { 1 ≤ length words.now }
-    ensures some { IfSome result (λ i. IsOption setting (map string_bytes words.now) (gives_of i)) }
-    ensures none { IfNone result ((i : Gives) → IsOption setting (map string_bytes words.now) i →
-        ⊥) }
+fn budget(given: &ArgMatches) -> Option<u32>
+    ensures some { IfSome result (λ n. GivesBudget (texts_in given.now) n) }
+    ensures none { IfNone result ((n : ℕ) → GivesBudget (texts_in given.now) n → ⊥) }
 {
-    let word = words[0].as_str();
-    if word == "--" {
-        return Some(Item::Dashes);
-    }
-    if word == setting.name() {
-        return number_word(setting, &words[1..]);
-    }
-    let text = setting.text_in(word.as_bytes())?;
-    let number = setting.number(text)?;
-    Some(Item::Number { number, used: 1 })
+    let budget = number_or(DEFAULT_BUDGET, MAX_BUDGET, given.get_str("budget"))?;
+    Some(budget as u32)
 }
 
-/// The list that words begin with.
-fn list_item(alloc: Global, setting: Setting, words: &[String]) -> Result<Option<Item>, AllocError>
-    requires { 1 ≤ length words.now }
-    ensures some { IfOk result
-        (λ o. IfSome o (λ i. IsItem setting true (map string_bytes words.now) (gives_of i))) }
-    ensures none { IfOk result
-        (λ o. IfNone o ((i : Gives) → IsItem setting true (map string_bytes words.now) i → ⊥)) }
+fn workers(given: &ArgMatches) -> Option<u32>
+    ensures some { IfSome result (λ n. GivesWorkers (texts_in given.now) n) }
+    ensures none { IfNone result ((n : ℕ) → GivesWorkers (texts_in given.now) n → ⊥) }
 {
-    let Some(values) = list(alloc, words[0].as_bytes())? else {
+    let workers = number_or(DEFAULT_WORKERS, MAX_WORKERS, given.get_str("workers"))?;
+    Some(workers as u32)
+}
+
+fn check(given: &ArgMatches) -> Option<Command>
+    ensures some { IfSome result (λ c. (name_of (command_of c) ≡ codes "check")
+        × Gives (command_of c) (texts_in given.now)) }
+    ensures none { IfNone result ((c : PureCommand) → name_of c ≡ codes "check" →
+        Gives c (texts_in given.now) → ⊥) }
+{
+    let budget = budget(given)?;
+    let workers = workers(given)?;
+    Some(Command::Check { budget, workers })
+}
+
+fn replay(alloc: Global, given: &ArgMatches) -> Result<Option<Command>, AllocError>
+    ensures some { IfOk result (λ o. IfSome o (λ c. (name_of (command_of c) ≡ codes "replay")
+        × Gives (command_of c) (texts_in given.now))) }
+    ensures none { IfOk result (λ o. IfNone o ((c : PureCommand) → name_of c ≡ codes "replay" →
+        Gives c (texts_in given.now) → ⊥)) }
+{
+    let Some(fuel) = number_or(DEFAULT_FUEL, MAX_FUEL, given.get_str("fuel")) else {
         return Ok(None)
     };
-    Ok(Some(Item::List(values)))
-}
-
-/// What words begin with.
-fn read_item(
-    alloc: Global,
-    setting: Setting,
-    dashed: bool,
-    words: &[String],
-) -> Result<Option<Item>, AllocError>
-    requires { 1 ≤ length words.now }
-    ensures some { IfOk result
-        (λ o. IfSome o (λ i. IsItem setting dashed (map string_bytes words.now) (gives_of i))) }
-    ensures none { IfOk result
-        (λ o. IfNone o ((i : Gives) → IsItem setting dashed (map string_bytes words.now) i → ⊥)) }
-{
-    if dashed {
-        return list_item(alloc, setting, words);
-    }
-    match option(setting, words) {
-        Some(item) => Ok(Some(item)),
-        None => list_item(alloc, setting, words),
-    }
-}
-
-impl Item {
-    /// How many words it stands in, 1 or 2.
-    fn used(&self) -> usize
-        ensures { result ≡ used_of (gives_of self.now) }
-    {
-        match self {
-            Item::Number { used, .. } => *used,
-            _ => 1,
-        }
-    }
-}
-
-impl Given {
-    /// With one more, unless there is one of its kind.
-    fn with(self, item: Item) -> Option<Given>
-        ensures { option_map state_of result ≡ with_item (gives_of item) (state_of self) }
-    {
-        let Given {
-            dashed,
-            number,
-            list,
-        } = self;
-        match item {
-            Item::Dashes => Some(Given {
-                dashed: true,
-                number,
-                list,
-            }),
-            Item::Number { number: n, .. } if number.is_none() => Some(Given {
-                dashed,
-                number: Some(n),
-                list,
-            }),
-            Item::List(values) if list.is_none() => Some(Given {
-                dashed,
-                number,
-                list: Some(values),
-            }),
-            _ => None,
-        }
-    }
-}
-
-/// What the words behind a command's name give.
-fn read_given(
-    alloc: Global,
-    setting: Setting,
-    words: &[String],
-) -> Result<Option<Given>, AllocError>
-    ensures some { IfOk result
-        (λ o. IfSome o (λ g. IsRest setting false (map string_bytes words.now) g.number
-        (option_map (λ v. v.items) g.list))) }
-    ensures none { IfOk result
-        (λ o. IfNone o ((number : Option ℕ) (list : Option (List ℤ)) →
-        IsRest setting false (map string_bytes words.now) number list → ⊥)) }
-{
-    let mut given = Given {
-        dashed: false,
-        number: None,
-        list: None,
-    };
-    let mut rest = words;
-    while !rest.is_empty() {
-        let Some(item) = read_item(alloc, setting, given.dashed, rest)? else {
-            return Ok(None)
-        };
-        rest = &rest[item.used()..];
-        let Some(more) = given.with(item) else {
-            return Ok(None)
-        };
-        given = more;
-    }
-    Ok(Some(given))
-}
-
-/// The replay that the words behind `replay` ask for, with `DEFAULT_FUEL` where they give no fuel.
-fn replay(alloc: Global, words: &[String]) -> Result<Option<Command>, AllocError>
-    ensures some { IfOk result
-        (λ o. IfSome o (λ c. AreWords (codes "replay" ∷ map string_bytes words.now)
-        (command_of c))) }
-    ensures none { IfOk result
-        (λ o. IfNone o ((c : PureCommand) → AreWords (codes "replay" ∷ map string_bytes words.now)
-        c →
-        ⊥)) }
-{
-    let Some(given) = read_given(alloc, Setting::Fuel, words)? else {
+    let Some(text) = given.get_str("list") else {
         return Ok(None)
     };
-    let Given {
-        dashed: _,
-        number,
-        list,
-    } = given;
-    let Some(list) = list else { return Ok(None) };
-    let fuel = number.unwrap_or(DEFAULT_FUEL);
+    let Some(list) = list(alloc, text.as_bytes())? else {
+        return Ok(None)
+    };
     Ok(Some(Command::Replay { fuel, list }))
 }
 
-/// The check that the words behind `check` ask for, with `DEFAULT_BUDGET` where they give none.
-fn check(alloc: Global, words: &[String]) -> Result<Option<Command>, AllocError>
-    ensures some { IfOk result
-        (λ o. IfSome o (λ c. AreWords (codes "check" ∷ map string_bytes words.now)
-        (command_of c))) }
-    ensures none { IfOk result
-        (λ o. IfNone o ((c : PureCommand) → AreWords (codes "check" ∷ map string_bytes words.now)
-        c →
-        ⊥)) }
+fn workload(given: &ArgMatches) -> Option<Command>
+    ensures some { IfSome result (λ c. (name_of (command_of c) ≡ codes "workload")
+        × Gives (command_of c) (texts_in given.now)) }
+    ensures none { IfNone result ((c : PureCommand) → name_of c ≡ codes "workload" →
+        Gives c (texts_in given.now) → ⊥) }
 {
-    let Some(given) = read_given(alloc, Setting::Budget, words)? else {
+    let text = given.get_str("number")?;
+    let number = number(text.as_bytes(), 1, MAX_NUMBER)?;
+    let budget = budget(given)?;
+    let workers = workers(given)?;
+    Some(Command::Workload {
+        number: number as u32,
+        budget,
+        workers,
+    })
+}
+
+/// The command that matches are of, if they are of one.
+fn command_in(alloc: Global, matches: &ArgMatches) -> Result<Option<Command>, AllocError>
+    ensures some { IfOk result (λ o. IfSome o (λ c. (words : List Text) →
+        IsTaken words matches.now → AreWords words (command_of c))) }
+    ensures none { IfOk result (λ o. IfNone o ((words : List Text) → IsTaken words matches.now →
+        (c : PureCommand) → AreWords words c → ⊥)) }
+{
+    let Some((name, given)) = matches.subcommand() else {
         return Ok(None)
     };
-    if given.list.is_some() {
-        return Ok(None);
+    if name == "check" {
+        Ok(check(given))
+    } else if name == "replay" {
+        replay(alloc, given)
+    } else if name == "workload" {
+        Ok(workload(given))
+    } else {
+        Ok(None)
     }
-    let budget = given.number.unwrap_or(DEFAULT_BUDGET);
-    Ok(Some(Command::Check {
-        budget: budget as u32,
-    }))
 }
 
 /// The command that words are, if they are one.
@@ -482,16 +425,11 @@ pub fn command_from(alloc: Global, words: &[String]) -> Result<Option<Command>, 
     ensures some { IfOk result (λ c. IfSome c (λ given. IsCommand words.now (command_of given))) }
     ensures none { IfOk result (λ c. IfNone c ((given : PureCommand) → IsCommand words.now given →
         ⊥)) }
+    ensures fits { IfOk result (λ c. IfSome c (λ given. FitsCommand (command_of given))) }
 {
-    let [word, rest @ ..] = words else {
-        return Ok(None)
-    };
-    if word.as_str() == "check" {
-        check(alloc, rest)
-    } else if word.as_str() == "replay" {
-        replay(alloc, rest)
-    } else {
-        Ok(None)
+    match matches(alloc, words)? {
+        Some(matches) => command_in(alloc, &matches),
+        None => Ok(None),
     }
 }
 

@@ -2,7 +2,9 @@
 
 use super::told_of;
 use std::alloc::Global;
+use std::sync::Wait;
 use std::test::Fail;
+use std::thread::Threads;
 
 /// What becomes of the inputs x and y first.
 const HEADS: [&str; 6] = [
@@ -116,16 +118,21 @@ fn program(alloc: Global, shape: Shape, head: &str, test: &str) -> Result<String
 }
 
 /// Whether the program fails at its assertion on a list.
-fn fails_on(alloc: Global, text: &str, list: &str) -> Result<bool, Fail> {
+fn fails_on<R: Threads + Wait + Sync>(
+    rt: &R,
+    alloc: Global,
+    text: &str,
+    list: &str,
+) -> Result<bool, Fail> {
     let words = format!(in alloc; "replay|{list}")?;
-    let told = told_of(alloc, words.as_str(), text)?;
+    let told = told_of(rt, alloc, words.as_str(), text)?;
     Ok(told.as_str().starts_with("1 failed 2:1, "))
 }
 
 /// Whether it fails there on one of the lists.
-fn fails_on_any(alloc: Global, text: &str) -> Result<bool, Fail> {
+fn fails_on_any<R: Threads + Wait + Sync>(rt: &R, alloc: Global, text: &str) -> Result<bool, Fail> {
     for list in LISTS {
-        if fails_on(alloc, text, list)? {
+        if fails_on(rt, alloc, text, list)? {
             return Ok(true);
         }
     }
@@ -140,17 +147,22 @@ fn found_list(told: &str) -> Option<&str> {
 }
 
 /// Adds what a check says of a program, and whether its replays agree.
-fn count(alloc: Global, tally: &mut Tally, text: &str) -> Result<(), Fail> {
-    let told = told_of(alloc, "check|--budget|300", text)?;
+fn count<R: Threads + Wait + Sync>(
+    rt: &R,
+    alloc: Global,
+    tally: &mut Tally,
+    text: &str,
+) -> Result<(), Fail> {
+    let told = told_of(rt, alloc, "check|--budget|300", text)?;
     let told = told.as_str();
     if let Some(list) = found_list(told) {
         tally.found = tally.found.saturating_add(1);
-        if !fails_on(alloc, text, list)? {
+        if !fails_on(rt, alloc, text, list)? {
             tally.wrong = tally.wrong.saturating_add(1);
         }
     } else if told.starts_with("0 2:1: proved\n") {
         tally.proved = tally.proved.saturating_add(1);
-        if fails_on_any(alloc, text)? {
+        if fails_on_any(rt, alloc, text)? {
             tally.wrong = tally.wrong.saturating_add(1);
         }
     } else if told.starts_with("2 2:1: unknown (") {
@@ -162,16 +174,27 @@ fn count(alloc: Global, tally: &mut Tally, text: &str) -> Result<(), Fail> {
 }
 
 /// The programs of a head and a shape.
-fn count_tests(alloc: Global, tally: &mut Tally, head: &str, shape: Shape) -> Result<(), Fail> {
+fn count_tests<R: Threads + Wait + Sync>(
+    rt: &R,
+    alloc: Global,
+    tally: &mut Tally,
+    head: &str,
+    shape: Shape,
+) -> Result<(), Fail> {
     for test in TESTS {
         let text = program(alloc, shape, head, test)?;
-        count(alloc, tally, text.as_str())?;
+        count(rt, alloc, tally, text.as_str())?;
     }
     Ok(())
 }
 
 /// The programs of so many heads and all shapes.
-fn tally_of(alloc: Global, heads: usize, shapes: &[Shape]) -> Result<Tally, Fail> {
+fn tally_of<R: Threads + Wait + Sync>(
+    rt: &R,
+    alloc: Global,
+    heads: usize,
+    shapes: &[Shape],
+) -> Result<Tally, Fail> {
     let mut tally = Tally {
         found: 0,
         proved: 0,
@@ -179,29 +202,30 @@ fn tally_of(alloc: Global, heads: usize, shapes: &[Shape]) -> Result<Tally, Fail
         wrong: 0,
     };
     for head in HEADS.iter().take(heads) {
-        count_shapes(alloc, &mut tally, head, shapes)?;
+        count_shapes(rt, alloc, &mut tally, head, shapes)?;
     }
     Ok(tally)
 }
 
-fn count_shapes(
+fn count_shapes<R: Threads + Wait + Sync>(
+    rt: &R,
     alloc: Global,
     tally: &mut Tally,
     head: &str,
     shapes: &[Shape],
 ) -> Result<(), Fail> {
     for shape in shapes {
-        count_tests(alloc, tally, head, *shape)?;
+        count_tests(rt, alloc, tally, head, *shape)?;
     }
     Ok(())
 }
 
 /// 216 programs without calls.
-pub fn tally_alone(alloc: Global) -> Result<Tally, Fail> {
-    tally_of(alloc, 6, &BODIES)
+pub fn tally_alone<R: Threads + Wait + Sync>(rt: &R, alloc: Global) -> Result<Tally, Fail> {
+    tally_of(rt, alloc, 6, &BODIES)
 }
 
 /// 108 programs with calls.
-pub fn tally_calling(alloc: Global) -> Result<Tally, Fail> {
-    tally_of(alloc, 3, &CALLING)
+pub fn tally_calling<R: Threads + Wait + Sync>(rt: &R, alloc: Global) -> Result<Tally, Fail> {
+    tally_of(rt, alloc, 3, &CALLING)
 }

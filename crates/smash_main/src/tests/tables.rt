@@ -157,6 +157,30 @@ pub const REPLAYS: [Row; 10] = [
     ),
 ];
 
+/// Workloads, whatever the source is.
+pub const WORKLOADS: [Row; 4] = [
+    (
+        "workload|1",
+        SUM,
+        "0 1:42: proved\nsummary: 1 proved, 0 found, 0 unknown\n",
+    ),
+    (
+        "workload|--budget=2000|--|1",
+        "no source",
+        "0 1:42: proved\nsummary: 1 proved, 0 found, 0 unknown\n",
+    ),
+    (
+        "workload|--workers|1|3",
+        "",
+        "1 1:42: proved\n2:42: proved\n3:42: found [3, -3]\nsummary: 2 proved, 1 found, 0 unknown\n",
+    ),
+    (
+        "workload|2|--budget|1",
+        "",
+        "2 1:42: unknown (budget 1 spent)\n2:42: unknown (budget 1 spent)\nsummary: 0 proved, 0 found, 2 unknown\n",
+    ),
+];
+
 pub const WORKED: [Row; 10] = [
     // an empty source
     ("check", "", "3 refused 1:1: no main\n"),
@@ -423,7 +447,7 @@ pub const REFUSALS: [Row; 44] = [
     ),
 ];
 
-pub const NO_COMMANDS: [Row; 13] = [
+pub const NO_COMMANDS: [Row; 17] = [
     ("", SUM, USAGE),
     ("check|x", SUM, USAGE),
     ("Check", SUM, USAGE),
@@ -437,6 +461,10 @@ pub const NO_COMMANDS: [Row; 13] = [
     ("check|--budget|x", SUM, USAGE),
     ("check|--budget|5|--budget|5", SUM, USAGE),
     ("check|--|--budget=50", SUM, USAGE),
+    ("check|--budget|5|--budget|6", SUM, USAGE),
+    ("check|--help", SUM, USAGE),
+    ("replay|5", SUM, USAGE),
+    ("workload|61", SUM, USAGE),
 ];
 
 /// The call that fails of a source that gives 4 bytes a call, the room of the sink, and what is
@@ -684,82 +712,6 @@ pub const LIMITS: [Limit; 20] = [
         65,
         "3 refused 66:1: too many assertions\n",
     ),
-];
-
-/// Words, parted by `|`, and the command that they are: `check` and the budget, or the fuel and the
-/// list of a replay.
-pub const COMMANDS: [(&str, &str); 65] = [
-    ("", "none"),
-    ("check", "check 2000"),
-    ("check|--", "check 2000"),
-    ("check|--budget|50", "check 50"),
-    ("check|--budget=50", "check 50"),
-    ("check|--budget|50|--", "check 50"),
-    ("check|--|--budget|5", "none"),
-    ("check|--budget", "none"),
-    ("check|--budget|0", "none"),
-    ("check|--budget|1", "check 1"),
-    ("check|--budget|20000", "check 20000"),
-    ("check|--budget|20001", "none"),
-    ("check|--budget|x", "none"),
-    ("check|--budget|05", "none"),
-    ("check|--budget|5|--budget=5", "none"),
-    ("check|--budget= 5", "none"),
-    ("check|--budget=10000000000", "none"),
-    ("check|--budget=", "none"),
-    ("check|--budget=0", "none"),
-    ("check|--budget=20001", "none"),
-    ("check|--budget|--", "none"),
-    ("check|--budget|5|[1]", "none"),
-    ("check|--fuel|5", "none"),
-    ("check|--|--", "none"),
-    ("check|[1]", "none"),
-    ("Check", "none"),
-    ("replay", "none"),
-    ("replay|[]", "1000000 []"),
-    ("replay|[ ]", "1000000 []"),
-    ("replay|[1,-2, 3 ]", "1000000 [1, -2, 3]"),
-    (
-        "replay|[-9223372036854775808]",
-        "1000000 [-9223372036854775808]",
-    ),
-    (
-        "replay|[9223372036854775807]",
-        "1000000 [9223372036854775807]",
-    ),
-    ("replay|[-9223372036854775809]", "none"),
-    ("replay|[9223372036854775808]", "none"),
-    ("replay|[-0]", "none"),
-    ("replay|[0]", "1000000 [0]"),
-    ("replay|[01]", "none"),
-    ("replay|[-01]", "none"),
-    ("replay|[1,]", "none"),
-    ("replay|[,]", "none"),
-    ("replay| [1]", "none"),
-    ("replay|[1] ", "none"),
-    ("replay|[1 2]", "none"),
-    ("replay|[- 1]", "none"),
-    ("replay|[\t1]", "none"),
-    ("replay|[+1]", "none"),
-    ("replay|[", "none"),
-    ("replay|--|[1]", "1000000 [1]"),
-    ("replay|[1]|--", "1000000 [1]"),
-    ("replay|--fuel=7|[ ]", "7 []"),
-    ("replay|[1]|--fuel|7", "7 [1]"),
-    ("replay|--fuel|1000000000|--|[1]", "1000000000 [1]"),
-    ("replay|--|--fuel|5|[1]", "none"),
-    ("replay|--|--|[1]", "none"),
-    ("replay|[1]|[1]", "none"),
-    ("replay|[1]|--fuel", "none"),
-    ("replay|--fuel|[1]", "none"),
-    ("replay|--fuel=|[1]", "none"),
-    ("replay|--fuel|5|--fuel=6|[1]", "none"),
-    ("replay|--fuel|01|[1]", "none"),
-    ("replay|--fuel|0|[1]", "none"),
-    ("replay|--fuel|1000000001|[1]", "none"),
-    ("replay|--fuel=+5|[1]", "none"),
-    ("replay|--fuel=00000000005|[1]", "none"),
-    ("replay|--budget|5|[1]", "none"),
 ];
 
 /// How many blanks a source has, and what is told of it.

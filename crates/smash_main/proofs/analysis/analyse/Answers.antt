@@ -5,7 +5,7 @@ use Rattle.smash_main.proofs.Judging.{analysed}
 use Rattle.smash_main.proofs.analysis.analyse.Goals as goal
 
 pub returns : goal.returns
-returns c =
+returns g c =
     let program = c.args.program.now in
     let board = c.in_ok-board.board in
     let verdicts = c.in_ok-verdicts.verdicts.items in

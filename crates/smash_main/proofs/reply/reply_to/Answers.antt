@@ -7,7 +7,7 @@ use Rattle.smash_main.specs.steps.WordsView.{command_of}
 use Rattle.smash_main.proofs.reply.reply_to.Goals as goal
 
 pub returns-in-Ok-clause-settled : goal.returns-in-Ok-clause-settled
-returns-in-Ok-clause-settled c =
+returns-in-Ok-clause-settled g c =
     IfOk-weaker c.answer.result _ _
     (λ a h P accepted. subst (λ z. Answers (command_of c.args.command.now) z a.status a.text.items (handed_in a))
     (c.in-Ok.ensures.only P accepted)
@@ -15,15 +15,15 @@ returns-in-Ok-clause-settled c =
     c.answer.ensures
 
 pub refused-requires : goal.refused-requires
-refused-requires c = (c.in-Err-Refused.ensures.refused c.in-Err-Refused.why (ap Err c.in-Err-Refused.field-0-is)).of_source
+refused-requires g c = (c.in-Err-Refused.ensures.refused c.in-Err-Refused.why (ap Err c.in-Err-Refused.field-0-is)).of_source
 
 pub returns-in-Err-Refused-clause-asked : goal.returns-in-Err-Refused-clause-asked
-returns-in-Err-Refused-clause-asked c =
+returns-in-Err-Refused-clause-asked g c =
     IfOk-weaker c.refused.result _ _ (λ a h. inl h) (c.refused.ensures c.args.bytes.now
     (c.in-Err-Refused.ensures.refused c.in-Err-Refused.why (ap Err c.in-Err-Refused.field-0-is)))
 
 pub returns-in-Err-Refused-clause-settled : goal.returns-in-Err-Refused-clause-settled
-returns-in-Err-Refused-clause-settled c =
+returns-in-Err-Refused-clause-settled g c =
     IfOk-weaker c.refused.result _ _
     (λ a h P accepted. absurd (let e = c.in-Err-Refused.ensures.only P accepted in let f = c.in-Err-Refused.field-0-is in cc))
     (c.refused.ensures c.args.bytes.now

@@ -1,21 +1,38 @@
-use Rattle.std.proofs.Common.{Err, ◌+◌, ◌∙◌, ap, arith, ⊎_elim}
-use mathlib.Core.Logic.{inl, inr}
-use Rattle.smash_main.specs.Source.{source_limit}
+use Rattle.std.proofs.Common.{◌⊎◌, ◌∙◌, subst, sym, refl, inr, rules}
+use Rattle.smash_main.specs.Run.{Change, Obeys, change}
+use Rattle.smash_main.specs.steps.Handing.{EndsAsked, EndsSilent, handed_by}
+use Rattle.smash_main.specs.steps.WordsView.{FitsCommand, command_of}
+use Rattle.smash_main.proofs.Obeyed.{silently, workload_ends}
 use Rattle.smash_main.proofs.run.obey.Goals as goal
 
-pub returns-in-Err-TooLong : goal.returns-in-Err-TooLong
-returns-in-Err-TooLong g c =
-    let took = c.read_all.ensures.long (c.in-Err-TooLong.is ∙ ap Err c.in-Err-TooLong.field-0-is) in
-    ⊎_elim
-    (λ e. inr (inl (record {
-      taken = took;
-      ends = e;
-      nothing = c.tell_too_long.ensures.nothing;
-    })))
-    (λ z. inr (inr (inr (record {
-      taken = (source_limit + 1, omega arith, took);
-      is_seven = z.0;
-      silent = z.1;
-      nothing = c.tell_too_long.ensures.nothing;
-    }))))
-    c.tell_too_long.ensures.ends
+pub returns-in-Ok-clause-obeys : goal.returns-in-Ok-clause-obeys
+returns-in-Ok-clause-obeys g c =
+    let left = g.S.Source.left c.args.source.now in
+    let faults = g.S.Source.faults c.args.source.now in
+    let source : Change = change left left faults faults in
+    let sink : Change = change (g.K.Sink.taken c.args.sink.now) (g.K.Sink.taken c.reply_with.new.sink) (g.K.Sink.faults c.args.sink.now)
+    (g.K.Sink.faults c.reply_with.new.sink) in
+    let status = c.reply_with.result.status in
+    let w = handed_by c.reply_with.result in
+    let fits = subst (λ k. FitsCommand (command_of k)) c.in-Workload.is c.requires in
+    let ends = subst (λ k. EndsAsked (command_of k) c.deref.result.now status sink w ⊎ EndsSilent status sink w) c.in-Workload.is
+    c.reply_with.ensures in
+    subst (λ k. Obeys (command_of k) status source sink w) (sym c.in-Workload.is)
+    (workload_ends c.in-Workload.number c.in-Workload.budget c.in-Workload.workers status source sink w refl c.deref.result.now fits.0
+    fits.1
+    (c.deref.ensures.value ∙ c.in-Ok.ensures.text) ends)
+
+pub returns-in-Err-clause-obeys : goal.returns-in-Err-clause-obeys
+returns-in-Err-clause-obeys g c =
+    let left = g.S.Source.left c.args.source.now in
+    let faults = g.S.Source.faults c.args.source.now in
+    let source : Change = change left left faults faults in
+    let taken = g.K.Sink.taken c.args.sink.now in
+    let failed = g.K.Sink.faults c.args.sink.now in
+    let sink : Change = change taken taken failed failed in
+    let status = c.end.result.status in
+    let w = handed_by c.end.result in
+    let m : EndsSilent status sink w =
+    record { is_seven = c.end.ensures.status; silent = search rules; nothing = c.end.ensures.nothing } in
+    subst (λ k. Obeys (command_of k) status source sink w) (sym c.in-Workload.is)
+    (inr (silently status source sink w refl m))

@@ -1,14 +1,16 @@
-use Rattle.std.proofs.Common.{subst, sym}
+use Rattle.std.proofs.Common.{ap, refl, rules, subst, sym}
 use mathlib.Core.Logic.{inl}
-use Rattle.std.specs.Prelude.{map, string_bytes, IfSome}
-use Rattle.smash_main.specs.Words.{IsCommand}
-use Rattle.smash_main.specs.steps.Handing.{handed_by}
-use Rattle.smash_main.specs.steps.WordsView.{command_of}
+use Rattle.std.specs.Prelude.{map, string_bytes}
 use Rattle.report_text.specs.Usage.{usage_text}
-use Rattle.smash_main.specs.Run.{change, EndsWith, Obeys}
+use Rattle.smash_main.specs.Run.{Change, change, EndsWith, Obeys}
+use Rattle.smash_main.specs.Words.{IsCommand, workload}
+use Rattle.smash_main.specs.steps.Handing.{EndsSilent, handed_by}
+use Rattle.smash_main.specs.steps.WordsView.{command_of}
 use Rattle.smash_main.proofs.Bounded.{bounded, took_none}
-use Rattle.smash_main.proofs.WordsCommand.{one_command}
 use Rattle.smash_main.proofs.Completed.{completes}
+use Rattle.smash_main.proofs.Obeyed.{nothing_read}
+use Rattle.smash_main.proofs.WordsRuns.{some_at}
+use Rattle.smash_main.proofs.WordsCommand.{one_command}
 use Rattle.smash_main.proofs.run.run.Goals as goal
 
 pub returns-in-Ok-Some-clause-obeys : goal.returns-in-Ok-Some-clause-obeys
@@ -19,14 +21,39 @@ returns-in-Ok-Some-clause-obeys g c given is =
     (change (g.K.Sink.taken c.args.sink.now) (g.K.Sink.taken c.obey.new.sink) (g.K.Sink.faults c.args.sink.now)
     (g.K.Sink.faults c.obey.new.sink)) (handed_by c.obey.result))
     (one_command (map string_bytes c.args.words.now) (command_of c.in-Ok-Some.given) given
-    (subst (λ o. IfSome o (λ h. IsCommand c.args.words.now (command_of h))) c.in-Ok-Some.field-0-is c.in-Ok-Some.ensures.some) is)
-    c.obey.ensures
+    (some_at (λ k. IsCommand c.args.words.now (command_of k)) c.in-Ok-Some.field-0 c.in-Ok-Some.given c.in-Ok-Some.field-0-is
+    c.in-Ok-Some.ensures.some) is)
+    c.obey.ensures.obeys
 
 pub returns-in-Ok-Some-clause-complete : goal.returns-in-Ok-Some-clause-complete
 returns-in-Ok-Some-clause-complete g c given is = completes given _ _ _ _ (returns-in-Ok-Some-clause-obeys g c given is)
 
+pub returns-in-Ok-Some-clause-workload_unread : goal.returns-in-Ok-Some-clause-workload_unread
+returns-in-Ok-Some-clause-workload_unread g c n b w is =
+    c.obey.ensures.unread n b w
+    (one_command (map string_bytes c.args.words.now) (command_of c.in-Ok-Some.given) (workload n b w)
+    (some_at (λ k. IsCommand c.args.words.now (command_of k)) c.in-Ok-Some.field-0 c.in-Ok-Some.given c.in-Ok-Some.field-0-is
+    c.in-Ok-Some.ensures.some) is)
+
 pub returns-in-Ok-Some-clause-bounded : goal.returns-in-Ok-Some-clause-bounded
-returns-in-Ok-Some-clause-bounded g c = bounded (command_of c.in-Ok-Some.given) _ _ _ _ c.obey.ensures
+returns-in-Ok-Some-clause-bounded g c =
+    bounded (command_of c.in-Ok-Some.given) _ _ _ _ (λ n b w is. sym (ap g.S.Source.left (c.obey.ensures.unread n b w is)))
+    c.obey.ensures.obeys
+
+pub returns-in-Err-clause-obeys : goal.returns-in-Err-clause-obeys
+returns-in-Err-clause-obeys g c given is =
+    let left = g.S.Source.left c.args.source.now in
+    let faults = g.S.Source.faults c.args.source.now in
+    let source : Change = change left left faults faults in
+    let taken = g.K.Sink.taken c.args.sink.now in
+    let failed = g.K.Sink.faults c.args.sink.now in
+    let sink : Change = change taken taken failed failed in
+    let m : EndsSilent c.end-in-Err.result.status sink (handed_by c.end-in-Err.result) =
+    record { is_seven = c.end-in-Err.ensures.status; silent = search rules; nothing = c.end-in-Err.ensures.nothing } in
+    nothing_read given c.end-in-Err.result.status source sink (handed_by c.end-in-Err.result) refl m
+
+pub returns-in-Err-clause-complete : goal.returns-in-Err-clause-complete
+returns-in-Err-clause-complete g c given is = completes given _ _ _ _ (returns-in-Err-clause-obeys g c given is)
 
 pub returns-in-Ok-None-clause-bounded : goal.returns-in-Ok-None-clause-bounded
 returns-in-Ok-None-clause-bounded g c = took_none _ _
