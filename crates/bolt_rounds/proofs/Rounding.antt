@@ -250,7 +250,8 @@ reached_front R old (e ∷ es) new r =
     starts_then new.table r.0.table old.table (reached_front R r.0 es new r.2) (event_front R old r.0 e r.1)
 
 module _ (old new : Shown) (p : Place) (same : SameProgram old new) (g : HasGiven old p new) where
-  shown_keeps : (j : Given) (o : Option (Arc Summary Global)) → IfSome o (λ a. MayBeShown old j a.value) → IfSome o (λ a. MayBeShown new j a.value)
+  shown_keeps : (j : Given) (o : Option (Arc Summary Global)) → IfSome o (λ a. MayBeShown old j a.value) →
+      IfSome o (λ a. MayBeShown new j a.value)
   shown_keeps j None s = tt
   shown_keeps j (Some a) s = (moves_keep old new g.events j g.board same.graphs g.reached).1 a.value s
 
@@ -270,7 +271,8 @@ module _ (old new : Shown) (p : Place) (same : SameProgram old new) (g : HasGive
       kept = omega (arith, a.crew_of.kept, workers, kept);
       room = ap (λ k. k.room) known ∙ (a.crew_of.room ∙ sym (same_most old new same));
       front = subst (λ k. StartsWith new.core.table k.summaries) (sym known)
-          (starts_then new.core.table old.core.table crew.known.summaries (reached_front (reads old.graphs) old.core g.events new.core g.reached)
+          (starts_then new.core.table old.core.table crew.known.summaries (reached_front (reads old.graphs) old.core g.events new.core
+          g.reached)
           a.crew_of.front);
       going = g.going ∙ a.crew_of.going;
     };

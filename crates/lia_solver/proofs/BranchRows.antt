@@ -1,20 +1,19 @@
 -- The rows of a branch, without weaker ones, say what all of them say.
 use Rattle.std.proofs.Common.{◌≡◌, ◌⊎◌, inl, inr, ℕ, ◌+◌, ◌*◌, ◌<◌, ◌≤◌, ◌^◌, ◌==◌, Bool, true, false, List, [], ◌∷◌, ◌++◌, length, ℤ, pos, negsuc, arith, refl, sym, ap, subst, ◌∙◌}
-use Rattle.std.specs.Prelude.{All, Contains, IsTrue, unsigned_abs, if◌then◌else◌}
-use Rattle.std.specs.List.{list_any, list_all}
+use Rattle.std.specs.Prelude.{All, Contains, unsigned_abs, if◌then◌else◌}
+use Rattle.std.specs.List.{list_all}
 use Rattle.std.proofs.lemmas.List.{append_assoc, length-append, length-map}
 use Rattle.linear_formula.specs.LinearSum.{LinearSum, is_within}
 use Rattle.linear_formula.specs.declared.formula.Atom.{Atom}
-use Rattle.infeasible_cert.specs.Right.{upper_range, lower_range, rows_of, range_rows, columns_of}
+use Rattle.infeasible_cert.specs.Right.{rows_of, range_rows, columns_of}
 use Rattle.shadow_elim.specs.declared.row.Row.{Row}
 use Rattle.shadow_elim.specs.Elimination.{pairs, pair_sum, pair_sums}
-use Rattle.shadow_elim.specs.Points.{outcome}
 use Rattle.shadow_elim.specs.Reduction.{is_as_strong}
 use Rattle.shadow_elim.specs.Stages.{terms_of, AreNumbered}
 use Rattle.shadow_elim.specs.steps.Marks.{IsSmall}
 use Rattle.infeasible_cert.specs.Right.{row_at}
 use Rattle.shadow_elim.proofs.Keeping.{IsPairOf, among-pairs, pairs-among}
-use Rattle.shadow_elim.proofs.Members.{Among, among-append_left, among-append_right, among-append_cases, among-map, map-among, any-among, all-among, among-contains}
+use Rattle.shadow_elim.proofs.Members.{Among, among-append_cases, among-map, map-among, any-among, all-among, among-contains}
 use Rattle.shadow_elim.proofs.Staying.{as-strong-is}
 use Rattle.shadow_elim.proofs.Weaker.{within-weaker}
 use Rattle.lia_solver.specs.steps.Branches.{branch_rows}

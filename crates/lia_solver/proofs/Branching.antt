@@ -21,7 +21,7 @@ pub length-numbered : (n : ℕ) (ts : List LinearSum) → length (numbered_from 
 length-numbered n [] = refl
 length-numbered n (t ∷ ts) = omega (arith, length-numbered (n + 1) ts)
 
-terms-append : (rs ss : List Row) → terms_of (rs ++ ss) ≡ terms_of rs ++ terms_of ss
+pub terms-append : (rs ss : List Row) → terms_of (rs ++ ss) ≡ terms_of rs ++ terms_of ss
 terms-append rs ss = map-append (λ (r : Row). r.term) rs ss
 
 pub rows-append : (as_ bs : List Atom) → rows_of (as_ ++ bs) ≡ rows_of as_ ++ rows_of bs

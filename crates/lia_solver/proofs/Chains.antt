@@ -1,5 +1,5 @@
 -- The chains of a table's rows.
-use Rattle.std.proofs.Common.{◌≡◌, ◌⊎◌, inl, inr, ℕ, suc, zero, ◌+◌, ◌-◌, ◌<◌, ◌≤◌, List, [], ◌∷◌, ◌++◌, length, map, get_or, set, replicate, take, drop, fold, ℤ, pos, Bool, true, false, ◌*◌, ◌%◌, arith, refl, sym, ap, subst, ◌∙◌}
+use Rattle.std.proofs.Common.{◌≡◌, ◌⊎◌, inl, inr, ℕ, suc, zero, ◌+◌, ◌-◌, ◌<◌, ◌≤◌, List, [], ◌∷◌, ◌++◌, length, map, get_or, set, replicate, take, drop, fold, ℤ, pos, Bool, true, false, ◌*◌, arith, refl, sym, ap, subst, ◌∙◌}
 use Rattle.std.specs.Prelude.{int_lt, unsigned_abs, if◌then◌else◌}
 use Rattle.std.proofs.lemmas.Bool.{cases_lt, cases_eq}
 use Rattle.lia_solver.specs.declared.table.Line.{Line}
@@ -61,7 +61,8 @@ pub record AreAlike (pool other : List (ℕ × ℤ)) (lines more : List Line) : 
       × ((get_or more i d).end ≤ length other)
   pub before : (i : ℕ) (d : Line) → i < length lines → (get_or more i d).before ≡ (get_or lines i d).before
 
-past-alike : (pool other : List (ℕ × ℤ)) (lines more : List Line) (n b past : ℕ) → ((i : ℕ) → parts_at other more i ≡ parts_at pool lines i) →
+past-alike : (pool other : List (ℕ × ℤ)) (lines more : List Line) (n b past : ℕ) →
+    ((i : ℕ) → parts_at other more i ≡ parts_at pool lines i) →
     IsPast pool lines n b past → IsPast other more n b past
 past-alike pool other lines more n b past e h = record {
   limit = h.limit;
@@ -151,7 +152,8 @@ map-more f g (l ∷ ls) h =
 parts-grown : (pool more : List (ℕ × ℤ)) (lines : List Line) → AreInChains pool lines → map (parts_of_line (pool ++ more)) lines
     ≡ map (parts_of_line pool) lines
 parts-grown pool more lines h =
-    map-more (parts_of_line (pool ++ more)) (parts_of_line pool) lines (λ i d k. range-more pool more _ _ (h.inside i d k).0 (h.inside i d k).1)
+    map-more (parts_of_line (pool ++ more)) (parts_of_line pool) lines (λ i d k. range-more pool more _ _ (h.inside i d k).0
+    (h.inside i d k).1)
 
 -- the pool alone has grown
 pub lines-grown : (pool more : List (ℕ × ℤ)) (lines : List Line) (heads : List ℕ) → AreLines pool lines heads →
@@ -169,7 +171,8 @@ pub record IsLastLine (pool parts : List (ℕ × ℤ)) (heads : List ℕ) (l : L
   pub end : l.end ≡ length (pool ++ parts)
   pub before : l.before ≡ get_or heads (bucket_of parts) 0
 
-pub last-parts : (pool parts : List (ℕ × ℤ)) (heads : List ℕ) (l : Line) → IsLastLine pool parts heads l → parts_of_line (pool ++ parts) l ≡ parts
+pub last-parts : (pool parts : List (ℕ × ℤ)) (heads : List ℕ) (l : Line) → IsLastLine pool parts heads l → parts_of_line (pool ++ parts) l
+    ≡ parts
 last-parts pool parts heads l h =
     ap (λ a. slice_range (pool ++ parts) a l.end) h.start ∙ ap (λ b. take (b - length pool) (drop (length pool) (pool ++ parts))) h.end
     ∙ ap (take (length (pool ++ parts) - length pool)) (drop-append_seam pool parts)
@@ -198,7 +201,8 @@ lines-pushed pool parts lines heads l h k = record {
   lines' = lines ++ l ∷ []
 
   parts_are : map (parts_of_line all) lines' ≡ map (parts_of_line pool) lines ++ parts ∷ []
-  parts_are = map-append (parts_of_line all) lines (l ∷ []) ∙ ap (λ ps. ps ++ parts_of_line all l ∷ []) (parts-grown pool parts lines h.chains)
+  parts_are = map-append (parts_of_line all) lines (l ∷ []) ∙ ap (λ ps. ps ++ parts_of_line all l ∷ [])
+      (parts-grown pool parts lines h.chains)
       ∙ ap (λ ps. map (parts_of_line pool) lines ++ ps ∷ []) (last-parts pool parts heads l k)
 
   count : length (map (parts_of_line pool) lines) ≡ length lines
@@ -252,7 +256,8 @@ lines-pushed pool parts lines heads l h k = record {
       IsPast all lines' (length lines') b (get_or (set heads (bucket_of parts) (length lines + 1)) b 0)
   last b q (inl e) =
       let here = get_or-set_same heads (bucket_of parts) (length lines + 1) 0 (omega (arith, h.count, bucket-bound parts)) in
-      subst (λ (p : ℕ). IsPast all lines' (length lines') b p) (sym (ap (λ (c : ℕ). get_or (set heads (bucket_of parts) (length lines + 1)) c
+      subst (λ (p : ℕ). IsPast all lines' (length lines') b p)
+      (sym (ap (λ (c : ℕ). get_or (set heads (bucket_of parts) (length lines + 1)) c
       0) e ∙ here)) (record {
         limit = omega (arith, length-append lines (l ∷ []));
         none = λ j u v w. omega (arith, u, v, length-append lines (l ∷ []));
@@ -266,7 +271,8 @@ lines-pushed pool parts lines heads l h k = record {
         none = λ j u v w. beyond j u v w (cases_lt j (length lines));
         last = g.last;
       }) where
-        beyond : (j : ℕ) → get_or heads b 0 ≤ j → j < length lines' → bucket_at all lines' j ≡ b → (j < length lines) ⊎ (length lines ≤ j) → ⊥
+        beyond : (j : ℕ) → get_or heads b 0 ≤ j → j < length lines' → bucket_at all lines' j ≡ b → (j < length lines) ⊎ (length lines ≤ j) →
+            ⊥
         beyond j u v w (inl lt) = (past-old (length lines) b (get_or heads b 0) (omega arith) (h.last b q)).none j u lt w
         beyond j u v w (inr le) =
             let at : j ≡ length lines = omega (arith, le, v, length-append lines (l ∷ [])) in

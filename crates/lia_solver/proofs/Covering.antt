@@ -1,9 +1,9 @@
 -- Rows that say as much as others, before a column and behind it.
-use Rattle.std.proofs.Common.{◌≡◌, ◌⊎◌, inl, inr, ℕ, ◌<◌, ◌+◌, ◌*◌, Bool, true, false, List, [], ◌∷◌, ◌++◌, ℤ, pos, ◌+ℤ◌, ◌-ℤ◌, ◌*ℤ◌, arith, refl, sym, ap, subst, ◌∙◌}
+use Rattle.std.proofs.Common.{◌≡◌, ◌⊎◌, inl, inr, ℕ, ◌<◌, Bool, true, false, List, ℤ, pos, ◌+ℤ◌, ◌-ℤ◌, ◌*ℤ◌, arith, refl, sym, ap, subst, ◌∙◌}
 use Rattle.std.specs.Prelude.{IsTrue, ◌≤ℤ◌, ◌<ℤ◌, nat_lt, int_lt, unsigned_abs, if◌then◌else◌}
 use Rattle.std.proofs.lemmas.Bool.{ltb-true}
 use Rattle.std.proofs.lemmas.Int.{ints}
-use Rattle.linear_formula.specs.LinearSum.{LinearSum, is_within, listed_at, is_zero}
+use Rattle.linear_formula.specs.LinearSum.{LinearSum, listed_at, is_zero}
 use Rattle.linear_formula.proofs.Ring.{mul-add}
 use Rattle.infeasible_cert.proofs.Signs.{below_multiplier}
 use Rattle.shadow_elim.specs.Division.{parts_divisor, ceiling_quotient, divided, tightened}

@@ -1,22 +1,23 @@
 -- Rows of which weaker ones were left out.
-use Rattle.std.proofs.Common.{◌≡◌, ◌⊎◌, inl, inr, ℕ, suc, zero, ◌+◌, ◌<◌, true, List, [], ◌∷◌, ◌++◌, length, map, get_or, set, take, ℤ, arith, refl, sym, ap, subst, ◌∙◌}
-use Rattle.std.specs.Prelude.{All, Contains, IsTrue, ◌≤ℤ◌, ◌<ℤ◌}
-use Rattle.std.specs.List.{list_any, list_all}
+use Rattle.std.proofs.Common.{◌≡◌, ◌⊎◌, inl, inr, ℕ, suc, zero, ◌+◌, ◌<◌, List, [], ◌∷◌, ◌++◌, length, get_or, set, take, arith, refl, sym, ap, subst, ◌∙◌}
+use Rattle.std.specs.Prelude.{Contains, IsTrue, ◌≤ℤ◌, ◌<ℤ◌}
+use Rattle.std.specs.List.{list_any}
 use Rattle.std.proofs.lemmas.Int.{ints}
 use Rattle.std.proofs.lemmas.List.{map-append, take_more, length-map, length-take}
-use Rattle.linear_formula.specs.LinearSum.{LinearSum, is_within}
+use Rattle.linear_formula.specs.LinearSum.{LinearSum}
 use Rattle.linear_formula.specs.declared.formula.Atom.{Atom}
-use Rattle.infeasible_cert.specs.Right.{rows_of, range_rows}
+use Rattle.infeasible_cert.specs.Right.{rows_of}
 use Rattle.shadow_elim.specs.declared.row.Row.{Row}
 use Rattle.shadow_elim.specs.Reduction.{is_as_strong}
-use Rattle.shadow_elim.specs.Stages.{terms_of, AreNumbered}
+use Rattle.shadow_elim.specs.Stages.{terms_of}
 use Rattle.shadow_elim.proofs.Filtering.{among-any}
 use Rattle.shadow_elim.proofs.Members.{Among, among-append_left, among-append_right, among-append_cases, among-map, map-among, any-among, contains-among, among-contains}
-use Rattle.shadow_elim.proofs.Strength.{AsStrong, test-from_AsStrong, as_strong-trans}
+use Rattle.shadow_elim.proofs.Strength.{test-from_AsStrong, as_strong-trans}
 use Rattle.shadow_elim.proofs.Weaker.{strong-itself}
 use Rattle.lia_solver.specs.steps.Merged.{HaveStrong, AreMerged}
 use Rattle.lia_solver.specs.steps.Numbers.{numbered_from}
 use Rattle.lia_solver.proofs.Choosing.{all-at, all-from}
+use Rattle.lia_solver.proofs.Branching.{terms-append}
 
 -- Strong rows
 
@@ -37,9 +38,6 @@ pub strong-more : (rows others : List LinearSum) (t : LinearSum) → ((s : Linea
 strong-more rows others t h k =
     let a = any-among (is_as_strong t) others k in
     among-any (is_as_strong t) rows a.0 (h a.0 a.1) a.2
-
-terms-append : (rs ss : List Row) → terms_of (rs ++ ss) ≡ terms_of rs ++ terms_of ss
-terms-append rs ss = map-append (λ (r : Row). r.term) rs ss
 
 -- Merged rows, as facts of their elements
 
@@ -91,10 +89,10 @@ merged-then first second old mid new h k =
       cases t (inl g) = inl (inl g)
       cases t (inr g) = of_added (among-append_cases (terms_of first) (terms_of second) t
           (subst (λ ts. Among t ts) (terms-append first second) g)) where
-        of_added : Among t (terms_of first) ⊎ Among t (terms_of second) →
-            (Among t (terms_of old) ⊎ Among t (terms_of first)) ⊎ Among t (terms_of second)
-        of_added (inl f) = inl (inr f)
-        of_added (inr f) = inr f
+            of_added : Among t (terms_of first) ⊎ Among t (terms_of second) →
+                (Among t (terms_of old) ⊎ Among t (terms_of first)) ⊎ Among t (terms_of second)
+            of_added (inl f) = inl (inr f)
+            of_added (inr f) = inr f
 
       strong-of : (t : LinearSum) → (Among t (terms_of old) ⊎ Among t (terms_of first)) ⊎ Among t (terms_of second) →
           HasStrong (terms_of new) t
@@ -196,7 +194,8 @@ merged-put old row other i h o e k = is-merged (row ∷ []) old (set old i row) 
 numbered-push : (n : ℕ) (ts : List LinearSum) (t : LinearSum) (m : ℕ) → m ≡ n + length ts → numbered_from n (ts ++ t ∷ [])
     ≡ numbered_from n ts ++ record { term = t; number = m } ∷ []
 numbered-push n [] t m e = ap (λ (k : ℕ). record { term = t; number = k } ∷ []) (omega (arith, e))
-numbered-push n (s ∷ ts) t m e = ap (λ (rs : List Row). record { term = s; number = n } ∷ rs) (numbered-push (n + 1) ts t m (omega (arith, e)))
+numbered-push n (s ∷ ts) t m e = ap (λ (rs : List Row). record { term = s; number = n } ∷ rs)
+    (numbered-push (n + 1) ts t m (omega (arith, e)))
 
 pub merged-more : (atoms : List Atom) (i : ℕ) (atom : Atom) (old now next : List Row) → i < length atoms → atom ≡ get_or atoms i atom →
     AreMerged (numbered_from 0 (rows_of (take i atoms))) old now → AreMerged (record { term = atom.term; number = i } ∷ []) now next →

@@ -156,7 +156,8 @@ asked-eliminated question splits columns rows e h t p = record {
   terms = t;
   rows = rows;
   say = asked-say question splits columns rows h;
-  passed = subst (λ (xs : List ℕ). AreStages xs rows e.stages.items (terms_of e.rows.items)) (asked-columns question splits columns rows h) p;
+  passed = subst (λ (xs : List ℕ). AreStages xs rows e.stages.items (terms_of e.rows.items)) (asked-columns question splits columns rows h)
+      p;
 }
 
 asked-outcome : (question splits : List Atom) (columns : List ℕ) (rows : List LinearSum) → IsAsked question splits columns rows →

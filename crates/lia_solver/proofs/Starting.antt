@@ -95,7 +95,12 @@ base-can atoms rows stages left h s p c =
     (all-at (λ r. Contains base r) rows s.among t k) in
     let ranged : (x : ℕ) → Among x xs → IsRanged x rows = λ x k.
     (let r = range-listed x atoms xs k in
-    record { upper = strong-least rows base (upper_range x) s.strong r.upper; lower = strong-least rows base (lower_range x) s.strong r.lower }) in
+    record {
+      upper = strong-least rows base (upper_range x) s.strong r.upper;
+      lower = strong-least rows base (lower_range x) s.strong
+          r.lower;
+    })
+    in
     record {
       columns = xs;
       rows = rows;

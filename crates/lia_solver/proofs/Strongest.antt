@@ -1,5 +1,5 @@
 -- Rows of which each is the only one with its coefficients.
-use Rattle.std.proofs.Common.{◌≡◌, ◌⊎◌, inl, inr, ℕ, ◌≤◌, Bool, true, false, not, ◌&&◌, ◌||◌, List, [], ◌∷◌, ◌++◌, length, ℤ, arith, refl, sym, ap, subst, ◌∙◌}
+use Rattle.std.proofs.Common.{◌≡◌, inl, inr, ◌≤◌, Bool, true, false, not, ◌&&◌, List, [], ◌∷◌, ◌++◌, length, ℤ, arith, refl, sym, ap, subst, ◌∙◌}
 use Rattle.std.specs.Prelude.{◌≤ℤ◌, ◌<ℤ◌, int_lt, if◌then◌else◌}
 use Rattle.std.specs.Cmp.{IsEquivalence}
 use Rattle.std.specs.List.{IsDistinct, AllByRecursion, list_any}
@@ -11,7 +11,7 @@ use Rattle.linear_formula.specs.LinearSum.{LinearSum}
 use Rattle.shadow_elim.specs.Reduction.{same_parts, is_as_strong, is_stronger, is_trivial, stays, reduced_after, reduced}
 use Rattle.shadow_elim.proofs.Filtering.{among-any}
 use Rattle.shadow_elim.proofs.Members.{Among, among-append_left, among-append_right, any-among}
-use Rattle.shadow_elim.proofs.Staying.{same_parts-decides, IsAtLeast, HasAtLeast, IsCovered}
+use Rattle.shadow_elim.proofs.Staying.{same_parts-decides, HasAtLeast, IsCovered}
 use Rattle.shadow_elim.proofs.Strength.{test-from_AsStrong, test-from_Stronger}
 use Rattle.shadow_elim.proofs.Tests.{lt_from}
 use Rattle.lia_solver.proofs.Covering.{Covers}

@@ -1,6 +1,6 @@
 //! Rows of which each list of coefficients stands once, with its greatest constant.
 
-ghost use Rattle.std.specs.Prelude.{◌≡◌, ◌<◌, ◌≤◌, ◌^◌, ℕ, List, [], ◌∷◌, ◌++◌, length, slice_index_or, replicate, IfOk, OnOk, MatchOption};
+ghost use Rattle.std.specs.Prelude.{◌≡◌, ◌<◌, ℕ, List, [], length, slice_index_or, replicate, IfOk, OnOk, MatchOption};
 ghost use Rattle.linear_formula.specs.steps.Order.{AllWithin};
 ghost use Rattle.lia_solver.specs.steps.Entries.{Entry, IsAdded};
 ghost use Rattle.lia_solver.specs.steps.Buckets.{bucket_of};
@@ -80,12 +80,7 @@ fn bucket_of(parts: &[(u32, i128)]) -> usize
 }
 
 /// The place of the row with these coefficients in its chain, of which `past` is the head.
-fn find(
-    pool: &[(u32, i128)],
-    lines: &[Line],
-    past: usize,
-    parts: &[(u32, i128)],
-) -> Option<usize>
+fn find(pool: &[(u32, i128)], lines: &[Line], past: usize, parts: &[(u32, i128)]) -> Option<usize>
     requires { IsChained pool.now lines.now past parts.now }
     ensures { MatchOption result
         ((i : ℕ) → i < length lines.now → parts_at pool.now lines.now i ≡ parts.now → ⊥)

@@ -1,5 +1,5 @@
 -- The lines of a table: where the coefficients of its rows lie, and the chains in which they are.
-use Rattle.std.specs.Prelude.{◌≡◌, ℕ, suc, ◌<◌, ◌≤◌, All, List, [], length, map, slice_index, slice_index_or, ℤ, int_lt, if◌then◌else◌}
+use Rattle.std.specs.Prelude.{◌≡◌, ℕ, suc, ◌<◌, ◌≤◌, List, [], length, map, slice_index, slice_index_or, ℤ, int_lt, if◌then◌else◌}
 use Rattle.std.specs.Int.{int_min}
 use Rattle.std.specs.List.{slice_range}
 use Rattle.lia_solver.specs.declared.table.Line.{Line}

@@ -33,6 +33,6 @@ pub record SaySame (columns : List ℕ) (rows others : List LinearSum) : Type 0 
 
 -- the rows say as much as those of the branch and of its ranges, and each has its number among them
 pub record AreBranchRows (question splits : List Atom) (columns : List ℕ) (rows : List Row) : Type 0
-    where
-  pub say : SaySame columns (terms_of rows) (rows_of (question ++ splits) ++ range_rows columns)
-  pub numbers : AreNumbered (branch_rows question splits) rows
+  where
+    pub say : SaySame columns (terms_of rows) (rows_of (question ++ splits) ++ range_rows columns)
+    pub numbers : AreNumbered (branch_rows question splits) rows

@@ -1,4 +1,4 @@
-use Rattle.std.proofs.Common.{◌≡◌, ◌∷◌, ◌++◌, [], List, length, get_or, set, arith, refl, sym, ap, subst, ◌∙◌}
+use Rattle.std.proofs.Common.{◌≡◌, ◌∷◌, ◌++◌, [], List, length, get_or, set, arith, sym, ap, subst, ◌∙◌}
 use Rattle.std.specs.Prelude.{◌≤ℤ◌, ◌<ℤ◌}
 use Rattle.std.proofs.lemmas.Int.{ints}
 use Rattle.std.proofs.lemmas.Result.{on_ok_weaker}
@@ -42,5 +42,6 @@ returns-in_ok-copy-in-None c =
     let rows = c.args.rows.now.items in
     let row : Row = record { term = c.args.term.now; number = c.args.number } in
     on_ok_weaker c.push_row.result (λ e. subst (λ (rs : List Row). AreMerged (row ∷ []) rows rs)
-    (sym (e ∙ ap (λ t. rows ++ record { term = t; number = c.args.number } ∷ []) c.in_ok-copy-in-None.ensures)) (merged-pushed rows (row ∷ [])))
+    (sym (e ∙ ap (λ t. rows ++ record { term = t; number = c.args.number } ∷ []) c.in_ok-copy-in-None.ensures))
+    (merged-pushed rows (row ∷ [])))
     c.push_row.ensures

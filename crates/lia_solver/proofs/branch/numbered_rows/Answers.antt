@@ -1,4 +1,4 @@
-use Rattle.std.proofs.Common.{◌≡◌, ◌⊎◌, ◌++◌, [], List, Vec, Global, inl, inr, subst, sym, ap, ◌∙◌}
+use Rattle.std.proofs.Common.{◌≡◌, ◌⊎◌, ◌++◌, List, Vec, Global, inl, inr, subst, sym, ap, ◌∙◌}
 use Rattle.infeasible_cert.specs.Right.{rows_of}
 use Rattle.shadow_elim.specs.declared.row.Row.{Row}
 use Rattle.lia_solver.specs.steps.Merged.{AreMerged, AreSmallFirst}

@@ -15,7 +15,12 @@ pub settled-requires : goal.settled-requires
 settled-requires c =
     let e = c.in-Ok-eliminate_columns.elimination in
     let base = branch_rows c.args.question.now c.args.splits.now in
-    let count : length base ≡ c.in-Ok.first = omega (arith, c.in-Ok.ensures, branch-count c.args.question.now c.args.splits.now c.args.columns.now c.requires.columns) in
+    let count : length base ≡ c.in-Ok.first = omega (
+      arith,
+      c.in-Ok.ensures,
+      branch-count c.args.question.now c.args.splits.now
+          c.args.columns.now c.requires.columns,
+    ) in
     let d = c.in-Ok-eliminate_columns.ensures.steps base count c.in_ok-rows.ensures.numbers in record {
       eliminated = (
         c.args.question.now ++ c.args.splits.now,
@@ -49,7 +54,12 @@ returns-in-Ok-eliminate_columns-clause-right c =
     let done = asked-eliminated question splits c.args.columns.now (terms_of rows.items) e
     (record { columns_are = c.requires.columns; branch = c.requires.branch; say = c.in_ok-rows.ensures.say }) c.requires.terms
     c.in-Ok-eliminate_columns.ensures.stages in
-    let count : length base ≡ c.in-Ok.first = omega (arith, c.in-Ok.ensures, branch-count c.args.question.now c.args.splits.now c.args.columns.now c.requires.columns) in
+    let count : length base ≡ c.in-Ok.first = omega (
+      arith,
+      c.in-Ok.ensures,
+      branch-count c.args.question.now c.args.splits.now
+          c.args.columns.now c.requires.columns,
+    ) in
     let d = c.in-Ok-eliminate_columns.ensures.steps base count c.in_ok-rows.ensures.numbers in
     let derived : IsDerived base e = record { steps = d.0; numbers = d.1 } in
     IfOk-weaker c.settled.result (λ o. (as_ : List Atom) (ts : List LinearSum) → IsEliminated as_ e → length ts ≡ c.in-Ok.first →

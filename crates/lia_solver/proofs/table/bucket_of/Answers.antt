@@ -1,4 +1,4 @@
-use Rattle.std.proofs.Common.{◌≤◌, ◌^◌, arith, ap}
+use Rattle.std.proofs.Common.{arith, ap}
 use Rattle.std.specs.Prelude.{unsigned_abs}
 use Rattle.linear_formula.proofs.Finishing.{AllWithin-at}
 use Rattle.linear_formula.proofs.Merging.{at, cast_same}
@@ -7,12 +7,20 @@ use Rattle.lia_solver.proofs.table.bucket_of.Goals as goal
 pub overflow_cast-size : goal.overflow_cast-size
 overflow_cast-size c =
     let small = AllWithin-at c.args.parts.now c.loop-column.column-index (omega arith) c.requires in
-    omega (arith, small, c.unsigned_abs-size.ensures.value,
-      ap unsigned_abs (cast_same (at c.args.parts.now c.loop-column.column-index).1 (omega (arith, small))))
+    omega (
+      arith,
+      small,
+      c.unsigned_abs-size.ensures.value,
+      ap unsigned_abs (cast_same (at c.args.parts.now c.loop-column.column-index).1 (omega (arith, small))),
+    )
 
 pub overflow_add-bucket-in-loop-column : goal.overflow_add-bucket-in-loop-column
 overflow_add-bucket-in-loop-column c =
     let small = AllWithin-at c.args.parts.now c.loop-column.column-index (omega arith) c.requires in
     let bound = c.loop-column.invariant.1 in
-    omega (arith, small, c.unsigned_abs-size.ensures.value,
-      ap unsigned_abs (cast_same (at c.args.parts.now c.loop-column.column-index).1 (omega (arith, small))))
+    omega (
+      arith,
+      small,
+      c.unsigned_abs-size.ensures.value,
+      ap unsigned_abs (cast_same (at c.args.parts.now c.loop-column.column-index).1 (omega (arith, small))),
+    )

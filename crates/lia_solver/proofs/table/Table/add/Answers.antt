@@ -23,7 +23,8 @@ pub invariant_of-self : goal.invariant_of-self
 invariant_of-self c =
     let pool = c.self.inside.parts.items in
     let lines = c.self.inside.lines.items in
-    let h : c.in-Some.place < length lines = omega (arith, c.in-Some.ensures.0, ap (λ (ls : List Line). length ls) c.deref-2.ensures.value) in
+    let h : c.in-Some.place < length lines = omega (arith, c.in-Some.ensures.0, ap (λ (ls : List Line). length ls) c.deref-2.ensures.value)
+    in
     let f : FitsSigned w128 c.args.constant = search rules in
     subst (λ (l : Line). AreLines pool (set lines c.in-Some.place l) c.self.inside.heads)
     (sym (joined-is lines c.in-Some.place c.index-line.result.now c.joined.result c.args.constant c.args.origin h c.index-line.ensures f
@@ -33,7 +34,8 @@ pub returns-in-Some : goal.returns-in-Some
 returns-in-Some c =
     let pool = c.self.inside.parts.items in
     let lines = c.self.inside.lines.items in
-    let h : c.in-Some.place < length lines = omega (arith, c.in-Some.ensures.0, ap (λ (ls : List Line). length ls) c.deref-2.ensures.value) in
+    let h : c.in-Some.place < length lines = omega (arith, c.in-Some.ensures.0, ap (λ (ls : List Line). length ls) c.deref-2.ensures.value)
+    in
     let f : FitsSigned w128 c.args.constant = search rules in
     let t : LinearSum = record { parts = c.args.parts.now; constant = c.args.constant } in
     let here : parts_at pool lines c.in-Some.place ≡ t.parts = ap (λ ls. parts_at pool ls c.in-Some.place) (sym c.deref-2.ensures.value)
@@ -44,7 +46,8 @@ returns-in-Some c =
 
 pub invariant_of-self-in_err-push-in-None : goal.invariant_of-self-in_err-push-in-None
 invariant_of-self-in_err-push-in-None c =
-    subst (λ (ps : List (ℕ × ℤ)). AreLines ps c.push.new.self.items c.self.inside.heads) (sym c.in_ok-extend_from_slice-in-None.ensures.items)
+    subst (λ (ps : List (ℕ × ℤ)). AreLines ps c.push.new.self.items c.self.inside.heads)
+    (sym c.in_ok-extend_from_slice-in-None.ensures.items)
     (subst (λ (ls : List Line). AreLines (c.self.inside.parts.items ++ c.args.parts.now) ls c.self.inside.heads)
     (sym c.in_err-push-in-None.ensures.items)
     (lines-grown c.self.inside.parts.items c.args.parts.now c.self.inside.lines.items c.self.inside.heads c.self.invariant))
@@ -76,8 +79,14 @@ invariant_of-self-in-None c =
     let last = pushed-line pool parts c.extend_from_slice.new.self.items heads c.len-start.result c.len-end.result bucket
     (to_z w128 (of_z w128 c.args.constant)) c.args.origin (c.len-start.ensures ∙ c.self.inside.parts.ok.0)
     (c.len-end.ensures ∙ c.extend_from_slice.new.self.ok.0) more c.bucket_of-bucket.ensures.value in
-    let count : c.len.result ≡ length lines + 1 = omega (arith, c.len.ensures, c.push.new.self.ok.0, ap (λ (ls : List Line). length ls) items,
-      length-append lines (l ∷ [])) in
+    let count : c.len.result ≡ length lines + 1 = omega (
+      arith,
+      c.len.ensures,
+      c.push.new.self.ok.0,
+      ap (λ (ls : List Line). length ls)
+          items,
+      length-append lines (l ∷ []),
+    ) in
     subst (λ (ps : List (ℕ × ℤ)). AreLines ps c.push.new.self.items (set heads bucket c.len.result)) (sym more)
     (subst (λ (ls : List Line). AreLines (pool ++ parts) ls (set heads bucket c.len.result)) (sym items)
     (subst (λ (n : ℕ). AreLines (pool ++ parts) (lines ++ l ∷ []) (set heads bucket n)) (sym count)

@@ -1,4 +1,4 @@
-use Rattle.std.proofs.Common.{◌≡◌, [], List, ℕ, ℤ, replicate, sym, subst}
+use Rattle.std.proofs.Common.{[], List, ℕ, ℤ, sym, subst}
 use Rattle.lia_solver.specs.declared.table.Line.{Line}
 use Rattle.lia_solver.specs.steps.Lines.{AreLines}
 use Rattle.lia_solver.proofs.Chains.{lines-none}
