@@ -32,7 +32,7 @@ module _ (old new : Shown) (w : ℕ) (j : Given) where
     pub event : Event (reads old.graphs) old.core told new.core
     pub back : gives_back j.id told ≡ true
 
-  moved_back : (m : Move) → IsMoved old w j m new → IsGiven
+  pub moved_back : (m : Move) → IsMoved old w j m new → IsGiven
   moved_back (move.Ask child query) e =
       record { told = asked w j.id j.spent (length old.core.entries) query.value; event = e; back = eq-eqb j.id j.id refl }
   moved_back (move.Feed number) e =

@@ -1,2 +1,4 @@
+pub mod Apart
 pub mod Moving
+pub mod Places
 pub mod Turning

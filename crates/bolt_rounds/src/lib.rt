@@ -2,4 +2,7 @@
 #![tactic(auto)]
 
 pub mod alone;
+mod apart;
+mod crew;
 pub mod moves;
+pub mod rounds;

@@ -1,4 +1,3 @@
-use Rattle.std.proofs.Common.{refl}
 use Rattle.bolt_rounds.proofs.moves.make.Goals as goal
 
 pub returns : goal.returns
