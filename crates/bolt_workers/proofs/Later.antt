@@ -21,7 +21,7 @@ use Rattle.bolt_rounds.specs.declared.moves.Move.{Move}
 use Rattle.bolt_rounds.specs.declared.moves.Move.TheVariants as move
 use Rattle.bolt_rounds.specs.Moves.{MayBeShown, MayMove}
 use Rattle.bolt_rounds.proofs.Shown.{moves_keep}
-use Rattle.bolt_rounds.proofs.Turning.{event_front, starts_self}
+use Rattle.bolt_rounds.proofs.Rounding.{reached_front}
 use Rattle.bolt_workers.specs.Later.{AreAlike, EndsStay, IsLater, JobsWait}
 use Rattle.bolt_workers.proofs.Alike.{histories_tell, opening_history, reached_parts, with_core}
 use Rattle.bolt_workers.proofs.Bare.{lives_alike}
@@ -66,18 +66,6 @@ module _ {S : Type 0} (R : Reads S) where
   stop_stays : (es : List Told) (c d : Core S) → Reached R c es d → c.is_stopped ≡ true → d.is_stopped ≡ true
   stop_stays [] c d r s = ap (λ (x : Core S). x.is_stopped) r ∙ s
   stop_stays (e ∷ es) c d r s = stop_stays es r.0 d r.2 (stop_step c r.0 e r.1 s)
-
-pub front_then : (a b c : List Summary) → FrontOf a b → FrontOf b c → FrontOf a c
-front_then a b c h k = record {
-  rest = k.rest ++ h.rest;
-  is = h.is ∙ (ap (λ (ts : List Summary). ts ++ h.rest) k.is ∙ append_assoc c k.rest h.rest);
-}
-
-module _ {S : Type 0} (R : Reads S) where
-  front_stays : (es : List Told) (c d : Core S) → Reached R c es d → FrontOf d.table c.table
-  front_stays [] c d r = subst (λ (x : Core S). FrontOf x.table c.table) (sym r) (starts_self c.table)
-  front_stays (e ∷ es) c d r =
-      front_then d.table r.0.table c.table (front_stays es r.0 d r.2) (event_front R c r.0 e r.1)
 
 -- The board at which a later one passed by
 
@@ -166,7 +154,15 @@ module _ (b : Shown) (c : Core Seen) (a : AreAlike b.core c) where
 pub table_later : (old new : Shown) → IsLater old new → FrontOf new.core.table old.core.table
 table_later old new l =
     let f = passed_by old new l in
-    subst (FrontOf new.core.table) (sym f.alike.table) (front_stays (reads old.graphs) f.rest f.mid new.core f.reached)
+    subst (FrontOf new.core.table) (sym f.alike.table) (reached_front (reads old.graphs) f.mid f.rest new.core f.reached)
+
+pub front_later : (old new : Shown) (known : List Summary) → IsLater old new → FrontOf old.core.table known → FrontOf new.core.table known
+front_later old new known l k =
+    let h = table_later old new l in
+    record {
+      rest = k.rest ++ h.rest;
+      is = h.is ∙ (ap (λ (ts : List Summary). ts ++ h.rest) k.is ∙ append_assoc known k.rest h.rest);
+    }
 
 pub jobs_wait : JobsWait
 jobs_wait old new l =

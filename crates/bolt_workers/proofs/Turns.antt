@@ -31,7 +31,7 @@ use Rattle.bolt_rounds.proofs.Turning.{just_taken, same_most, same_program}
 use Rattle.bolt_workers.specs.declared.desk.Desk.{Desk}
 use Rattle.bolt_workers.specs.Later.{IsLater}
 use Rattle.bolt_workers.specs.steps.Desks.{AreOf, CanGive, CanShow, CanWork, Frees, HasEnded, Holds, IsBack, IsTold, Sits}
-use Rattle.bolt_workers.proofs.Later.{front_then, jobs_wait, table_later}
+use Rattle.bolt_workers.proofs.Later.{front_later, jobs_wait}
 
 -- Histories go on
 
@@ -96,7 +96,7 @@ pub later_of : (a b : Shown) (gs : List Graph) (known : Listed) → IsLater a b 
 later_of a b gs known l o = record {
   graphs = o.graphs ∙ sym l.same.graphs;
   room = o.room ∙ sym (same_most a b l.same);
-  front = front_then b.core.table a.core.table known.summaries (table_later a b l) o.front;
+  front = front_later a b known.summaries l o.front;
 }
 
 module _ (old mid : Desk) (b : Shown) (s : Sits old) (h : Holds old mid b) where
