@@ -1,5 +1,5 @@
 -- Rounds: jobs are taken, their slices are made, and they are given back.
-use Rattle.std.proofs.Common.{Global, ◌≡◌, ◌⊎◌, ℕ, suc, ◌+◌, ◌*◌, ◌<◌, ◌≤◌, List, [], ◌∷◌, ◌++◌, length, take, drop, true, Option, None, Some, refl, sym, ap, ◌∙◌, subst, inl, inr, ⊎_elim, append_assoc, arith, get_or, length-append}
+use Rattle.std.proofs.Common.{Global, ◌≡◌, ◌⊎◌, ℕ, suc, ◌+◌, ◌*◌, ◌<◌, ◌≤◌, List, [], ◌∷◌, ◌++◌, length, take, drop, true, Option, None, Some, refl, sym, ap, ◌∙◌, subst, inl, inr, ⊎_elim, arith, get_or, length-append}
 use Rattle.std.specs.Prelude.{IfSome, slice_get, vec_capacity}
 use Rattle.std.specs.List.{All}
 use Rattle.std.specs.declared.sync.Arc.{Arc}
@@ -30,7 +30,7 @@ use Rattle.bolt_rounds.specs.Moves.{IsJustTaken, IsMoved, MayBeShown, MayMove}
 use Rattle.bolt_rounds.specs.steps.Places.{AreMade, HasGiven, HasTaken, IsAtRest, IsNewCrew, IsOutIn, IsTakeOf, IsTakenOf, IsToGive, MayBeMade, MayGive, MayHaveSaid, WasMade}
 use Rattle.bolt_rounds.specs.steps.Turning.{AreBackBut, IsBack}
 use Rattle.bolt_rounds.proofs.Shown.{moves_keep, said_decided, spare_is_shown}
-use Rattle.bolt_rounds.proofs.Turning.{back_going, back_in, begun_going, event_front, history_is, less_out, moved_back, never_idle, none_back, outs_more, same_most, starts_self, take_out}
+use Rattle.bolt_rounds.proofs.Turning.{back_going, back_in, begun_going, event_front, history_is, less_out, moved_back, never_idle, none_back, outs_more, same_most, starts_self, starts_then, take_out}
 
 all_more : {X : Type 0} (P Q : X → Type 0) (xs : List X) → ((x : X) → P x → Q x) → All P xs → All Q xs
 all_more P Q xs f h i d lt = f (get_or xs i d) (h i d lt)
@@ -236,12 +236,6 @@ module _ (old : Shown) (h : IsBoard old) (p : Place) (m : Made) (here : p.stage 
       s
 
 -- What is left
-
-starts_then : (all mid front : List Summary) → StartsWith all mid → StartsWith mid front → StartsWith all front
-starts_then all mid front a b = record {
-  rest = b.rest ++ a.rest;
-  is = a.is ∙ (ap (λ (l : List Summary). l ++ a.rest) b.is ∙ append_assoc front b.rest a.rest);
-}
 
 pub reached_front : {S : Type 0} (R : Reads S) (old : Core S) (es : List Told) (new : Core S) → Reached R old es new →
     StartsWith new.table old.table

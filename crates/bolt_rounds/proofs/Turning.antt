@@ -1,8 +1,9 @@
 -- Turns of a worker who works alone: what is taken is given back.
-use Rattle.std.proofs.Common.{◌≡◌, ◌⊎◌, ℕ, suc, ◌+◌, ◌*◌, ◌≤◌, List, [], ◌∷◌, ◌++◌, length, Bool, true, false, Some, refl, sym, ap, ◌∙◌, subst, inl, inr, ⊎_elim, arith}
+use Rattle.std.proofs.Common.{◌≡◌, ◌⊎◌, ℕ, suc, ◌+◌, ◌*◌, ◌≤◌, List, [], ◌∷◌, ◌++◌, length, Bool, true, false, Some, refl, sym, ap, ◌∙◌, subst, inl, inr, ⊎_elim, append_assoc, arith}
 use Rattle.std.specs.Prelude.{slice_get}
 use Rattle.std.proofs.lemmas.Bool.{eq-eqb}
 use Rattle.std.proofs.lemmas.List.{append-nil, length_push}
+use Rattle.flow_graph.specs.declared.graph.Graph.{Graph}
 use Rattle.query_tree.proofs.Lists.{from_pushed, to_pushed, within}
 use Rattle.query_tree.proofs.Marks.{get_pushed}
 use Rattle.query_rules.specs.Seen.{Seen}
@@ -10,7 +11,7 @@ use Rattle.summary_form.specs.declared.summary.Summary.{Summary}
 use Rattle.summary_table.specs.Tables.{StartsWith}
 use Rattle.bolt_core.specs.declared.job.Gone.{Gone as GoneJob}
 use Rattle.bolt_core.specs.declared.job.Job.{Job as Given}
-use Rattle.bolt_core.specs.Boards.{IsBoard, IsBusy, IsGone, IsTaken, SameProgram, Shown, most_queries}
+use Rattle.bolt_core.specs.Boards.{IsBegun, IsBoard, IsBusy, IsGone, IsTaken, SameProgram, Shown, most_queries}
 use Rattle.bolt_core.specs.Histories.{Told, WasTaken, asked, closed, fed, gives_back, parked, said, stopped, took}
 use Rattle.bolt_core.specs.Keeps.{IsNow}
 use Rattle.bolt_core.specs.Machine.{Core, Event, Reached, Reads, closed_how, empty_board, opening}
@@ -200,6 +201,12 @@ starts_all ts ss = record { rest = ss; is = refl }
 pub starts_self : (ts : List Summary) → StartsWith ts ts
 starts_self ts = record { rest = []; is = sym (append-nil ts) }
 
+pub starts_then : (all mid front : List Summary) → StartsWith all mid → StartsWith mid front → StartsWith all front
+starts_then all mid front a b = record {
+  rest = b.rest ++ a.rest;
+  is = a.is ∙ (ap (λ (l : List Summary). l ++ a.rest) b.is ∙ append_assoc front b.rest a.rest);
+}
+
 module _ {S : Type 0} (R : Reads S) (old new : Core S) where
   pub back_going : (i : ℕ) (e : Told) → Event R old e new → gives_back i e ≡ true → new.is_stopped ≡ old.is_stopped
   back_going i (took w k left steps waiting) t g = absurd (cc)
@@ -267,9 +274,18 @@ module _ (old mid new : Shown) (w : ℕ) (j : Given) (known : List Summary) (h :
 
 -- A board without history
 
-opening_going : {S : Type 0} (R : Reads S) (grant : ℕ) (ss : List S) (c : Core S) → (opening R grant ss c).is_stopped ≡ c.is_stopped
-opening_going R grant [] c = refl
-opening_going R grant (s ∷ ss) c = opening_going R grant ss _
+opens_bare : {S : Type 0} (R : Reads S) (grant : ℕ) (ss : List S) (c : Core S) →
+    ((opening R grant ss c).history ≡ c.history) × ((opening R grant ss c).table ≡ c.table)
+    × ((opening R grant ss c).is_stopped ≡ c.is_stopped)
+opens_bare R grant [] c = (refl, refl, refl)
+opens_bare R grant (s ∷ ss) c = opens_bare R grant ss _
+
+pub begun_bare : (gs : List Graph) (main asserts budget : ℕ) (b : Shown) → IsBegun gs main asserts budget b →
+    (b.core.history ≡ []) × (b.core.table ≡ [])
+begun_bare gs main asserts budget b h =
+    let o = h.opening in
+    let bare = opens_bare (reads b.graphs) b.budget o.roots (empty_board (reads b.graphs)) in
+    (ap (λ (c : Core Seen). c.history) o.is ∙ bare.0, ap (λ (c : Core Seen). c.table) o.is ∙ bare.1)
 
 reached_none : {S : Type 0} (R : Reads S) (old new : Core S) (h : List Told) → h ≡ [] → Reached R old h new → new ≡ old
 reached_none R old new [] e r = r
@@ -280,7 +296,7 @@ begun_going b h e =
     let R = reads b.graphs in
     let o = h.opening in
     ap (λ (c : Core Seen). c.is_stopped) (reached_none R h.opened b.core b.core.history e h.reached ∙ o.is)
-    ∙ opening_going R b.budget o.roots (empty_board R)
+    ∙ (opens_bare R b.budget o.roots (empty_board R)).2
 
 -- there is room for the board's table
 pub table_few : (b : Shown) → IsBoard b → length b.core.table ≤ most_queries b

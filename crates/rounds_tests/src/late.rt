@@ -1,0 +1,55 @@
+//! A job that is gone in its own round.
+
+use crate::gates::{Notes, Pass};
+use crate::programs::{Says, verdicts_of, worked};
+use board_lock::Chronicle;
+use bolt_core::board::Board;
+use query_tree::Status;
+use std::test::Fail;
+use summary_form::summary::Summary;
+
+/// Three ways to the failure: through two calls, through one call, and without a call.
+const THREE_WAYS: &str = "int h(int a) { return a; } int k(int a) { return a; } \
+     int g(int a) { return h(a); } int main() { int c = input(); int y = 0; \
+     if (c > 0) { y = g(c); y = y + 1; y = y + 1; y = y - 2; } \
+     else { if (c < 0 - 5) { y = k(c); y = y + 1; y = y + 1; y = y + 1; y = y - 3; } \
+     else { y = 3; } } assert(y != 3); return 0; }";
+
+/// The number of `g` among the procedures.
+const G: u32 = 2;
+
+/// The procedure of the last summary of the table, if that is a not-may.
+fn last_not_may(board: &Board) -> Option<u32> {
+    match &**board.table().all().last()? {
+        Summary::NotMay(query) => Some(query.proc),
+        Summary::Must(_) => None,
+    }
+}
+
+/// How many calls the worker made.
+fn calls_of(passes: &[Pass], worker: u64) -> Option<u64> {
+    passes
+        .iter()
+        .filter(|p| p.worker == worker)
+        .map(|p| p.call)
+        .max()
+}
+
+/// In the fourth round worker 0 has `main` and worker 1 has `g`, of which no run is what is asked.
+/// `main` closes on its third way, as event 12, so `g` is dropped while its job is out, and what it
+/// closed with is published, as the eighth call of worker 1.
+#[test]
+fn what_a_gone_job_closed_with_is_published(rt: HostRuntime) -> Result<(), Fail> {
+    let notes = Notes::with_slots(rt, rt.alloc(), 1000)?;
+    let (board, asserts) = worked(&rt, rt.alloc(), THREE_WAYS, 2000, 2, &notes)?;
+    let found = Some(Says::Found(1, Some(0), None));
+    assert_eq!(rt; verdicts_of(rt.alloc(), &board, asserts)?, [found, None]);
+    assert_eq!(rt; board.forest().count(), 4);
+    if board.forest().count() > 1 {
+        assert_eq!(rt; board.forest().status(1), Status::Dropped { stamp: 12 });
+    }
+    assert_eq!(rt; board.count(), 14);
+    assert_eq!(rt; last_not_may(&board), Some(G));
+    assert_eq!(rt; calls_of(&notes.passes(rt.alloc())?, 1), Some(8));
+    Ok(())
+}
