@@ -80,7 +80,8 @@ Text = List ℕ
 -- The words behind a command's name, where its options have these names: the options that they
 -- give, each with its text, and the words that are none. An option is two words, `--name` and its
 -- text, whatever that looks like, or one word, `--name=` and its text. One `--` may stand, behind
--- which no word is an option.
+-- which no word is an option. (What looks like an option is no number and no list, so it is none of
+-- the other words of a command.)
 pub data AreParted (names : List Text) : (dashed : Bool) → List Text →
     (options : List (Text × Text)) → (others : List Text) → Type 0 where
   end : {d : Bool} → AreParted names d [] [] []
