@@ -49,7 +49,7 @@ fn add(table: &mut Table, summary: Option<Arc<Summary>>)
         ≡ table.old.summaries ++ summaries_in (value_of summary) }
 {
     if let Some(summary) = summary {
-        if matches!(&*summary, summary_form::summary::Summary::NotMay(_)) { table.push(summary); }
+        table.push(summary);
     }
 }
 
