@@ -20,3 +20,6 @@ pub mod Merging
 pub mod BranchRows
 pub mod Chains
 pub mod TableEntries
+pub mod DividedParts
+pub mod FirstColumns
+pub mod PairSumsInCode

@@ -4,10 +4,13 @@
 mod branch;
 mod choice;
 mod columns;
+mod division;
 pub mod entails;
+mod merge;
 mod pruning;
 mod refutation;
 mod search;
+mod pairing;
 pub mod solve;
 pub mod solved;
 mod table;
