@@ -8,6 +8,10 @@ pub mod Starting
 pub mod Closing
 pub mod Sides
 pub mod Solving
+pub mod Adding
+pub mod Growing
+pub mod Lowers
+pub mod Summing
 pub mod Asking
 pub mod Branching
 pub mod Settling

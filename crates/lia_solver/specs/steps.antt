@@ -10,3 +10,4 @@ pub mod Numbers
 pub mod Pruned
 pub mod Searches
 pub mod Settling
+pub mod Tables

@@ -10,6 +10,7 @@ mod merge;
 mod pruning;
 mod refutation;
 mod search;
+mod eliminate;
 mod pairing;
 pub mod solve;
 pub mod solved;

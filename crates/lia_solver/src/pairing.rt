@@ -1,6 +1,6 @@
 //! Rows made of an upper and a lower row of a column.
 
-ghost use Rattle.std.specs.Prelude.{◌≡◌, ◌⊎◌, ◌<◌, ◌≤◌, ◌^◌, ◌∷◌, [], true, pos, unsigned_abs, ◌*ℤ◌, ◌+ℤ◌, ◌↔◌, length, slice_index_or, IfOk, IsErrOf, IsTrue, MatchOption};
+ghost use Rattle.std.specs.Prelude.{◌≡◌, ◌<◌, ◌≤◌, ◌^◌, ◌∷◌, [], pos, unsigned_abs, ◌*ℤ◌, ◌+ℤ◌, ◌↔◌, length, slice_index_or, IfOk, IsErrOf, IsTrue, MatchOption};
 ghost use Rattle.linear_formula.specs.LinearSum.{is_term, is_within};
 ghost use Rattle.linear_formula.specs.steps.Order.{AllWithin};
 ghost use Rattle.linear_formula.specs.Results.{combination};
@@ -15,6 +15,7 @@ use linear_formula::error::LinError;
 use linear_formula::term::{MAX_CONSTANT, MAX_PARTS};
 
 /// A row, whose coefficients are in a list of their own.
+#[derive(Clone, Copy, Debug)]
 pub struct Made {
     pub constant: i128,
     pub making: Making,
@@ -131,55 +132,33 @@ fn multiples_of(column: u32, table: &Table, upper: usize, lower: usize) -> (i64,
 }
 
 /// Whether the sum with the least constants has a constant within the limits.
-fn is_least_narrow(
-    column: u32,
-    table: &Table,
-    upper: usize,
-    lower: usize,
-    multiples: (i64, i64),
-) -> bool
-    requires paired { ArePaired column table.now upper lower }
-    requires upper { multiples.0 ≡ pos (upper_multiple (size_of column (sum_at table.now upper))
-        (size_of column (sum_at table.now lower))) }
-    requires lower { multiples.1 ≡ pos (lower_multiple (size_of column (sum_at table.now upper))
-        (size_of column (sum_at table.now lower))) }
-    requires upper_bound { unsigned_abs multiples.0 ≤ 2 ^ 40 }
-    requires lower_bound { unsigned_abs multiples.1 ≤ 2 ^ 40 }
+pub fn is_least_narrow(column: u32, table: &Table, upper: usize, lower: usize) -> bool
+    requires { ArePaired column table.now upper lower }
     ensures { IsTrue result ↔ (unsigned_abs
         (pair_sum column (least_at table.now upper, least_at table.now lower)).constant ≤ 2 ^ 84) }
 {
-    let _ = column;
-    sum_of(multiples.0, table.least(upper), multiples.1, table.least(lower)).is_some()
+    let (first, second) = multiples_of(column, table, upper, lower);
+    sum_of(first, table.least(upper), second, table.least(lower)).is_some()
 }
 
 /// The sum of an upper and a lower row of a column without the column, measured and then tightened.
-/// With `measures_least` the sum of the least constants is measured too.
 pub fn combine(
     out: &mut Vec<(u32, i128)>,
     column: u32,
     table: &Table,
     upper: usize,
     lower: usize,
-    measures_least: bool,
 ) -> Result<Made, LinError>
     requires { ArePaired column table.now upper lower }
     ensures within { IfOk result (λ _. IsTrue
         (is_within (pair_sum column (sum_at table.now upper, sum_at table.now lower)))) }
-    ensures least { IfOk result (λ _. measures_least ≡ true → unsigned_abs
-        (pair_sum column (least_at table.now upper, least_at table.now lower)).constant
-        ≤ 2 ^ 84) }
     ensures row { IfOk result (λ m. record { parts = out.new.items; constant = m.constant }
         ≡ tightened (pair_sum column (sum_at table.now upper, sum_at table.now lower))) }
     ensures making { IfOk result (λ m. m.making ≡ making_of column table.now upper lower) }
-    ensures wide { IsErrOf result LinError.Wide →
-        (¬ IsTrue (is_within (pair_sum column (sum_at table.now upper, sum_at table.now lower)))) ⊎
-        ((measures_least ≡ true) × (2 ^ 84 < unsigned_abs
-        (pair_sum column (least_at table.now upper, least_at table.now lower)).constant)) }
+    ensures wide { IsErrOf result LinError.Wide → ¬ IsTrue
+        (is_within (pair_sum column (sum_at table.now upper, sum_at table.now lower))) }
 {
     let (first, second) = multiples_of(column, table, upper, lower);
-    if measures_least && !is_least_narrow(column, table, upper, lower, (first, second)) {
-        return Err(LinError::Wide);
-    }
     let sum = sum_into(
         out,
         first,

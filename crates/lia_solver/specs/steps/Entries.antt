@@ -73,17 +73,21 @@ bounds_below x [] = false
 bounds_below x (p ∷ ps) = (x == p.0) && int_lt p.1 (pos 0)
 
 -- how the row of two rows of a column is made
-abbrev pub making_of : ℕ → List Entry → (upper lower : ℕ) → Making
-making_of x entries upper lower =
-    let a = size_of x (sum_at entries upper) in
-    let b = size_of x (sum_at entries lower) in
+abbrev pub making_by : ℕ → (upper lower : ℕ) → LinearSum → LinearSum → Making
+making_by x upper lower u l =
+    let a = size_of x u in
+    let b = size_of x l in
     record {
       upper = upper;
       upper_multiple = pos (upper_multiple a b);
       lower = lower;
       lower_multiple = pos (lower_multiple a b);
-      divide = pos (row_divisor (pair_sum x (sum_at entries upper, sum_at entries lower)));
+      divide = pos (row_divisor (pair_sum x (u, l)));
     }
+
+abbrev pub making_of : ℕ → List Entry → (upper lower : ℕ) → Making
+making_of x entries upper lower = making_by x upper lower (sum_at entries upper)
+    (sum_at entries lower)
 
 -- each row is a term, with its greatest and with its least constant
 pub record AreTermEntries (entries : List Entry) : Type 0 where

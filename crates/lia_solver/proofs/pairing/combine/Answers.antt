@@ -11,7 +11,6 @@ use Rattle.shadow_elim.specs.Elimination.{pair_sum}
 use Rattle.lia_solver.specs.steps.Entries.{sum_at, no_entry}
 use Rattle.lia_solver.proofs.PairSumsInCode.{row_of, paired-sum, making-cast, term-within}
 use Rattle.lia_solver.proofs.pairing.combine.Goals as goal
-use Rattle.lia_solver.proofs.pairing.combine.Goals.{else-measures_least-via-then-measures_least+else-not-is_least_narrow, else-measures_least-via-else-measures_least}
 
 pub returns-in_err-sum-clause-wide : goal.returns-in_err-sum-clause-wide
 returns-in_err-sum-clause-wide c = λ w.
@@ -22,7 +21,7 @@ returns-in_err-sum-clause-wide c = λ w.
     c.multiples_of-first.ensures.upper c.multiples_of-first.ensures.lower c.multiples_of-first.ensures.upper_bound
     c.multiples_of-first.ensures.lower_bound (c.parts.ensures no_entry) (c.constant.ensures no_entry) (c.parts-2.ensures no_entry)
     (c.constant-2.ensures no_entry) in
-    inl (λ h. c.sum_into.ensures.wide was (subst (λ (r : LinearSum). IsTrue (is_within r)) (sym same) h))
+    λ h. c.sum_into.ensures.wide was (subst (λ (r : LinearSum). IsTrue (is_within r)) (sym same) h)
 
 pub returns-clause-within : goal.returns-clause-within
 returns-clause-within c =
@@ -34,16 +33,6 @@ returns-clause-within c =
     term-within (row_of c.sum_into.new.out.items c.in_ok-sum.sum)
     (pair_sum c.args.column (sum_at c.args.table.now c.args.upper, sum_at c.args.table.now c.args.lower)) (c.in_ok-sum.ensures.value ∙ same)
     c.in_ok-sum.ensures.kept
-
-apart : true ≡ false → ⊥
-apart h = cc
-
-pub returns-clause-least : goal.returns-clause-least
-returns-clause-least c = λ m.
-    elim c.else-measures_least.branch [
-      | else-measures_least-via-then-measures_least+else-not-is_least_narrow w ↦ w.is_least_narrow.ensures.0 w.if-not-is_least_narrow.false
-      | else-measures_least-via-else-measures_least w ↦ absurd (apart (sym m ∙ w.if-measures_least.false))
-    ]
 
 pub returns-clause-row : goal.returns-clause-row
 returns-clause-row c =
