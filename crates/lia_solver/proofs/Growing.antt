@@ -16,7 +16,7 @@ use Rattle.lia_solver.specs.declared.table.Origin.TheVariants.{Made}
 use Rattle.lia_solver.specs.steps.Entries.{Entry, entry_of, joined, no_entry, entry_at, sum_at, making_by, making_of, bounds_above, bounds_below, IsJoined, IsAdded, ArePaired}
 use Rattle.lia_solver.specs.steps.Tables.{starts_from, is_passed, passed, IsHeld, IsPut, AreRows, AreSameBelow, IsOld, IsMadeIn, IsGrown, IsSummed, AreLowerPlaces}
 use Rattle.lia_solver.proofs.Adding.{IsStep, added-step, step-terms, joined-parts}
-use Rattle.lia_solver.proofs.FirstColumns.{above-starts, below-starts}
+use Rattle.lia_solver.proofs.FirstColumns.{above-starts, below-starts, starts-higher}
 
 apart : true ≡ false → ⊥
 apart h = cc
@@ -168,6 +168,12 @@ same-then x a b c h k = record {
       (g.0, f.1 ∙ g.1);
 }
 
+pub same-lower : (x y : ℕ) (a b : List Entry) → x ≤ y → AreSameBelow y a b → AreSameBelow x a b
+same-lower x y a b h s = record {
+  forth = λ i k e. s.forth i k (starts-higher x y (sum_at a i).parts h e);
+  back = λ i k e. s.back i k (starts-higher x y (sum_at b i).parts h e);
+}
+
 -- a pair of the column stood where it stands
 pub paired-back : (x : ℕ) (a b : List Entry) (u l : ℕ) → AreRows a → AreSameBelow (x + 1) a b → ArePaired x b u l → ArePaired x a u l
 paired-back x a b u l r s p =
@@ -212,6 +218,19 @@ pair-stays x a b u l s p =
 -- how a row is made depends on both rows alone
 making-same : (x : ℕ) (a b : List Entry) (u l : ℕ) → sum_at b u ≡ sum_at a u → sum_at b l ≡ sum_at a l → making_of x b u l ≡ making_of x a u l
 making-same x a b u l e f = λ i. making_by x u l (e i) (f i)
+
+pub made-forth : (x : ℕ) (a b : List Entry) (e : Entry) → AreRows b → AreSameBelow (x + 1) a b → IsMadeIn x a e → IsMadeIn x b e
+made-forth x a b e r s m =
+    let same = pair-stays x a b m.upper m.lower s m.paired in
+    record {
+      upper = m.upper;
+      lower = m.lower;
+      paired = paired-forth x a b m.upper m.lower r s m.paired;
+      within = subst (λ (q : LinearSum × LinearSum). IsTrue (is_within (pair_sum x q))) (sym same) m.within;
+      sum = m.sum ∙ ap (λ (q : LinearSum × LinearSum). tightened (pair_sum x q)) (sym same);
+      origin = m.origin ∙ ap Made (sym (making-same x a b m.upper m.lower (upper-stays x a b m.upper m.lower s m.paired)
+          (lower-stays x a b m.upper m.lower s m.paired)));
+    }
 
 made-back : (x : ℕ) (a b : List Entry) (e : Entry) → AreRows a → AreSameBelow (x + 1) a b → IsMadeIn x b e → IsMadeIn x a e
 made-back x a b e r s m =

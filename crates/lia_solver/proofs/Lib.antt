@@ -12,6 +12,11 @@ pub mod Adding
 pub mod Growing
 pub mod Lowers
 pub mod Summing
+pub mod Bounded
+pub mod Stepping
+pub mod Behind
+pub mod Extending
+pub mod OneColumn
 pub mod Asking
 pub mod Branching
 pub mod Settling

@@ -1,4 +1,5 @@
 pub mod Asked
+pub mod Bounded
 pub mod Branches
 pub mod Buckets
 pub mod Choices
@@ -10,4 +11,5 @@ pub mod Numbers
 pub mod Pruned
 pub mod Searches
 pub mod Settling
+pub mod Solved
 pub mod Tables

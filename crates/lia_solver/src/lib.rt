@@ -1,6 +1,7 @@
 //! A certifying solver for cubes over 64-bit integers, by the elimination of columns and splits.
 #![tactic(auto)]
 
+mod bounds;
 mod branch;
 mod choice;
 mod columns;
@@ -14,4 +15,5 @@ mod eliminate;
 mod pairing;
 pub mod solve;
 pub mod solved;
+mod columnwise;
 mod table;

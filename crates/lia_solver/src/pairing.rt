@@ -107,7 +107,7 @@ fn tighten(out: &mut Vec<(u32, i128)>, constant: i128) -> (i128, i64)
 }
 
 /// How great the first coefficient is.
-fn first_size(parts: &[(u32, i128)]) -> u64
+pub fn first_size(parts: &[(u32, i128)]) -> u64
     requires some { 0 < length parts.now }
     requires limits { AllWithin parts.now }
     ensures { result ≡ unsigned_abs (slice_index_or parts.now 0 (0, pos 0)).1 }
