@@ -17,6 +17,7 @@ pub mod Stepping
 pub mod Behind
 pub mod Extending
 pub mod OneColumn
+pub mod Deriving
 pub mod Asking
 pub mod Branching
 pub mod Settling

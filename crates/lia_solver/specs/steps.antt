@@ -3,6 +3,7 @@ pub mod Bounded
 pub mod Branches
 pub mod Buckets
 pub mod Choices
+pub mod Deriving
 pub mod Entries
 pub mod Further
 pub mod Lines

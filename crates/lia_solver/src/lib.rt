@@ -5,6 +5,7 @@ mod bounds;
 mod branch;
 mod choice;
 mod columns;
+mod derivation;
 mod division;
 pub mod entails;
 mod merge;
