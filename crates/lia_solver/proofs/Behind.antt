@@ -1,9 +1,7 @@
 -- The rows of a table, as the plan's rows.
-use Rattle.std.proofs.Common.{◌≡◌, ◌⊎◌, inl, inr, ℕ, zero, suc, ◌<◌, ◌≤◌, ◌+◌, ◌^◌, ◌==◌, ◌&&◌, Bool, true, false, List, [], ◌∷◌, length, map, ℤ, pos, arith, refl, sym, ap, subst, ◌∙◌}
-use Rattle.std.specs.Prelude.{IsTrue, Contains, All, filter, int_lt, nat_le, if◌then◌else◌}
+use Rattle.std.proofs.Common.{◌≡◌, ◌⊎◌, inl, inr, ℕ, zero, suc, ◌<◌, ◌≤◌, ◌+◌, ◌^◌, ◌==◌, ◌&&◌, Bool, true, false, List, [], ◌∷◌, length, ℤ, pos, arith, refl, sym, ap, subst, ◌∙◌}
+use Rattle.std.specs.Prelude.{IsTrue, filter, int_lt, if◌then◌else◌}
 use Rattle.std.proofs.lemmas.Bool.{cases_lt}
-use Rattle.std.proofs.lemmas.Int.{ints}
-use borrow.Author.Tests.{eqb-true, eq-eqb}
 use Rattle.linear_formula.specs.LinearSum.{LinearSum, coefficient, listed_at, is_zero, is_term, is_within}
 use Rattle.linear_formula.specs.steps.Order.{InOrder}
 use Rattle.linear_formula.proofs.Limits.{IsTerm-from_test}
@@ -15,18 +13,17 @@ use Rattle.shadow_elim.specs.Reduction.{is_trivial}
 use Rattle.shadow_elim.proofs.Exact.{HasRange as IsRanged, range-kept}
 use Rattle.shadow_elim.proofs.Keeping.{IsPairOf, IsFreeIn, IsMadeOf, IsAfter}
 use Rattle.shadow_elim.proofs.Members.{Among, among-filter, filter-among, contains-among, among-contains}
-use Rattle.shadow_elim.proofs.Naming.{AllTerms, after-terms}
+use Rattle.shadow_elim.proofs.Naming.{AllTerms}
 use Rattle.shadow_elim.proofs.PairSums.{free-is}
-use Rattle.shadow_elim.proofs.Staying.{HasAtLeast, IsCovered}
+use Rattle.shadow_elim.proofs.Staying.{IsCovered}
 use Rattle.lia_solver.specs.steps.Choices.{HasRange}
 use Rattle.lia_solver.specs.steps.Entries.{Entry, entry_at, sum_at, bounds_above, bounds_below, ArePaired}
 use Rattle.lia_solver.specs.steps.Solved.{AreReady}
-use Rattle.lia_solver.specs.steps.Tables.{starts_from, sums_of, live, IsHeld, AreRows, AreSameBelow, IsOld, IsMadeIn, IsGrown, IsSummed, IsBehind, IsOverfull, HasWide}
+use Rattle.lia_solver.specs.steps.Tables.{starts_from, sums_of, live, IsHeld, AreRows, IsOld, IsMadeIn, IsGrown, IsBehind}
 use Rattle.lia_solver.proofs.ChosenPoints.{ascends-from_test, test-from_ascends, ascends-above, NamesOnly, after-names_only}
 use Rattle.lia_solver.proofs.Choosing.{all-at, all-from, ranged-from, range-from}
-use Rattle.lia_solver.proofs.Covering.{Covers}
 use Rattle.lia_solver.proofs.FirstColumns.{starts, above-upper, below-lower, above-from, below-from, starts-absent, starts-lower, starts-order, absent-starts, sum-starts}
-use Rattle.lia_solver.proofs.Growing.{paired-back, upper-stays, lower-stays}
+use Rattle.lia_solver.proofs.Growing.{upper-stays, lower-stays}
 use Rattle.lia_solver.proofs.Strongest.{AreApart, AreStrongest}
 
 no_way : true ≡ false → ⊥
@@ -88,7 +85,7 @@ apart-from (e ∷ es) h = (
   λ s a k.
       let p = among-place es s a in
       let same : 0 ≡ suc p.place = h 0 (suc p.place) (omega arith) (omega (arith, p.inside))
-          (sym (ap (λ (r : LinearSum). r.parts) p.here ∙ k)) in
+      (sym (ap (λ (r : LinearSum). r.parts) p.here ∙ k)) in
       absurd (omega (arith, same)),
   apart-from es (λ i j a b k.
       let same : suc i ≡ suc j = h (suc i) (suc j) (omega (arith, a)) (omega (arith, b)) k in
@@ -198,14 +195,19 @@ pair-places x xs low entries u l r p =
     let su = first-starts x xs low (live low entries) u r.ascends r.terms r.named p.upper in
     let sl = first-starts x xs low (live low entries) l r.ascends r.terms r.named p.lower in
     let bu = upper-above x u.parts (IsTerm-from_test u (r.terms u p.upper)).order su p.is_upper in
-    let bl = lower-below x l.parts (IsTerm-from_test l (r.terms l p.lower)).order sl p.is_lower in
-    (f.place, g.place, record {
-      terms = r.rows.terms;
-      upper_place = f.inside;
-      lower_place = g.inside;
-      above = subst (λ (t : LinearSum). IsTrue (bounds_above x t.parts)) (sym f.here) bu;
-      below = subst (λ (t : LinearSum). IsTrue (bounds_below x t.parts)) (sym g.here) bl;
-    }, f.here, g.here)
+    let bl = lower-below x l.parts (IsTerm-from_test l (r.terms l p.lower)).order sl p.is_lower in (
+      f.place,
+      g.place,
+      record {
+        terms = r.rows.terms;
+        upper_place = f.inside;
+        lower_place = g.inside;
+        above = subst (λ (t : LinearSum). IsTrue (bounds_above x t.parts)) (sym f.here) bu;
+        below = subst (λ (t : LinearSum). IsTrue (bounds_below x t.parts)) (sym g.here) bl;
+      },
+      f.here,
+      g.here,
+    )
 
 pub places-pair : (x low : ℕ) (entries : List Entry) (i j : ℕ) → low ≤ x → ArePaired x entries i j →
     IsPairOf x (live low entries) (sum_at entries i) (sum_at entries j)
@@ -230,7 +232,8 @@ grown-from x xs low old new r g t a =
           ⊎ IsMadeOf x (live low old) t
       by_origin (inl o) =
           let same : sum_at old o.place ≡ t = sym o.sum ∙ p.here in
-          let order = (IsTerm-from_test t (subst (λ (s : LinearSum). IsTrue (is_term s)) same (r.rows.terms.greatest o.place o.inside))).order
+          let order = (IsTerm-from_test t (subst (λ (s : LinearSum). IsTrue (is_term s)) same
+          (r.rows.terms.greatest o.place o.inside))).order
           in
           inl (record {
             here = subst (λ (s : LinearSum). Among s (live low old)) same (live-among low old o.place o.inside

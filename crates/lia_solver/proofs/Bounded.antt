@@ -5,14 +5,13 @@ use Rattle.std.specs.Prelude.{IsTrue, filter, int_lt, unsigned_abs, if◌then◌
 use Rattle.std.proofs.lemmas.Int.{ints}
 use Rattle.std.proofs.lemmas.List.{take_more, take_all, map-append}
 use Rattle.std.proofs.lemmas.List.Elements.{filter-append}
-use Rattle.linear_formula.specs.LinearSum.{LinearSum, listed_at, valuation}
-use Rattle.shadow_elim.specs.Division.{floor_quotient, ceiling_quotient}
+use Rattle.linear_formula.specs.LinearSum.{LinearSum}
 use Rattle.shadow_elim.specs.Elimination.{size_of}
-use Rattle.shadow_elim.specs.Points.{least_value, greatest_value, greatest_of, least_of, rest_of}
+use Rattle.shadow_elim.specs.Points.{least_value, greatest_value, greatest_of, least_of}
 use Rattle.lia_solver.specs.declared.bounds.Bounds.{Bounds}
 use Rattle.lia_solver.specs.steps.Bounded.{with_row}
 use Rattle.lia_solver.specs.steps.Entries.{Entry, no_entry, entry_at, sum_at, bounds_above, bounds_below}
-use Rattle.lia_solver.specs.steps.Solved.{upper_of, lower_of, floor_of, uppers_in, lowers_in, high_in, low_in, floor_in}
+use Rattle.lia_solver.specs.steps.Solved.{upper_of, lower_of, floor_of, high_in, low_in, floor_in}
 use Rattle.lia_solver.specs.steps.Tables.{sums_of}
 use Rattle.lia_solver.proofs.FirstColumns.{above-first, below-first}
 
@@ -47,7 +46,8 @@ greatest-more z (x ∷ ys) y = greatest-more (int_max z x) ys y
 abbrev tested : (LinearSum → Bool) → (LinearSum → ℤ) → List Entry → List ℤ
 tested p f entries = map f (filter p (sums_of entries))
 
-tested-more : (p : LinearSum → Bool) (f : LinearSum → ℤ) (entries : List Entry) (n : ℕ) → n < length entries → tested p f (take (n + 1) entries)
+tested-more : (p : LinearSum → Bool) (f : LinearSum → ℤ) (entries : List Entry) (n : ℕ) → n < length entries →
+    tested p f (take (n + 1) entries)
     ≡ tested p f (take n entries) ++ map f (if p (sum_at entries n) then (sum_at entries n ∷ []) else [])
 tested-more p f entries n h =
     ap (tested p f) (take_more entries n no_entry h)

@@ -1,13 +1,13 @@
 -- Steps that derive rows of a table, one after another.
-use Rattle.std.proofs.Common.{◌≡◌, ◌⊎◌, inl, inr, ℕ, zero, suc, ◌<◌, ◌≤◌, ◌+◌, ◌^◌, ◌==◌, nat_le, Bool, true, false, Ok, Err, List, [], ◌∷◌, ◌++◌, length, map, get_or, set, replicate, ℤ, pos, arith, refl, sym, ap, subst, ◌∙◌}
+use Rattle.std.proofs.Common.{◌≡◌, ◌⊎◌, inl, inr, ℕ, zero, suc, ◌<◌, ◌≤◌, ◌+◌, ◌^◌, ◌==◌, nat_le, true, Ok, Err, List, [], ◌∷◌, ◌++◌, length, get_or, set, replicate, ℤ, pos, arith, refl, sym, ap, subst, ◌∙◌}
 use Rattle.std.specs.Prelude.{IsTrue, Result, IfOk, OnOk, int_lt}
 use Rattle.std.proofs.lemmas.Bool.{cases_eq}
 use Rattle.std.proofs.lemmas.Bool.Decides.{nat_tests}
 use borrow.Author.Tests.{eqb-true}
-use Rattle.std.proofs.lemmas.List.{length-append, length-set, append_assoc, get_or_append_left, get_or_push, get_or-set_same, get_or-set_other, get_or-replicate}
+use Rattle.std.proofs.lemmas.List.{length-append, length-set, append_assoc, get_or_append_left, get_or_push, get_or-set_same, get_or-set_other}
 use Rattle.linear_formula.specs.LinearSum.{LinearSum}
 use Rattle.infeasible_cert.specs.declared.certificate.Derived.{Derived}
-use Rattle.infeasible_cert.specs.Right.{row_at, rows_after, IsRightStep, AreRightSteps, EndsInContradiction}
+use Rattle.infeasible_cert.specs.Right.{row_at, rows_after, IsRightStep, AreRightSteps}
 use Rattle.infeasible_cert.specs.Terms.{AreDerivedTerms}
 use Rattle.shadow_elim.specs.Division.{tightened}
 use Rattle.shadow_elim.specs.Elimination.{pair_sum}
@@ -15,9 +15,8 @@ use Rattle.shadow_elim.proofs.MadeRight.{made-right, rows_after-append, length-r
 use Rattle.shadow_elim.proofs.Tests.{first_true}
 use Rattle.lia_solver.specs.declared.derivation.Derivation.{Derivation}
 use Rattle.lia_solver.specs.declared.table.Making.{Making}
-use Rattle.lia_solver.specs.declared.table.Origin.{Origin}
 use Rattle.lia_solver.specs.declared.table.Origin.TheVariants.{Given, Made}
-use Rattle.lia_solver.specs.steps.Deriving.{IsNumbered, IsDerivation, IsFounded, EndWith, step_by, level}
+use Rattle.lia_solver.specs.steps.Deriving.{IsNumbered, IsDerivation, IsFounded, step_by, level}
 use Rattle.lia_solver.specs.steps.Entries.{Entry, entry_at, sum_at, making_of, bounds_above, bounds_below}
 use Rattle.lia_solver.specs.steps.Solved.{IsMadeEarlier, IsOf, HaveOrigins}
 use Rattle.lia_solver.specs.steps.Tables.{starts_from, IsMadeIn}
@@ -46,7 +45,8 @@ pub numbered-later : (base : List LinearSum) (ds es : List Derived) (n : ℕ) (t
     IsNumbered (rows_after base (ds ++ es)) n t
 numbered-later base ds es n t h =
     let f = rows-more (rows_after base ds) es in
-    subst (λ (rows : List LinearSum). IsNumbered rows n t) (sym (rows_after-append base ds es ∙ f.1)) (numbered-more (rows_after base ds) f.0
+    subst (λ (rows : List LinearSum). IsNumbered rows n t) (sym (rows_after-append base ds es ∙ f.1))
+    (numbered-more (rows_after base ds) f.0
     n t h)
 
 -- a given row has its own
@@ -202,11 +202,11 @@ later-then a b c more again e f =
 
 -- the step of a row, after those of the two rows that it is made of
 pub record IsNext (base : List LinearSum) (entries : List Entry) (a b : Derivation) (m : Making) (i j : ℕ) (more : List Derived) : Type 0
-    where
-  pub founded : IsFounded base entries b
-  pub upper : IsNumbered (rows_after base a.steps.items) i (sum_at entries m.upper)
-  pub later : b.steps.items ≡ a.steps.items ++ more
-  pub lower : IsNumbered (rows_after base b.steps.items) j (sum_at entries m.lower)
+  where
+    pub founded : IsFounded base entries b
+    pub upper : IsNumbered (rows_after base a.steps.items) i (sum_at entries m.upper)
+    pub later : b.steps.items ≡ a.steps.items ++ more
+    pub lower : IsNumbered (rows_after base b.steps.items) j (sum_at entries m.lower)
 
 pub next-founded : (base : List LinearSum) (entries : List Entry) (a b new : Derivation) (place : ℕ) (m : Making) (upper lower : ℕ)
     (more : List Derived) (t : LinearSum) (d : Derived) → IsNext base entries a b m upper lower more → place < length entries →

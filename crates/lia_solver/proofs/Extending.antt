@@ -1,23 +1,22 @@
 -- One more value, by the rows of a table.
-use Rattle.std.proofs.Common.{◌≡◌, ◌⊎◌, inl, inr, ℕ, ◌<◌, ◌≤◌, ◌+◌, Bool, true, false, List, [], ◌∷◌, length, map, ℤ, arith, refl, sym, ap, subst, ◌∙◌}
-use Rattle.std.specs.Prelude.{IsTrue, Contains, ◌≤ℤ◌, ◌<ℤ◌, filter, int_le, int_lt, if◌then◌else◌}
+use Rattle.std.proofs.Common.{◌≡◌, inl, ℕ, ◌+◌, Bool, true, false, List, ◌∷◌, map, ℤ, arith, refl, sym, ap, subst, ◌∙◌}
+use Rattle.std.specs.Prelude.{IsTrue, ◌≤ℤ◌, ◌<ℤ◌, filter, int_le, int_lt, if◌then◌else◌}
 use Rattle.std.proofs.lemmas.Int.{ints}
 use Rattle.linear_formula.specs.LinearSum.{LinearSum}
 use Rattle.linear_formula.proofs.Limits.{IsTerm-from_test}
-use Rattle.infeasible_cert.proofs.Ascending.{Ascends}
 use Rattle.shadow_elim.specs.Elimination.{is_upper, is_lower}
-use Rattle.shadow_elim.specs.Points.{Outcome, chosen, refuted, split, too_wide, too_many_rows, least_value, greatest_value, greatest_of, least_of, nearest, upper_bound, lower_bound, lower_floor, with_value, outcome}
+use Rattle.shadow_elim.specs.Points.{Outcome, chosen, split, least_value, greatest_value, greatest_of, least_of, nearest, upper_bound, lower_bound, lower_floor, with_value, outcome}
 use Rattle.shadow_elim.proofs.Bests.{greatest-start, greatest-above, greatest-limit, least-start, least-below, least-limit}
-use Rattle.shadow_elim.proofs.Members.{Among, among-filter, filter-among, map-among, among-contains, contains-among, among-map}
+use Rattle.shadow_elim.proofs.Members.{Among, among-filter, filter-among, map-among, among-contains, among-map}
 use Rattle.lia_solver.specs.declared.columnwise.Chosen.{Chosen}
 use Rattle.lia_solver.specs.declared.columnwise.Chosen.TheVariants as found
-use Rattle.lia_solver.specs.steps.Entries.{Entry, entry_at, sum_at, bounds_above, bounds_below}
+use Rattle.lia_solver.specs.steps.Entries.{Entry, sum_at, bounds_above, bounds_below}
 use Rattle.lia_solver.specs.steps.Solved.{upper_of, lower_of, floor_of, uppers_in, lowers_in, high_in, low_in, floor_in, extended_in, outcome_by, AreReady, AreKept, IsChosenIn}
-use Rattle.lia_solver.specs.steps.Tables.{starts_from, sums_of, live, AreRows, AreSameBelow, IsBehind}
+use Rattle.lia_solver.specs.steps.Tables.{starts_from, sums_of, live, AreSameBelow, IsBehind}
 use Rattle.lia_solver.proofs.Behind.{IsReady, ready-is, among-place, place-among, live-among, live-place, first-starts, upper-above, lower-below, live-strongest, behind-after}
 use Rattle.lia_solver.proofs.ChosenPoints.{ascends-from_lower}
 use Rattle.lia_solver.proofs.FirstColumns.{above-upper, below-lower, above-from, below-from, above-starts, below-starts}
-use Rattle.lia_solver.proofs.Growing.{same-then, same-lower}
+use Rattle.lia_solver.proofs.Growing.{same-then}
 use Rattle.lia_solver.proofs.Stepping.{column-done, column-sides}
 
 -- Bounds of the same rows
@@ -33,7 +32,8 @@ least-most z f xs ys h =
       below w m =
           subst (λ (v : ℤ). least_of z (map f xs) ≤ℤ v) m.2 (least-below z (map f xs) (f m.0) (among-map f xs m.0 (h m.0 m.1)))
 
-greatest-most : (z : ℤ) (f : LinearSum → ℤ) (xs ys : List LinearSum) → ((t : LinearSum) → Among t ys → Among t xs) → greatest_of z (map f ys)
+greatest-most : (z : ℤ) (f : LinearSum → ℤ) (xs ys : List LinearSum) → ((t : LinearSum) → Among t ys → Among t xs) →
+    greatest_of z (map f ys)
     ≤ℤ greatest_of z (map f xs)
 greatest-most z f xs ys h =
     greatest-limit z (map f ys) (greatest_of z (map f xs)) (greatest-start z (map f xs)) (λ w a. above w (map-among f ys w a)) where
@@ -171,7 +171,9 @@ extended-crossed x entries values h =
 pub extended-met : (x : ℕ) (entries : List Entry) (values : List (ℕ × ℤ)) → int_lt (high_in x values entries) (low_in x values entries)
     ≡ false → extended_in x entries values ≡ chosen ((x, nearest (low_in x values entries) (high_in x values entries)) ∷ values)
 extended-met x entries values h =
-    let met : int_le (low_in x values entries) (high_in x values entries) ≡ true = meets (low_in x values entries) (high_in x values entries) h
+    let met : int_le (low_in x values entries) (high_in x values entries) ≡ true = meets (low_in x values entries)
+    (high_in x values entries)
+    h
     in
     ap (λ b. if b then chosen ((x, nearest (low_in x values entries) (high_in x values entries)) ∷ values) else split x
     (floor_in x values entries)) met where

@@ -116,25 +116,28 @@ starts-absent x z ps o h k = listed-absent z x ps k (starts-order x ps o h)
 pub sum-starts : (x : ℕ) (u l : LinearSum) → IsTrue (is_term u) → IsTrue (is_term l) → IsTrue (bounds_above x u.parts) →
     IsTrue (bounds_below x l.parts) → IsTrue (is_within (pair_sum x (u, l))) → IsTrue (is_term (tightened (pair_sum x (u, l))))
     × (starts (x + 1) (tightened (pair_sum x (u, l))) ≡ true)
-sum-starts x u l tu tl hu hl w =
-    (term, absent-starts (x + 1) (tightened (pair_sum x (u, l))).parts (IsTerm-from_test (tightened (pair_sum x (u, l))) term).order none) where
-      term : IsTrue (is_term (tightened (pair_sum x (u, l))))
-      term = tightened-term (pair_sum x (u, l)) (pair_sum-term x u l tu tl w)
+sum-starts x u l tu tl hu hl w = (
+  term,
+  absent-starts (x + 1) (tightened (pair_sum x (u, l))).parts (IsTerm-from_test (tightened (pair_sum x (u, l))) term).order
+      none,
+) where
+  term : IsTrue (is_term (tightened (pair_sum x (u, l))))
+  term = tightened-term (pair_sum x (u, l)) (pair_sum-term x u l tu tl w)
 
-      ou : InOrder 0 u.parts
-      ou = (IsTerm-from_test u tu).order
+  ou : InOrder 0 u.parts
+  ou = (IsTerm-from_test u tu).order
 
-      ol : InOrder 0 l.parts
-      ol = (IsTerm-from_test l tl).order
+  ol : InOrder 0 l.parts
+  ol = (IsTerm-from_test l tl).order
 
-      none : (z : ℕ) → z < x + 1 → listed_at z (tightened (pair_sum x (u, l))).parts ≡ pos 0
-      none z h = by_place (cases_lt z x) where
-        by_place : (z < x) ⊎ (x ≤ z) → coefficient z (tightened (pair_sum x (u, l))) ≡ pos 0
-        by_place (inl lt) =
-            tightened-absent z (pair_sum x (u, l)) (pair_sum-absent z x u l ou ol
-            (starts-absent x z u.parts ou (above-from x x u.parts (omega arith) hu) lt)
-            (starts-absent x z l.parts ol (below-from x x l.parts (omega arith) hl) lt))
-        by_place (inr ge) =
-            let same : x ≡ z = omega (arith, h, ge) in
-            subst (λ (y : ℕ). coefficient y (tightened (pair_sum x (u, l))) ≡ pos 0) same (tightened-absent x (pair_sum x (u, l))
-            (pair_sum-eliminates x u l ou ol (upper-is x u (above-upper x u hu)) (lower-is x l (below-lower x l hl))))
+  none : (z : ℕ) → z < x + 1 → listed_at z (tightened (pair_sum x (u, l))).parts ≡ pos 0
+  none z h = by_place (cases_lt z x) where
+    by_place : (z < x) ⊎ (x ≤ z) → coefficient z (tightened (pair_sum x (u, l))) ≡ pos 0
+    by_place (inl lt) =
+        tightened-absent z (pair_sum x (u, l)) (pair_sum-absent z x u l ou ol
+        (starts-absent x z u.parts ou (above-from x x u.parts (omega arith) hu) lt)
+        (starts-absent x z l.parts ol (below-from x x l.parts (omega arith) hl) lt))
+    by_place (inr ge) =
+        let same : x ≡ z = omega (arith, h, ge) in
+        subst (λ (y : ℕ). coefficient y (tightened (pair_sum x (u, l))) ≡ pos 0) same (tightened-absent x (pair_sum x (u, l))
+        (pair_sum-eliminates x u l ou ol (upper-is x u (above-upper x u hu)) (lower-is x l (below-lower x l hl))))

@@ -1,6 +1,6 @@
 -- What becomes of a table while a column is eliminated.
-use Rattle.std.proofs.Common.{◌≡◌, ◌⊎◌, inl, inr, ℕ, zero, suc, ◌<◌, ◌≤◌, ◌+◌, Bool, true, false, not, List, [], ◌∷◌, ◌++◌, length, map, set, ℤ, arith, refl, sym, ap, subst, ◌∙◌}
-use Rattle.std.specs.Prelude.{IsTrue, Contains, ◌≤ℤ◌, filter, if◌then◌else◌}
+use Rattle.std.proofs.Common.{◌≡◌, ◌⊎◌, inl, inr, ℕ, zero, suc, ◌<◌, ◌≤◌, ◌+◌, Bool, true, false, not, List, [], ◌∷◌, length, set, arith, refl, sym, ap, subst, ◌∙◌}
+use Rattle.std.specs.Prelude.{IsTrue, filter, if◌then◌else◌}
 use Rattle.std.proofs.lemmas.Bool.{cases_lt}
 use Rattle.std.proofs.lemmas.Int.{ints}
 use Rattle.std.proofs.lemmas.List.{length-append}
@@ -13,7 +13,7 @@ use Rattle.shadow_elim.specs.Reduction.{is_trivial}
 use Rattle.shadow_elim.proofs.Staying.{can-fail}
 use Rattle.lia_solver.specs.declared.table.Origin.{Origin}
 use Rattle.lia_solver.specs.declared.table.Origin.TheVariants.{Made}
-use Rattle.lia_solver.specs.steps.Entries.{Entry, entry_of, joined, no_entry, entry_at, sum_at, making_by, making_of, bounds_above, bounds_below, IsJoined, IsAdded, ArePaired}
+use Rattle.lia_solver.specs.steps.Entries.{Entry, entry_of, joined, entry_at, sum_at, making_by, making_of, bounds_above, bounds_below, IsAdded, ArePaired}
 use Rattle.lia_solver.specs.steps.Tables.{starts_from, is_passed, passed, IsHeld, IsPut, AreRows, AreSameBelow, IsOld, IsMadeIn, IsGrown, IsSummed, AreLowerPlaces}
 use Rattle.lia_solver.proofs.Adding.{IsStep, added-step, step-terms, joined-parts}
 use Rattle.lia_solver.proofs.FirstColumns.{above-starts, below-starts, starts-higher}
@@ -26,7 +26,8 @@ apart h = cc
 pub held-itself : (entries : List Entry) (i : ℕ) → i < length entries → IsHeld (sum_at entries i) entries
 held-itself entries i h = inr (i, h, refl, omega (arith, ints))
 
-pub held-then : (t : LinearSum) (old new : List Entry) → ((i : ℕ) → i < length old → IsHeld (sum_at old i) new) → IsHeld t old → IsHeld t new
+pub held-then : (t : LinearSum) (old new : List Entry) → ((i : ℕ) → i < length old → IsHeld (sum_at old i) new) → IsHeld t old →
+    IsHeld t new
 held-then t old new g (inl e) = inl e
 held-then t old new g (inr k) = by_value (is_trivial t) refl (g k.0 k.1) where
   by_value : (b : Bool) → is_trivial t ≡ b → IsHeld (sum_at old k.0) new → IsHeld t new
@@ -58,7 +59,8 @@ count-set p (x ∷ es) (suc i) e h a b =
       by_test true k = omega (arith, k)
       by_test false k = k
 
-passed-added : (x : ℕ) (t : LinearSum) (o : Origin) (old new : List Entry) → IsAdded t o old new → starts_from x t.parts ≡ true → passed x new
+passed-added : (x : ℕ) (t : LinearSum) (o : Origin) (old new : List Entry) → IsAdded t o old new → starts_from x t.parts ≡ true →
+    passed x new
     ≡ passed x old
 passed-added x t o old new (inl j) h =
     ap (passed x) j.set ∙ count-set (is_passed x) old j.place (joined j.entry t o) j.inside
@@ -216,7 +218,8 @@ pair-stays x a b u l s p =
     whole
 
 -- how a row is made depends on both rows alone
-making-same : (x : ℕ) (a b : List Entry) (u l : ℕ) → sum_at b u ≡ sum_at a u → sum_at b l ≡ sum_at a l → making_of x b u l ≡ making_of x a u l
+making-same : (x : ℕ) (a b : List Entry) (u l : ℕ) → sum_at b u ≡ sum_at a u → sum_at b l ≡ sum_at a l → making_of x b u l ≡ making_of x a u
+    l
 making-same x a b u l e f = λ i. making_by x u l (e i) (f i)
 
 pub made-forth : (x : ℕ) (a b : List Entry) (e : Entry) → AreRows b → AreSameBelow (x + 1) a b → IsMadeIn x a e → IsMadeIn x b e

@@ -1,17 +1,16 @@
 -- The columns of a table, one after another.
 use Rattle.std.proofs.Common.{◌≡◌, ◌⊎◌, inl, inr, ℕ, ◌<◌, ◌≤◌, ◌+◌, ◌^◌, Bool, true, false, List, [], ◌∷◌, length, ℤ, pos, arith, refl, sym, ap, subst, ◌∙◌}
-use Rattle.std.specs.Prelude.{IsTrue, Contains, ◌<ℤ◌, int_le, if◌then◌else◌}
+use Rattle.std.specs.Prelude.{IsTrue, ◌<ℤ◌, int_le}
 use Rattle.std.specs.List.{list_any}
 use Rattle.std.proofs.lemmas.Int.{ints}
 use Rattle.linear_formula.specs.LinearSum.{LinearSum, is_ascending_from, is_within}
-use Rattle.infeasible_cert.specs.Right.{row_at}
 use Rattle.infeasible_cert.proofs.Ascending.{Ascends}
 use Rattle.shadow_elim.specs.Elimination.{pair_sum}
 use Rattle.shadow_elim.specs.Points.{chosen, too_wide, too_many_rows, outcome}
 use Rattle.shadow_elim.specs.Reduction.{has_no_parts, is_trivial, is_contradiction}
 use Rattle.shadow_elim.proofs.Filtering.{among-any}
 use Rattle.shadow_elim.proofs.Keeping.{IsPairOf}
-use Rattle.shadow_elim.proofs.Members.{Among, any-among, contains-among, among-contains}
+use Rattle.shadow_elim.proofs.Members.{any-among, contains-among, among-contains}
 use Rattle.shadow_elim.proofs.Staying.{same_parts-decides}
 use Rattle.shadow_elim.proofs.Tests.{both_true}
 use Rattle.lia_solver.specs.declared.columnwise.Chosen.{Chosen}
@@ -20,7 +19,7 @@ use Rattle.lia_solver.specs.declared.table.Origin.{Origin}
 use Rattle.lia_solver.specs.declared.table.Origin.TheVariants.{Given, Made}
 use Rattle.lia_solver.specs.steps.Entries.{Entry, entry_at, sum_at}
 use Rattle.lia_solver.specs.steps.Solved.{AreReady, IsMadeEarlier, IsOf, HaveOrigins, AreKept, IsRefuted, IsChosenIn}
-use Rattle.lia_solver.specs.steps.Tables.{starts_from, live, AreRows, AreSameBelow, IsOld, IsMadeIn, IsGrown, IsBehind, IsOverfull, HasWide}
+use Rattle.lia_solver.specs.steps.Tables.{starts_from, live, AreRows, IsOld, IsMadeIn, IsGrown, IsBehind, IsOverfull, HasWide}
 use Rattle.lia_solver.proofs.Behind.{IsReady, ready-is, is-ready, live-among, live-place, live-strongest, places-pair, pair-places, grown-from, behind-ready}
 use Rattle.lia_solver.proofs.ChosenPoints.{ascends-from_lower, values-ascend, outcome-chosen}
 use Rattle.lia_solver.proofs.Closing.{is-contradiction, contradiction-is}
@@ -43,7 +42,8 @@ bare-never entries i r h e =
 
       by_value : (b : Bool) → int_le t.constant (pos 0) ≡ b → IsTrue (is_contradiction t)
       by_value true k =
-          let trivial : is_trivial t ≡ true = both_true (has_no_parts t) (int_le t.constant (pos 0)) ((same_parts-decides t.parts []).1 e) k in
+          let trivial : is_trivial t ≡ true = both_true (has_no_parts t) (int_le t.constant (pos 0)) ((same_parts-decides t.parts []).1 e) k
+          in
           absurd (no_way (sym trivial ∙ r.real i h))
       by_value false k =
           is-contradiction t (ap (λ (ps : List (ℕ × ℤ)). length ps) e) (above t.constant k) where

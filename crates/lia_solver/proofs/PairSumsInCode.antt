@@ -1,14 +1,14 @@
 -- Sums of two rows as the code computes them.
-use Rattle.std.proofs.Common.{◌≡◌, ℕ, ◌<◌, ◌≤◌, ◌^◌, Bool, Option, None, Some, List, [], ◌∷◌, length, ℤ, pos, ◌+ℤ◌, ◌*ℤ◌, to_z, of_z, to_z-of_z, FitsSigned, arith, refl, sym, ap, subst, ◌∙◌}
+use Rattle.std.proofs.Common.{◌≡◌, ℕ, ◌<◌, ◌≤◌, ◌^◌, Bool, Option, None, Some, List, [], ◌∷◌, length, ℤ, pos, ◌+ℤ◌, ◌*ℤ◌, to_z, of_z, to_z-of_z, FitsSigned, arith, sym, ap, subst, ◌∙◌}
 use Rattle.std.specs.Int.{w64, w128}
 use Rattle.std.specs.Prelude.{IsTrue, MatchOption, ◌↔◌, unsigned_abs}
 use Rattle.std.specs.Option.{is_some}
 use Rattle.std.proofs.lemmas.Int.{ints, fits_signed_from_abs}
 use Rattle.linear_formula.specs.LinearSum.{LinearSum, is_term, is_within}
-use Rattle.linear_formula.specs.steps.Order.{InOrder, AllWithin}
+use Rattle.linear_formula.specs.steps.Order.{AllWithin}
 use Rattle.linear_formula.specs.Results.{plus_parts, combination}
 use Rattle.linear_formula.proofs.Finishing.{both_constants, both_cast, cast_wide}
-use Rattle.linear_formula.proofs.Limits.{IsTerm, IsTerm-from_test, test-from_IsTerm, Within-from_test, test-from_Within}
+use Rattle.linear_formula.proofs.Limits.{IsTerm-from_test, test-from_IsTerm, test-from_Within}
 use Rattle.linear_formula.proofs.Order.{InOrder-plus_parts}
 use Rattle.shadow_elim.specs.Division.{row_divisor}
 use Rattle.shadow_elim.specs.Elimination.{size_of, upper_multiple, lower_multiple, pair_sum}
@@ -20,7 +20,8 @@ use Rattle.lia_solver.specs.steps.Entries.{Entry, entry_at, sum_at, least_at, ma
 pub constants-sum : (m m' a n n' b : ℤ) → m' ≡ m → n' ≡ n → unsigned_abs m ≤ 2 ^ 40 → unsigned_abs a ≤ 2 ^ 84 → unsigned_abs n ≤ 2 ^ 40 →
     unsigned_abs b ≤ 2 ^ 84 → to_z w128 (of_z w128 (both_constants m' a n' b)) ≡ (m *ℤ a) +ℤ (n *ℤ b)
 constants-sum m m' a n n' b e f hm ha hn hb =
-    both_cast m' a n' b (subst (λ (z : ℤ). unsigned_abs z ≤ 2 ^ 40) (sym e) hm) ha (subst (λ (z : ℤ). unsigned_abs z ≤ 2 ^ 40) (sym f) hn) hb
+    both_cast m' a n' b (subst (λ (z : ℤ). unsigned_abs z ≤ 2 ^ 40) (sym e) hm) ha (subst (λ (z : ℤ). unsigned_abs z ≤ 2 ^ 40) (sym f) hn)
+    hb
     ∙ ap (λ y. (y *ℤ a) +ℤ (n' *ℤ b)) e ∙ ap (λ z. (m *ℤ a) +ℤ (z *ℤ b)) f
 
 abbrev pub row_of : List (ℕ × ℤ) → ℤ → LinearSum

@@ -1,12 +1,12 @@
 -- One column of the plan, by any rows that say what is left of it.
-use Rattle.std.proofs.Common.{◌≡◌, ◌⊎◌, inl, inr, ℕ, ◌<◌, ◌≤◌, ◌+◌, nat_le, Bool, true, false, List, [], ◌∷◌, length, ℤ, arith, refl, sym, ap, subst, ◌∙◌}
+use Rattle.std.proofs.Common.{◌≡◌, ◌⊎◌, inl, inr, ℕ, ◌<◌, ◌≤◌, ◌+◌, nat_le, Bool, true, false, List, ◌∷◌, length, ℤ, arith, refl, sym, ap, subst, ◌∙◌}
 use Rattle.std.specs.Prelude.{IsTrue, ◌<ℤ◌, if◌then◌else◌}
 use Rattle.std.specs.List.{list_all}
 use Rattle.std.proofs.lemmas.Bool.Decides.{nat_tests}
 use Rattle.linear_formula.specs.LinearSum.{LinearSum, is_within}
 use Rattle.infeasible_cert.proofs.Ascending.{Ascends}
 use Rattle.shadow_elim.specs.Elimination.{pair_sum, pair_sums, pairs, remains, wide, too_many, counted}
-use Rattle.shadow_elim.specs.Points.{Outcome, chosen, too_wide, too_many_rows, upper_bound, lower_bound, lower_floor, greatest_value, with_value, outcome_after, outcome}
+use Rattle.shadow_elim.specs.Points.{chosen, too_wide, too_many_rows, upper_bound, lower_bound, lower_floor, greatest_value, with_value, outcome_after, outcome}
 use Rattle.shadow_elim.specs.declared.limit.TheConstants.{MAX_ROWS}
 use Rattle.shadow_elim.proofs.Exact.{HasRange}
 use Rattle.shadow_elim.proofs.Keeping.{IsPairOf, IsFreeIn, IsMadeOf, IsAfter, among-pairs, pairs-among}

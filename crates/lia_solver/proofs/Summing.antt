@@ -15,11 +15,11 @@ use Rattle.shadow_elim.specs.declared.limit.TheConstants.{MAX_ROWS}
 use Rattle.shadow_elim.proofs.Members.{Among, contains-among, among-contains}
 use Rattle.lia_solver.specs.declared.table.Origin.{Origin}
 use Rattle.lia_solver.specs.declared.table.Origin.TheVariants.{Made}
-use Rattle.lia_solver.specs.steps.Entries.{Entry, entry_at, sum_at, making_of, bounds_above, bounds_below, ArePaired}
-use Rattle.lia_solver.specs.steps.Tables.{starts_from, sums_of, live, is_passed, passed, IsHeld, IsPut, AreRows, IsGrown, IsSummed, AreLowerPlaces, AreNarrow, HasWide, IsBehind, IsOverfull}
+use Rattle.lia_solver.specs.steps.Entries.{Entry, sum_at, making_of, bounds_above, ArePaired}
+use Rattle.lia_solver.specs.steps.Tables.{starts_from, live, is_passed, passed, IsHeld, IsPut, AreRows, IsGrown, IsSummed, AreLowerPlaces, AreNarrow, HasWide, IsBehind, IsOverfull}
 use Rattle.lia_solver.proofs.PairSumsInCode.{row_of, row-same}
-use Rattle.lia_solver.proofs.FirstColumns.{above-starts, sum-starts}
-use Rattle.lia_solver.proofs.Growing.{grown-start, grown-put, grown-then, held-put, held-then, paired-back, paired-forth, upper-stays, lower-stays, summed-then, lowers-then}
+use Rattle.lia_solver.proofs.FirstColumns.{sum-starts}
+use Rattle.lia_solver.proofs.Growing.{grown-start, grown-put, grown-then, held-put, paired-back, paired-forth, upper-stays, lower-stays, summed-then}
 
 no_way : true ≡ false → ⊥
 no_way h = cc
@@ -167,7 +167,8 @@ pub pair-term : (x : ℕ) (entries : List Entry) (u l : ℕ) → ArePaired x ent
     IsTrue (is_within (pair_sum x (sum_at entries u, sum_at entries l))) →
     IsTrue (is_term (tightened (pair_sum x (sum_at entries u, sum_at entries l))))
 pair-term x entries u l p w =
-    (sum-starts x (sum_at entries u) (sum_at entries l) (p.terms.greatest u p.upper_place) (p.terms.greatest l p.lower_place) p.above p.below
+    (sum-starts x (sum_at entries u) (sum_at entries l) (p.terms.greatest u p.upper_place) (p.terms.greatest l p.lower_place) p.above
+    p.below
     w).0
 
 pub row-cast : (s : LinearSum) (ps qs : List (ℕ × ℤ)) (c : ℤ) → row_of ps c ≡ s → IsTrue (is_term s) → qs ≡ ps →
@@ -258,7 +259,8 @@ pub live-count : (x : ℕ) (entries : List Entry) → length (live x entries) + 
 live-count x [] = refl
 live-count x (e ∷ es) = by_test (starts_from x e.sum.parts) (live-count x es) where
   by_test : (b : Bool) → length (live x es) + passed x es ≡ length es →
-      length (if b then (e.sum ∷ live x es) else live x es) + length (if not b then (e ∷ filter (is_passed x) es) else filter (is_passed x) es)
+      length (if b then (e.sum ∷ live x es) else live x es) + length (if not b then (e ∷ filter (is_passed x) es) else filter (is_passed x)
+      es)
       ≡ suc (length es)
   by_test true h = omega (arith, h)
   by_test false h = omega (arith, h)

@@ -1,13 +1,13 @@
 -- The entries that the lines of a table stand for.
-use Rattle.std.proofs.Common.{◌≡◌, ◌⊎◌, inl, inr, ℕ, ◌<◌, ◌+◌, Bool, true, false, Option, None, Some, List, [], ◌∷◌, ◌++◌, length, map, get_or, set, ℤ, arith, refl, sym, ap, subst, ◌∙◌}
+use Rattle.std.proofs.Common.{◌≡◌, inl, inr, ℕ, ◌<◌, Bool, true, false, Option, None, Some, List, [], ◌∷◌, ◌++◌, length, get_or, set, ℤ, arith, refl, sym, ap, subst, ◌∙◌}
 use Rattle.std.specs.Int.{int_min}
 use Rattle.std.specs.Prelude.{MatchOption, int_lt, if◌then◌else◌}
-use Rattle.std.proofs.lemmas.List.{get_or-map, get_or_default, length-map, map-append, map-set}
+use Rattle.std.proofs.lemmas.List.{get_or-map, length-map, map-append, map-set}
 use Rattle.linear_formula.specs.LinearSum.{LinearSum}
 use Rattle.lia_solver.specs.declared.table.Line.{Line}
 use Rattle.lia_solver.specs.declared.table.Origin.{Origin}
 use Rattle.lia_solver.specs.steps.Entries.{Entry, entry_of, joined, IsAdded}
-use Rattle.lia_solver.specs.steps.Lines.{parts_of_line, entries_of, parts_at, joined_line, AreInChains, AreLines}
+use Rattle.lia_solver.specs.steps.Lines.{parts_of_line, entries_of, parts_at, joined_line, AreInChains}
 use Rattle.lia_solver.proofs.Chains.{no_line, map-more, range-more, parts-map, IsLastLine, last-parts}
 
 abbrev pub entry_of_line : List (ℕ × ℤ) → Line → Entry
@@ -33,7 +33,11 @@ joined-entry pool l t o e = by_test (int_lt l.constant t.constant) where
       entry_of_line pool (if b then record l { constant = t.constant; least = int_min l.least t.constant; origin = o }
       else record l { least = int_min l.least t.constant })
       ≡ (if b then record { sum = t; least = int_min l.least t.constant; origin = o }
-      else record { sum = record { parts = parts_of_line pool l; constant = l.constant }; least = int_min l.least t.constant; origin = l.origin })
+      else record {
+        sum = record { parts = parts_of_line pool l; constant = l.constant };
+        least = int_min l.least t.constant;
+        origin = l.origin;
+      })
   by_test true = λ i. record {
     sum = record { parts = e i; constant = t.constant };
     least = int_min l.least t.constant;
@@ -65,7 +69,8 @@ pub added-new : (pool : List (ℕ × ℤ)) (lines : List Line) (heads : List ℕ
     IsLastLine pool t.parts heads l → l.constant ≡ t.constant → l.least ≡ t.constant → l.origin ≡ o →
     IsAdded t o old (entries_of (pool ++ t.parts) (lines ++ l ∷ []))
 added-new pool lines heads old t o l v c n h e f g = inr (record {
-  other = λ i x k d. n i (inside i k) (sym (entry-parts pool lines i x (inside i k)) ∙ ap (λ (es : List Entry). (get_or es i x).sum.parts) v ∙ d);
+  other = λ i x k d. n i (inside i k) (sym (entry-parts pool lines i x (inside i k)) ∙ ap (λ (es : List Entry). (get_or es i x).sum.parts) v
+      ∙ d);
   pushed = map-append (entry_of_line all) lines (l ∷ []) ∙ ap (λ (es : List Entry). es ++ entry_of_line all l ∷ []) (same ∙ v)
       ∙ ap (λ (x : Entry). old ++ x ∷ []) whole;
 }) where

@@ -58,15 +58,10 @@ fn floor_quotient(number: i128, divisor: u64) -> i128
 
 impl Bounds {
     /// The bounds with one more row.
-    fn with_row(
-        self,
-        column: u32,
-        parts: &[(u32, i128)],
-        constant: i128,
-        at: &Assignment,
-    ) -> Bounds
+    fn with_row(self, column: u32, parts: &[(u32, i128)], constant: i128, at: &Assignment) -> Bounds
         requires { IsTrue (is_term (record { parts = parts.now; constant = constant })) }
-        ensures { result ≡ with_row column at.now (record { parts = parts.now; constant = constant })
+        ensures { result ≡ with_row column at.now
+            (record { parts = parts.now; constant = constant })
             self }
     {
         if bounds_above(column, parts) {

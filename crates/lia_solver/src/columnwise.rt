@@ -1,10 +1,9 @@
 //! What the rows of a table come to: one column after another is eliminated, and then the columns
 //! get values, the last one first.
 
-ghost use Rattle.std.specs.Prelude.{◌≡◌, ◌+◌, ◌<◌, ◌≤ℤ◌, ◌<ℤ◌, ◌∷◌, ℕ, MatchOption, [], length, int_lt, IfOk, IsTrue};
+ghost use Rattle.std.specs.Prelude.{◌≡◌, ◌+◌, ◌<◌, ◌≤ℤ◌, ◌<ℤ◌, ℕ, [], int_lt, IfOk, IsTrue};
 ghost use Rattle.linear_formula.specs.LinearSum.{is_ascending_from};
 ghost use Rattle.shadow_elim.specs.Points.{outcome, least_value, greatest_value, nearest};
-ghost use Rattle.lia_solver.specs.steps.Entries.{sum_at};
 ghost use Rattle.lia_solver.specs.steps.Solved.{high_in, low_in, floor_in, extended_in, outcome_by, AreReady, IsChosenIn};
 ghost use Rattle.lia_solver.specs.steps.Tables.{live, AreRows};
 

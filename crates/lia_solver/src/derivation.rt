@@ -1,6 +1,6 @@
 //! The derived rows that a contradiction needs.
 
-ghost use Rattle.std.specs.Prelude.{◌≡◌, ◌<◌, ◌+◌, ◌^◌, ◌∷◌, ◌++◌, [], List, length, slice_set, slice_index_or, IfOk, OnOk, IsTrue};
+ghost use Rattle.std.specs.Prelude.{◌≡◌, ◌<◌, ◌+◌, ◌^◌, ◌∷◌, ◌++◌, [], List, length, slice_set, IfOk, OnOk, IsTrue};
 ghost use Rattle.linear_formula.specs.LinearSum.{LinearSum};
 ghost use Rattle.infeasible_cert.specs.declared.certificate.Derived.{Derived};
 ghost use Rattle.infeasible_cert.specs.Right.{row_at, rows_after, AreRightSteps, EndsInContradiction};
@@ -52,7 +52,10 @@ fn step(
     ensures terms { IfOk result (λ d. AreDerivedTerms (d ∷ [])) }
 {
     let _ = row.term.parts();
-    let parts = vec![in alloc; (upper, making.upper_multiple), (lower, making.lower_multiple)]?;
+    let parts = vec![in alloc;
+        (upper, making.upper_multiple),
+        (lower, making.lower_multiple),
+    ]?;
     Ok(Derived {
         row,
         parts: Multiples::from_vec(parts),
@@ -109,12 +112,7 @@ impl Derivation {
     /// The number of the row at a place, which is derived where it is new. The recursion is as deep
     /// as there are columns.
     #[cycle(derive)]
-    fn number(
-        &mut self,
-        alloc: Global,
-        table: &Table,
-        place: usize,
-    ) -> Result<u32, OutOfMemory>
+    fn number(&mut self, alloc: Global, table: &Table, place: usize) -> Result<u32, OutOfMemory>
         requires rows { AreRows table.now }
         requires place { place < length table.now }
         requires founded { (base : List LinearSum) × IsFounded base table.now self.old }

@@ -1,6 +1,6 @@
 //! The elimination of a column from a table.
 
-ghost use Rattle.std.specs.Prelude.{◌≡◌, ◌<◌, ◌+◌, true, false, length, Contains, IfOk, OnOk, IsTrue, List, ℕ};
+ghost use Rattle.std.specs.Prelude.{◌≡◌, ◌<◌, ◌+◌, true, false, length, Contains, IfOk, OnOk, IsTrue, ℕ};
 ghost use Rattle.linear_formula.specs.LinearSum.{is_within};
 ghost use Rattle.linear_formula.specs.steps.Order.{AllWithin};
 ghost use Rattle.shadow_elim.specs.Elimination.{pair_sum};
@@ -227,7 +227,11 @@ fn add_all(
         }
         if table.len() - passed > MAX_ROWS {
             let narrow = are_all_narrow(parts, column, table, lowers)?;
-            return Ok(if narrow { Eliminated::Rows } else { Eliminated::Wide });
+            return Ok(if narrow {
+                Eliminated::Rows
+            } else {
+                Eliminated::Wide
+            });
         }
     }
     if table.len() - passed > MAX_ROWS {
@@ -237,11 +241,7 @@ fn add_all(
 }
 
 /// Eliminates the column: the rows that follow from the pairs of its rows are added.
-pub fn eliminate(
-    work: &mut Work,
-    table: &mut Table,
-    column: u32,
-) -> Result<Eliminated, OutOfMemory>
+pub fn eliminate(work: &mut Work, table: &mut Table, column: u32) -> Result<Eliminated, OutOfMemory>
     requires { AreRows table.old }
     ensures { IfOk result (λ p. IsLeft column table.old table.new p) }
 {

@@ -16,13 +16,13 @@ pub record IsNumbered (rows : List LinearSum) (n : ℕ) (t : LinearSum) : Type 0
 
 -- each step follows, and rows that have a number are found under it
 pub record IsDerivation (base : List LinearSum) (entries : List Entry) (d : Derivation) : Type 0
-    where
-  pub first : length base ≡ d.first
-  pub count : length d.numbers.items ≡ length entries
-  pub right : AreRightSteps base d.steps.items
-  pub terms : AreDerivedTerms d.steps.items
-  pub found : (i n : ℕ) → slice_index_or d.numbers.items i 0 ≡ n + 1 →
-      IsNumbered (rows_after base d.steps.items) n (sum_at entries i)
+  where
+    pub first : length base ≡ d.first
+    pub count : length d.numbers.items ≡ length entries
+    pub right : AreRightSteps base d.steps.items
+    pub terms : AreDerivedTerms d.steps.items
+    pub found : (i n : ℕ) → slice_index_or d.numbers.items i 0 ≡ n + 1 →
+        IsNumbered (rows_after base d.steps.items) n (sum_at entries i)
 
 -- what a derivation stands on
 pub record IsFounded (base : List LinearSum) (entries : List Entry) (d : Derivation) : Type 0 where

@@ -1,5 +1,5 @@
 -- What the rows of a table come to, column by column.
-use Rattle.std.specs.Prelude.{◌≡◌, ℕ, ◌+◌, ◌^◌, ◌<◌, ◌≤◌, true, List, [], ◌∷◌, length, map, filter, IsTrue, Contains, All, ℤ, pos, neg_ℤ, int_le, ◌<ℤ◌, if◌then◌else◌}
+use Rattle.std.specs.Prelude.{◌≡◌, ℕ, ◌+◌, ◌^◌, ◌<◌, ◌≤◌, true, List, ◌∷◌, length, map, filter, IsTrue, Contains, All, ℤ, pos, neg_ℤ, int_le, ◌<ℤ◌, if◌then◌else◌}
 use Rattle.linear_formula.specs.LinearSum.{LinearSum, coefficient, is_ascending_from}
 use Rattle.infeasible_cert.specs.Right.{row_at}
 use Rattle.shadow_elim.specs.Division.{floor_quotient, ceiling_quotient}
@@ -76,7 +76,8 @@ IsOf base low entries e (Made m) = IsMadeEarlier low entries e
 
 abbrev pub HaveOrigins : List LinearSum → ℕ → List Entry → Type 0
 HaveOrigins base low entries =
-    (i : ℕ) → i < length entries → IsOf base low entries (entry_at entries i) (entry_at entries i).origin
+    (i : ℕ) → i < length entries → IsOf base low entries (entry_at entries i)
+    (entry_at entries i).origin
 
 -- the rows that the values were found by stand, and the earlier ones stand where they stood
 pub record AreKept (columns : List ℕ) (old new : List Entry) : Type 0 where

@@ -9,7 +9,7 @@ use Rattle.lia_solver.specs.declared.eliminate.Eliminated.{Eliminated}
 use Rattle.lia_solver.specs.declared.eliminate.Eliminated.TheVariants.{Done, Wide, Rows}
 use Rattle.lia_solver.specs.declared.table.Origin.{Origin}
 use Rattle.lia_solver.specs.declared.table.Origin.TheVariants.{Made}
-use Rattle.lia_solver.specs.steps.Entries.{Entry, entry_at, sum_at, making_of, bounds_above, bounds_below, IsAdded, AreTermEntries, ArePaired}
+use Rattle.lia_solver.specs.steps.Entries.{Entry, entry_at, sum_at, making_of, bounds_below, IsAdded, AreTermEntries, ArePaired}
 
 -- the row names no column before x
 abbrev pub starts_from : ℕ → List (ℕ × ℤ) → Bool
@@ -33,12 +33,14 @@ passed x entries = length (filter (is_passed x) entries)
 
 -- the row always holds, or one with its coefficients is as strong
 abbrev pub IsHeld : LinearSum → List Entry → Type 0
-IsHeld t entries = (is_trivial t ≡ true) ⊎ ((i : ℕ) × (i < length entries) × ((sum_at entries i).parts ≡ t.parts)
+IsHeld t entries = (is_trivial t ≡ true)
+    ⊎ ((i : ℕ) × (i < length entries) × ((sum_at entries i).parts ≡ t.parts)
     × (t.constant ≤ℤ (sum_at entries i).constant))
 
 -- the row is added, unless it always holds
 abbrev pub IsPut : LinearSum → Origin → List Entry → List Entry → Type 0
-IsPut t o old new = ((is_trivial t ≡ true) × (new ≡ old)) ⊎ ((is_trivial t ≡ false) × IsAdded t o old new)
+IsPut t o old new = ((is_trivial t ≡ true) × (new ≡ old))
+    ⊎ ((is_trivial t ≡ false) × IsAdded t o old new)
 
 -- rows of which no two have the same coefficients, and each can fail
 pub record AreRows (entries : List Entry) : Type 0 where

@@ -1,4 +1,4 @@
-use Rattle.std.proofs.Common.{◌≡◌, FitsSigned, to_z, of_z, to_z-of_z, arith, rules, ap, ◌∙◌}
+use Rattle.std.proofs.Common.{FitsSigned, to_z, of_z, to_z-of_z, arith, rules, ap, ◌∙◌}
 use Rattle.std.specs.Int.{w128}
 use Rattle.linear_formula.specs.LinearSum.{LinearSum}
 use Rattle.lia_solver.specs.steps.Bounded.{with_row}

@@ -1,9 +1,8 @@
-use Rattle.std.proofs.Common.{◌≡◌, ◌∙◌, ◌+◌, ◌^◌, ◌<◌, ◌∷◌, ℕ, List, get_or, Fits, w32, arith, rules, sym, ap, subst}
-use Rattle.std.specs.Prelude.{IsTrue, ◌<ℤ◌, int_lt}
+use Rattle.std.proofs.Common.{◌≡◌, ◌∙◌, ◌+◌, ◌^◌, ◌<◌, ℕ, get_or, Fits, w32, arith, rules, sym, ap, subst}
 use Rattle.std.proofs.lemmas.Result.{IfOk-weaker}
-use Rattle.shadow_elim.specs.Points.{Outcome, chosen, too_wide, too_many_rows, greatest_value, outcome}
+use Rattle.shadow_elim.specs.Points.{too_wide, too_many_rows, outcome}
 use Rattle.lia_solver.specs.declared.columnwise.Chosen.{Chosen}
-use Rattle.lia_solver.specs.steps.Solved.{high_in, low_in, floor_in, extended_in, outcome_by, AreReady, IsChosenIn}
+use Rattle.lia_solver.specs.steps.Solved.{extended_in, outcome_by, AreReady, IsChosenIn}
 use Rattle.lia_solver.specs.steps.Tables.{live, IsBehind, HasWide, IsOverfull, IsLeft}
 use Rattle.lia_solver.proofs.Extending.{column-values, values-sides, column-passed, extended-found}
 use Rattle.lia_solver.proofs.OneColumn.{wide-is, overfull-is, ready-next, values-above, kept-next, found-passed}

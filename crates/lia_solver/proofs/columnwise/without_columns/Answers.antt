@@ -1,8 +1,8 @@
-use Rattle.std.proofs.Common.{◌≡◌, ◌∙◌, [], sym, ap}
+use Rattle.std.proofs.Common.{◌∙◌, [], sym, ap}
 use Rattle.std.specs.Prelude.{if◌then◌else◌}
 use Rattle.shadow_elim.specs.Points.{chosen, refuted}
 use Rattle.lia_solver.specs.steps.Entries.{no_entry}
-use Rattle.lia_solver.proofs.OneColumn.{bare-contradiction, bare-none, bare-refuted}
+use Rattle.lia_solver.proofs.OneColumn.{bare-contradiction, bare-none}
 use Rattle.lia_solver.proofs.columnwise.without_columns.Goals as goal
 
 pub returns-in-Some-clause-plan : goal.returns-in-Some-clause-plan

@@ -1,4 +1,4 @@
-use Rattle.std.proofs.Common.{◌≡◌, ◌∙◌, ℕ, replicate, ap}
+use Rattle.std.proofs.Common.{◌∙◌, ℕ, replicate, ap}
 use Rattle.lia_solver.specs.declared.derivation.Derivation.{Derivation}
 use Rattle.lia_solver.proofs.Deriving.{derivation-none}
 use Rattle.lia_solver.proofs.derivation.derived.Goals as goal

@@ -1,4 +1,3 @@
-use Rattle.std.proofs.lemmas.Result.{IfOk-weaker}
 use Rattle.lia_solver.proofs.Renumbering.{both-hold, ends-in_contradiction}
 use Rattle.lia_solver.specs.steps.Entries.{sum_at}
 use Rattle.lia_solver.proofs.derivation.derived_contradiction.Goals as goal

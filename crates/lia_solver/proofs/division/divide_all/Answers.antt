@@ -1,4 +1,4 @@
-use Rattle.std.proofs.Common.{◌≡◌, ◌<◌, ◌+◌, suc, ℕ, ℤ, List, length, get_or, set, to_z, of_z, FitsSigned, add-one, arith, rules, sym, ap, subst, ◌∙◌}
+use Rattle.std.proofs.Common.{◌≡◌, ◌<◌, ℕ, ℤ, List, length, set, to_z, of_z, FitsSigned, add-one, arith, rules, sym, ap, ◌∙◌}
 use Rattle.std.specs.Int.{w128}
 use Rattle.linear_formula.proofs.Merging.{at}
 use Rattle.shadow_elim.specs.Division.{floor_quotient}

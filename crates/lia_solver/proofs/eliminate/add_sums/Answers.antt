@@ -1,4 +1,4 @@
-use Rattle.std.proofs.Common.{◌≡◌, ◌∙◌, ◌+◌, ◌<◌, length, get_or, Err, to_z, of_z, arith, refl, sym, ap, subst}
+use Rattle.std.proofs.Common.{get_or, Err, to_z, of_z, refl, ap}
 use Rattle.std.specs.Int.{w128}
 use Rattle.lia_solver.specs.declared.table.Origin.TheVariants.{Made}
 use Rattle.lia_solver.specs.steps.Entries.{sum_at}

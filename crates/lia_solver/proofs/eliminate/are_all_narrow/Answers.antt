@@ -1,4 +1,4 @@
-use Rattle.std.proofs.Common.{◌≡◌, ◌∙◌, ap, sym}
+use Rattle.std.proofs.Common.{◌∙◌, ap, sym}
 use Rattle.lia_solver.specs.steps.Entries.{no_entry, bounds_above}
 use Rattle.lia_solver.proofs.Summing.{all-narrow-more, not-upper}
 use Rattle.lia_solver.proofs.eliminate.are_all_narrow.Goals as goal
@@ -12,5 +12,6 @@ loop-upper-preserved c =
           c.loop-upper.upper c.loop-upper.invariant
           (λ l p. w.in_ok-are_narrow.ensures.sums w.if-not-branch.false l (c.requires.lowers.all l p.lower_place p.below))
       | else-bounds_above-via-else-bounds_above w ↦ all-narrow-more c.args.column c.args.table.now c.loop-upper.upper
-          c.loop-upper.invariant (λ l p. not-upper c.args.column c.args.table.now c.loop-upper.upper l (sym test ∙ w.if-bounds_above.false) p)
+          c.loop-upper.invariant (λ l p. not-upper c.args.column c.args.table.now c.loop-upper.upper l (sym test ∙ w.if-bounds_above.false)
+          p)
     ]

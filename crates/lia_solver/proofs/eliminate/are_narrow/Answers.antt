@@ -1,5 +1,5 @@
-use Rattle.std.proofs.Common.{◌≡◌, ◌∙◌, get_or, Err, arith, refl, sym, ap, subst}
-use Rattle.lia_solver.proofs.Summing.{listed-there, paired-of, narrow-none, narrow-more, narrow-all}
+use Rattle.std.proofs.Common.{get_or, Err, ap}
+use Rattle.lia_solver.proofs.Summing.{listed-there, paired-of, narrow-more}
 use Rattle.lia_solver.proofs.eliminate.are_narrow.Goals as goal
 
 pub combine-requires : goal.combine-requires

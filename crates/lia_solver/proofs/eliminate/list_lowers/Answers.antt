@@ -1,4 +1,4 @@
-use Rattle.std.proofs.Common.{◌≡◌, ◌∙◌, ◌+◌, ◌<◌, length, ℕ, Vec, Global, arith, sym, ap, subst}
+use Rattle.std.proofs.Common.{◌∙◌, ◌+◌, ◌<◌, length, ℕ, Vec, Global, arith, sym, ap, subst}
 use Rattle.lia_solver.specs.steps.Entries.{no_entry, bounds_below}
 use Rattle.lia_solver.proofs.Lowers.{AreLowersTo, lowers-push, lowers-skip, lowers-all}
 use Rattle.lia_solver.proofs.eliminate.list_lowers.Goals as goal

@@ -1,4 +1,3 @@
-use Rattle.std.proofs.Common.{length}
 use Rattle.lia_solver.proofs.Lowers.{AreLowersTo}
 use Rattle.lia_solver.proofs.eliminate.list_lowers.Given as goal
 

@@ -1,4 +1,4 @@
-use Rattle.std.proofs.Common.{◌≡◌, ◌∙◌, ◌+◌, ◌<◌, length, ◌^◌, arith, sym, ap, subst}
+use Rattle.std.proofs.Common.{◌∙◌, ◌+◌, ◌<◌, length, arith, sym, ap}
 use Rattle.lia_solver.specs.steps.Entries.{no_entry}
 use Rattle.lia_solver.specs.steps.Tables.{starts_from}
 use Rattle.lia_solver.proofs.Lowers.{passed-one, passed-none, passed-limit, passed-all}
@@ -7,8 +7,14 @@ use Rattle.lia_solver.proofs.eliminate.passed.Goals.{then-not-starts_beyond, els
 
 pub overflow_add-count : goal.overflow_add-count
 overflow_add-count c =
-    omega (arith, c.loop-place.invariant, c.loop-place-test.true, c.len-place-end.ensures, c.len-place-end.type_inv,
-      passed-limit (c.args.column + 1) c.args.table.now c.loop-place.place (omega (arith, c.loop-place-test.true, c.len-place-end.ensures)))
+    omega (
+      arith,
+      c.loop-place.invariant,
+      c.loop-place-test.true,
+      c.len-place-end.ensures,
+      c.len-place-end.type_inv,
+      passed-limit (c.args.column + 1) c.args.table.now c.loop-place.place (omega (arith, c.loop-place-test.true, c.len-place-end.ensures)),
+    )
 
 pub loop-place-preserved : goal.loop-place-preserved
 loop-place-preserved c =

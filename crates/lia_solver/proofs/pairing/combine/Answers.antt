@@ -1,4 +1,4 @@
-use Rattle.std.proofs.Common.{◌≡◌, ◌≤◌, ◌^◌, true, false, ℤ, pos, inl, FitsSigned, to_z, of_z, to_z-of_z, arith, rules, sym, ap, subst, ◌∙◌}
+use Rattle.std.proofs.Common.{pos, FitsSigned, to_z-of_z, arith, rules, sym, ap, subst, ◌∙◌}
 use Rattle.std.specs.Int.{w128}
 use Rattle.std.specs.Prelude.{IsTrue}
 use Rattle.std.proofs.lemmas.Result.{err_from_is_err_and}

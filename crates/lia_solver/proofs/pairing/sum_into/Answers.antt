@@ -1,9 +1,9 @@
-use Rattle.std.proofs.Common.{◌≡◌, ◌≤◌, ◌^◌, ◌+ℤ◌, ◌*ℤ◌, ℕ, ℤ, List, [], length, to_z, of_z, FitsSigned, w64, to_z-of_z, arith, rules, refl, sym, ap, subst, ◌∙◌}
+use Rattle.std.proofs.Common.{◌≡◌, ◌≤◌, ◌^◌, ◌+ℤ◌, ◌*ℤ◌, ℕ, ℤ, List, [], length, to_z, of_z, FitsSigned, w64, arith, rules, sym, ap, subst, ◌∙◌}
 use Rattle.std.specs.Int.{w128}
 use Rattle.std.specs.Prelude.{IsTrue, unsigned_abs}
 use Rattle.std.proofs.lemmas.Int.{ints}
 use Rattle.std.proofs.lemmas.Result.{err_from_is_err_and}
-use Rattle.linear_formula.specs.LinearSum.{LinearSum, is_term, is_within}
+use Rattle.linear_formula.specs.LinearSum.{is_term}
 use Rattle.linear_formula.specs.steps.Order.{AllWithin}
 use Rattle.linear_formula.specs.Results.{plus_parts}
 use Rattle.linear_formula.proofs.Exits.{was_wide}
@@ -47,8 +47,14 @@ returns-then-len-gt-MAX_PARTS-clause-wide c = λ w h.
     (first_is c.args.second c.from-2.result g c.from-2.ensures) in
     let count = (Within-from_test (sum_of_two c.args.first (row_of c.args.left.now c.args.left_constant) c.args.second
     (row_of c.args.right.now c.args.right_constant)) h).count in
-    omega (arith, c.if-len-gt-MAX_PARTS.true, c.len.ensures, c.merge_into.new.out.ok.0, count,
-      ap (λ (ps : List (ℕ × ℤ)). length ps) (c.in_ok-merge_into.ensures.items ∙ same))
+    omega (
+      arith,
+      c.if-len-gt-MAX_PARTS.true,
+      c.len.ensures,
+      c.merge_into.new.out.ok.0,
+      count,
+      ap (λ (ps : List (ℕ × ℤ)). length ps) (c.in_ok-merge_into.ensures.items ∙ same),
+    )
 
 pub sum_of-requires-clause-right_limit : goal.sum_of-requires-clause-right_limit
 sum_of-requires-clause-right_limit c =

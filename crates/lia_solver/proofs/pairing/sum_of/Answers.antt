@@ -1,4 +1,4 @@
-use Rattle.std.proofs.Common.{◌≡◌, ◌≤◌, ◌^◌, ◌+ℤ◌, ◌*ℤ◌, FitsSigned, to_z, of_z, w64, to_z-of_z, arith, rules, sym, subst, ◌∙◌, ℤ}
+use Rattle.std.proofs.Common.{◌≡◌, ◌≤◌, ◌^◌, FitsSigned, w64, to_z-of_z, arith, rules, sym, subst, ◌∙◌, ℤ}
 use Rattle.std.specs.Prelude.{unsigned_abs}
 use Rattle.linear_formula.proofs.Finishing.{fits_both_constants}
 use Rattle.std.proofs.lemmas.Int.{ints}

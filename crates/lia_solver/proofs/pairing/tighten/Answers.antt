@@ -18,7 +18,8 @@ lt_true : (a b : ℕ) → a < b → nat_lt a b ≡ true
 lt_true a b h = grind (arith, nat_tests)
 
 -- the divisor of a row that is divided
-divided-by : (ps : List (ℕ × ℤ)) (c : ℤ) (now : List (ℕ × ℤ)) (d : ℕ) → now ≡ ps → d ≡ parts_divisor now → 1 < d → d ≡ row_divisor (row_of ps c)
+divided-by : (ps : List (ℕ × ℤ)) (c : ℤ) (now : List (ℕ × ℤ)) (d : ℕ) → now ≡ ps → d ≡ parts_divisor now → 1 < d →
+    d ≡ row_divisor (row_of ps c)
 divided-by ps c now d e f h =
     let same : d ≡ parts_divisor ps = f ∙ ap parts_divisor e in
     same ∙ sym (ap (λ (b : Bool). if b then parts_divisor ps else 1) (lt_true 1 (parts_divisor ps) (omega (arith, h, same))))

@@ -1,11 +1,11 @@
-use Rattle.std.proofs.Common.{◌≡◌, ◌∙◌, ◌+◌, ◌<◌, ◌-◌, ◌++◌, ◌∷◌, [], ℕ, List, length, set, get_or, arith, refl, sym, ap, subst}
+use Rattle.std.proofs.Common.{◌≡◌, ◌∙◌, ◌<◌, ◌-◌, ◌++◌, ◌∷◌, [], ℕ, List, length, arith, sym}
 use Rattle.std.proofs.lemmas.List.{get_or_default}
 use Rattle.linear_formula.specs.LinearSum.{LinearSum}
 use Rattle.infeasible_cert.specs.declared.certificate.Derived.{Derived}
 use Rattle.infeasible_cert.specs.Right.{rows_after}
-use Rattle.lia_solver.specs.steps.Deriving.{IsNumbered, IsFounded, EndWith}
-use Rattle.lia_solver.specs.steps.Entries.{no_entry, entry_at, sum_at}
-use Rattle.lia_solver.proofs.Deriving.{parts-of, given-of, numbered-given, IsNext, next-founded, next-numbered, later-then, ok-two, ok-one, ok-value}
+use Rattle.lia_solver.specs.steps.Deriving.{IsNumbered, IsFounded}
+use Rattle.lia_solver.specs.steps.Entries.{no_entry, sum_at}
+use Rattle.lia_solver.proofs.Deriving.{parts-of, given-of, numbered-given, next-founded, next-numbered, later-then, ok-two, ok-one, ok-value}
 use Rattle.lia_solver.proofs.derivation.Derivation.+derive.Goals as goal
 
 pub derive-number-requires : goal.derive-number-requires
@@ -61,7 +61,8 @@ derive-returns-clause-later t c =
     (λ steps.
     let both = later-then c.args.self.now.steps.items c.number.new.self.steps.items c.number-2.new.self.steps.items first.0 second.0 first.1
     second.1 in
-    later-then c.args.self.now.steps.items c.number-2.new.self.steps.items c.push.new.self.steps.items both.0 (c.in_ok-step.step ∷ []) both.1
+    later-then c.args.self.now.steps.items c.number-2.new.self.steps.items c.push.new.self.steps.items both.0 (c.in_ok-step.step ∷ [])
+    both.1
     steps) c.push.ensures.steps
 
 pub number-returns-then-known-gt0-clause-number : goal.number-returns-then-known-gt0-clause-number
