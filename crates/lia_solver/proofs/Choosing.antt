@@ -106,7 +106,7 @@ pub record IsFirst (s : Stage) (ss : List Stage) : Type 0 where
   pub named : NamesOnly (column ∷ columns) rows
   pub possible : IsTrue (not (list_any is_contradiction left))
 
-ranged-from : (rows : List LinearSum) (x : ℕ) → HasRange rows x → IsRanged x rows
+pub ranged-from : (rows : List LinearSum) (x : ℕ) → HasRange rows x → IsRanged x rows
 ranged-from rows x h = record {
   upper = (h.0.0, contains-among rows h.0.0 h.0.1, record { parts = h.0.2; constant = h.0.3 });
   lower = (h.1.0, contains-among rows h.1.0 h.1.1, record { parts = h.1.2; constant = h.1.3 });

@@ -271,7 +271,7 @@ abbrev pub SameFirst : List ℕ → List LinearSum → List LinearSum → Type 0
 SameFirst [] rows others = Unit {0}
 SameFirst (x ∷ xs) rows others = SameWidth x rows others
 
-first-strongest : (xs : List ℕ) (rows others : List LinearSum) → AreStrongest rows → AreStrongest others → Covers rows others →
+pub first-strongest : (xs : List ℕ) (rows others : List LinearSum) → AreStrongest rows → AreStrongest others → Covers rows others →
     Covers others rows → SameFirst xs rows others
 first-strongest [] rows others h k c d = tt
 first-strongest (x ∷ xs) rows others h k c d = width-strongest x rows others h k c d

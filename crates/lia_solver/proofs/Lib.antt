@@ -8,6 +8,16 @@ pub mod Starting
 pub mod Closing
 pub mod Sides
 pub mod Solving
+pub mod Adding
+pub mod Growing
+pub mod Lowers
+pub mod Summing
+pub mod Bounded
+pub mod Stepping
+pub mod Behind
+pub mod Extending
+pub mod OneColumn
+pub mod Deriving
 pub mod Asking
 pub mod Branching
 pub mod Settling
@@ -20,3 +30,6 @@ pub mod Merging
 pub mod BranchRows
 pub mod Chains
 pub mod TableEntries
+pub mod DividedParts
+pub mod FirstColumns
+pub mod PairSumsInCode

@@ -1,7 +1,7 @@
 -- The entries that the lines of a table stand for.
-use Rattle.std.proofs.Common.{◌≡◌, inl, inr, ℕ, ◌<◌, Bool, true, false, List, [], ◌∷◌, ◌++◌, length, get_or, set, ℤ, arith, refl, sym, ap, subst, ◌∙◌}
+use Rattle.std.proofs.Common.{◌≡◌, inl, inr, ℕ, ◌<◌, Bool, true, false, Option, None, Some, List, [], ◌∷◌, ◌++◌, length, get_or, set, ℤ, arith, refl, sym, ap, subst, ◌∙◌}
 use Rattle.std.specs.Int.{int_min}
-use Rattle.std.specs.Prelude.{int_lt, if◌then◌else◌}
+use Rattle.std.specs.Prelude.{MatchOption, int_lt, if◌then◌else◌}
 use Rattle.std.proofs.lemmas.List.{get_or-map, length-map, map-append, map-set}
 use Rattle.linear_formula.specs.LinearSum.{LinearSum}
 use Rattle.lia_solver.specs.declared.table.Line.{Line}
@@ -93,3 +93,27 @@ added-new pool lines heads old t o l v c n h e f g = inr (record {
     least = f i;
     origin = g i;
   }
+
+-- a row without columns, as a search along its chain finds it
+pub bare-is : (pool items : List (ℕ × ℤ)) (lines found : List Line) (old : List Entry) (o : Option ℕ) → items ≡ pool → found ≡ lines →
+    entries_of pool lines ≡ old → MatchOption o ((i : ℕ) → i < length found → parts_at items found i ≡ [] → ⊥) (λ i. (i < length found)
+    × (parts_at items found i ≡ [])) → MatchOption o ((i : ℕ) (e : Entry) → i < length old → (get_or old i e).sum.parts ≡ [] → ⊥)
+    (λ i. (i < length old) × ((e : Entry) → (get_or old i e).sum.parts ≡ []))
+bare-is pool items lines found old o p l v m = by_option o m where
+  count : length found ≡ length old
+  count =
+      ap (λ (ls : List Line). length ls) l ∙ sym (length-map lines (entry_of_line pool)) ∙ ap (λ (es : List Entry). length es) v
+
+  parts : (i : ℕ) (e : Entry) → i < length old → (get_or old i e).sum.parts ≡ parts_at items found i
+  parts i e h =
+      ap (λ (es : List Entry). (get_or es i e).sum.parts) (sym v)
+      ∙ entry-parts pool lines i e (omega (arith, h, count, ap (λ (ls : List Line). length ls) l))
+      ∙ sym (ap (λ ls. parts_at items ls i) l ∙ ap (λ ps. parts_at ps lines i) p)
+
+  by_option : (q : Option ℕ) → MatchOption q ((i : ℕ) → i < length found → parts_at items found i ≡ [] → ⊥) (λ i. (i < length found)
+      × (parts_at items found i ≡ [])) → MatchOption q ((i : ℕ) (e : Entry) → i < length old → (get_or old i e).sum.parts ≡ [] → ⊥)
+      (λ i. (i < length old) × ((e : Entry) → (get_or old i e).sum.parts ≡ []))
+  by_option None h = λ i e k d. h i (omega (arith, k, count)) (sym (parts i e k) ∙ d)
+  by_option (Some i) h =
+      let inside : i < length old = omega (arith, h.0, count) in
+      (inside, λ e. parts i e inside ∙ h.1)

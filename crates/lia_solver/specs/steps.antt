@@ -1,7 +1,9 @@
 pub mod Asked
+pub mod Bounded
 pub mod Branches
 pub mod Buckets
 pub mod Choices
+pub mod Deriving
 pub mod Entries
 pub mod Further
 pub mod Lines
@@ -10,3 +12,5 @@ pub mod Numbers
 pub mod Pruned
 pub mod Searches
 pub mod Settling
+pub mod Solved
+pub mod Tables

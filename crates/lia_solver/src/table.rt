@@ -172,6 +172,17 @@ impl Table {
         self.lines[place].origin
     }
 
+    /// The place of the row without columns.
+    pub fn bare(&self) -> Option<usize>
+        ensures { MatchOption result
+            ((i : ℕ) (e : Entry) → i < length self.now →
+            (slice_index_or self.now i e).sum.parts ≡ [] → ⊥)
+            (λ i. (i < length self.now)
+            × ((e : Entry) → (slice_index_or self.now i e).sum.parts ≡ [])) }
+    {
+        find(&self.parts, &self.lines, self.heads[0], &[])
+    }
+
     /// Adds a row.
     pub fn add(
         &mut self,

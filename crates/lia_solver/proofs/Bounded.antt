@@ -1,0 +1,140 @@
+-- The bounds of a column, row by row.
+use Rattle.std.proofs.Common.{◌≡◌, ℕ, ◌<◌, ◌≤◌, ◌+◌, ◌==◌, ◌&&◌, Bool, true, false, List, [], ◌∷◌, ◌++◌, length, map, take, get_or, ℤ, pos, arith, refl, sym, ap, subst, ◌∙◌}
+use Rattle.std.specs.Int.{int_max, int_min}
+use Rattle.std.specs.Prelude.{IsTrue, filter, int_lt, unsigned_abs, if◌then◌else◌}
+use Rattle.std.proofs.lemmas.Int.{ints}
+use Rattle.std.proofs.lemmas.List.{take_more, take_all, map-append}
+use Rattle.std.proofs.lemmas.List.Elements.{filter-append}
+use Rattle.linear_formula.specs.LinearSum.{LinearSum}
+use Rattle.shadow_elim.specs.Elimination.{size_of}
+use Rattle.shadow_elim.specs.Points.{least_value, greatest_value, greatest_of, least_of}
+use Rattle.lia_solver.specs.declared.bounds.Bounds.{Bounds}
+use Rattle.lia_solver.specs.steps.Bounded.{with_row}
+use Rattle.lia_solver.specs.steps.Entries.{Entry, no_entry, entry_at, sum_at, bounds_above, bounds_below}
+use Rattle.lia_solver.specs.steps.Solved.{upper_of, lower_of, floor_of, high_in, low_in, floor_in}
+use Rattle.lia_solver.specs.steps.Tables.{sums_of}
+use Rattle.lia_solver.proofs.FirstColumns.{above-first, below-first}
+
+-- One row
+
+pub with-above : (x : ℕ) (values : List (ℕ × ℤ)) (t : LinearSum) (b : Bounds) → bounds_above x t.parts ≡ true → with_row x values t b
+    ≡ record b { high = int_min b.high (upper_of x values t) }
+with-above x values t b h = rw h refl
+
+pub with-below : (x : ℕ) (values : List (ℕ × ℤ)) (t : LinearSum) (b : Bounds) → bounds_above x t.parts ≡ false →
+    bounds_below x t.parts ≡ true → with_row x values t b
+    ≡ record b { low = int_max b.low (lower_of x values t); floor = int_max b.floor (floor_of x values t) }
+with-below x values t b h k = rw h (rw k refl)
+
+pub size-above : (x : ℕ) (t : LinearSum) → IsTrue (bounds_above x t.parts) → unsigned_abs (get_or t.parts 0 (0, pos 0)).1 ≡ size_of x t
+size-above x t h = ap unsigned_abs (above-first x t.parts h).first
+
+pub size-below : (x : ℕ) (t : LinearSum) → IsTrue (bounds_below x t.parts) → unsigned_abs (get_or t.parts 0 (0, pos 0)).1 ≡ size_of x t
+size-below x t h = ap unsigned_abs (below-first x t.parts h).first
+
+-- One more row
+
+least-more : (z : ℤ) (ys : List ℤ) (y : ℤ) → least_of z (ys ++ y ∷ []) ≡ int_min (least_of z ys) y
+least-more z [] y = refl
+least-more z (x ∷ ys) y = least-more (int_min z x) ys y
+
+greatest-more : (z : ℤ) (ys : List ℤ) (y : ℤ) → greatest_of z (ys ++ y ∷ []) ≡ int_max (greatest_of z ys) y
+greatest-more z [] y = refl
+greatest-more z (x ∷ ys) y = greatest-more (int_max z x) ys y
+
+-- the values of the rows that pass a test
+abbrev tested : (LinearSum → Bool) → (LinearSum → ℤ) → List Entry → List ℤ
+tested p f entries = map f (filter p (sums_of entries))
+
+tested-more : (p : LinearSum → Bool) (f : LinearSum → ℤ) (entries : List Entry) (n : ℕ) → n < length entries →
+    tested p f (take (n + 1) entries)
+    ≡ tested p f (take n entries) ++ map f (if p (sum_at entries n) then (sum_at entries n ∷ []) else [])
+tested-more p f entries n h =
+    ap (tested p f) (take_more entries n no_entry h)
+    ∙ ap (λ ts. map f (filter p ts)) (map-append (λ (e : Entry). e.sum) (take n entries) (entry_at entries n ∷ []))
+    ∙ ap (map f) (filter-append p (sums_of (take n entries)) (sum_at entries n ∷ []))
+    ∙ map-append f (filter p (sums_of (take n entries))) (filter p (sum_at entries n ∷ []))
+
+none : {X : Type 0} (xs : List X) → xs ++ [] ≡ xs
+none [] = refl
+none (x ∷ xs) = ap (λ ys. x ∷ ys) (none xs)
+
+tested-yes : (p : LinearSum → Bool) (f : LinearSum → ℤ) (entries : List Entry) (n : ℕ) → n < length entries → p (sum_at entries n) ≡ true →
+    tested p f (take (n + 1) entries) ≡ tested p f (take n entries) ++ f (sum_at entries n) ∷ []
+tested-yes p f entries n h k =
+    tested-more p f entries n h
+    ∙ ap (λ b. tested p f (take n entries) ++ map f (if b then (sum_at entries n ∷ []) else [])) k
+
+tested-no : (p : LinearSum → Bool) (f : LinearSum → ℤ) (entries : List Entry) (n : ℕ) → n < length entries → p (sum_at entries n) ≡ false →
+    tested p f (take (n + 1) entries) ≡ tested p f (take n entries)
+tested-no p f entries n h k =
+    tested-more p f entries n h
+    ∙ ap (λ b. tested p f (take n entries) ++ map f (if b then (sum_at entries n ∷ []) else [])) k ∙ none (tested p f (take n entries))
+
+-- the bounds by the first rows
+pub record AreBounds (x : ℕ) (values : List (ℕ × ℤ)) (entries : List Entry) (n : ℕ) (b : Bounds) : Type 0 where
+  pub low : b.low ≡ low_in x values (take n entries)
+  pub floor : b.floor ≡ floor_in x values (take n entries)
+  pub high : b.high ≡ high_in x values (take n entries)
+
+pub bounds-more : (x : ℕ) (values : List (ℕ × ℤ)) (entries : List Entry) (n : ℕ) (b c : Bounds) → n < length entries →
+    AreBounds x values entries n b → c ≡ with_row x values (sum_at entries n) b → AreBounds x values entries (n + 1) c
+bounds-more x values entries n b c h a e =
+    subst (AreBounds x values entries (n + 1)) (sym e)
+    (by_tests (bounds_above x t.parts) (bounds_below x t.parts) refl refl) where
+      t : LinearSum
+      t = sum_at entries n
+
+      above : LinearSum → Bool
+      above s = bounds_above x s.parts
+
+      below : LinearSum → Bool
+      below s = bounds_below x s.parts
+
+      both : bounds_above x t.parts ≡ true → bounds_below x t.parts ≡ false
+      both k = not_both x t.parts k where
+        not_both : (y : ℕ) (ps : List (ℕ × ℤ)) → bounds_above y ps ≡ true → bounds_below y ps ≡ false
+        not_both y [] q = refl
+        not_both y (p ∷ ps) q = signs (y == p.0) p.1 q where
+          signs : (d : Bool) (z : ℤ) → (d && int_lt (pos 0) z) ≡ true → (d && int_lt z (pos 0)) ≡ false
+          signs true z r = grind (arith, ints)
+          signs false z r = refl
+
+      by_tests : (p q : Bool) → bounds_above x t.parts ≡ p → bounds_below x t.parts ≡ q → AreBounds x values entries (n + 1)
+          (if p then record b { high = int_min b.high (upper_of x values t) } else (if q then record b {
+            low = int_max b.low (lower_of x values t);
+            floor = int_max b.floor (floor_of x values t);
+          } else b))
+      by_tests true q f g = record {
+        low = a.low ∙ sym (ap (greatest_of least_value) (tested-no below (lower_of x values) entries n h (both f)));
+        floor = a.floor ∙ sym (ap (greatest_of least_value) (tested-no below (floor_of x values) entries n h (both f)));
+        high = ap (λ z. int_min z (upper_of x values t)) a.high
+            ∙ sym (ap (least_of greatest_value) (tested-yes above (upper_of x values) entries n h f)
+            ∙ least-more greatest_value (tested above (upper_of x values) (take n entries)) (upper_of x values t));
+      }
+      by_tests false true f g = record {
+        low = ap (λ z. int_max z (lower_of x values t)) a.low
+            ∙ sym (ap (greatest_of least_value) (tested-yes below (lower_of x values) entries n h g)
+            ∙ greatest-more least_value (tested below (lower_of x values) (take n entries)) (lower_of x values t));
+        floor = ap (λ z. int_max z (floor_of x values t)) a.floor
+            ∙ sym (ap (greatest_of least_value) (tested-yes below (floor_of x values) entries n h g)
+            ∙ greatest-more least_value (tested below (floor_of x values) (take n entries)) (floor_of x values t));
+        high = a.high ∙ sym (ap (least_of greatest_value) (tested-no above (upper_of x values) entries n h f));
+      }
+      by_tests false false f g = record {
+        low = a.low ∙ sym (ap (greatest_of least_value) (tested-no below (lower_of x values) entries n h g));
+        floor = a.floor ∙ sym (ap (greatest_of least_value) (tested-no below (floor_of x values) entries n h g));
+        high = a.high ∙ sym (ap (least_of greatest_value) (tested-no above (upper_of x values) entries n h f));
+      }
+
+pub bounds-low : (x : ℕ) (values : List (ℕ × ℤ)) (entries : List Entry) (n : ℕ) (b : Bounds) → length entries ≤ n →
+    AreBounds x values entries n b → b.low ≡ low_in x values entries
+bounds-low x values entries n b h a = a.low ∙ ap (low_in x values) (take_all n entries h)
+
+pub bounds-floor : (x : ℕ) (values : List (ℕ × ℤ)) (entries : List Entry) (n : ℕ) (b : Bounds) → length entries ≤ n →
+    AreBounds x values entries n b → b.floor ≡ floor_in x values entries
+bounds-floor x values entries n b h a = a.floor ∙ ap (floor_in x values) (take_all n entries h)
+
+pub bounds-high : (x : ℕ) (values : List (ℕ × ℤ)) (entries : List Entry) (n : ℕ) (b : Bounds) → length entries ≤ n →
+    AreBounds x values entries n b → b.high ≡ high_in x values entries
+bounds-high x values entries n b h a = a.high ∙ ap (high_in x values) (take_all n entries h)

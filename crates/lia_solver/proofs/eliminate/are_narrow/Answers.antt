@@ -1,0 +1,24 @@
+use Rattle.std.proofs.Common.{get_or, Err, ap}
+use Rattle.lia_solver.proofs.Summing.{listed-there, paired-of, narrow-more}
+use Rattle.lia_solver.proofs.eliminate.are_narrow.Goals as goal
+
+pub combine-requires : goal.combine-requires
+combine-requires c =
+    paired-of c.args.column c.args.table.now c.args.upper (get_or c.args.lowers.now c.loop-lower.lower-index 0) c.args.lowers.now
+    c.requires.rows c.requires.upper c.requires.lowers (listed-there c.args.lowers.now c.loop-lower.lower-index 0 c.loop-lower-test.true)
+
+pub returns-in-Err-Wide-clause-wide : goal.returns-in-Err-Wide-clause-wide
+returns-in-Err-Wide-clause-wide c = λ e.
+    record {
+      upper = c.args.upper;
+      lower = get_or c.args.lowers.now c.loop-lower.lower-index 0;
+      paired = paired-of c.args.column c.args.table.now c.args.upper (get_or c.args.lowers.now c.loop-lower.lower-index 0) c.args.lowers.now
+          c.requires.rows c.requires.upper c.requires.lowers
+          (listed-there c.args.lowers.now c.loop-lower.lower-index 0 c.loop-lower-test.true);
+      wide = c.in-Err-Wide.ensures.wide (ap Err c.in-Err-Wide.field-0-is);
+    }
+
+pub loop-lower-preserved : goal.loop-lower-preserved
+loop-lower-preserved c =
+    narrow-more c.args.column c.args.table.now c.args.upper c.args.lowers.now c.loop-lower.lower-index c.loop-lower-test.true
+    c.loop-lower.invariant c.in-Ok.ensures.within

@@ -1,0 +1,5 @@
+use Rattle.lia_solver.proofs.Lowers.{AreLowersTo}
+use Rattle.lia_solver.proofs.eliminate.list_lowers.Given as goal
+
+abbrev pub invariant-loop-place : goal.invariant-loop-place
+invariant-loop-place l = AreLowersTo l.column l.table l.place l.places.items

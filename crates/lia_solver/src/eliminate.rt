@@ -1,0 +1,250 @@
+//! The elimination of a column from a table.
+
+ghost use Rattle.std.specs.Prelude.{◌≡◌, ◌<◌, ◌+◌, true, false, length, Contains, IfOk, OnOk, IsTrue, ℕ};
+ghost use Rattle.linear_formula.specs.LinearSum.{is_within};
+ghost use Rattle.linear_formula.specs.steps.Order.{AllWithin};
+ghost use Rattle.shadow_elim.specs.Elimination.{pair_sum};
+ghost use Rattle.lia_solver.specs.declared.table.Origin.TheVariants as origin;
+ghost use Rattle.lia_solver.specs.steps.Entries.{sum_at, bounds_above, bounds_below, ArePaired};
+ghost use Rattle.lia_solver.specs.steps.Tables.{starts_from, passed, AreRows, IsPut, IsGrown, IsSummed, AreLowerPlaces, HasWide, AreNarrow, IsLeft};
+
+use crate::pairing::{Made, combine};
+use crate::table::{Origin, Table};
+use linear_formula::error::{LinError, OutOfMemory};
+use shadow_elim::limit::MAX_ROWS;
+use std::alloc::{AllocError, Global};
+
+/// Lists that each column uses anew.
+#[derive(Drop)]
+pub struct Work {
+    parts: Vec<(u32, i128)>,
+    lowers: Vec<usize>,
+}
+
+impl Work {
+    pub fn new(alloc: Global) -> Work {
+        Work {
+            parts: Vec::new(alloc),
+            lowers: Vec::new(alloc),
+        }
+    }
+}
+
+/// What the elimination of a column comes to: a table of what is left, or a limit.
+pub enum Eliminated {
+    Done,
+    Wide,
+    Rows,
+}
+
+/// Whether the column is the first one that the row names, and the row bounds it from above.
+pub fn bounds_above(column: u32, parts: &[(u32, i128)]) -> bool
+    ensures { result ≡ bounds_above column parts.now }
+{
+    match parts.first() {
+        Some((first, coefficient)) => *first == column && *coefficient > 0,
+        None => false,
+    }
+}
+
+/// Whether the column is the first one that the row names, and the row bounds it from below.
+pub fn bounds_below(column: u32, parts: &[(u32, i128)]) -> bool
+    ensures { result ≡ bounds_below column parts.now }
+{
+    match parts.first() {
+        Some((first, coefficient)) => *first == column && *coefficient < 0,
+        None => false,
+    }
+}
+
+/// Whether the row names no column up to this one.
+fn starts_beyond(column: u32, parts: &[(u32, i128)]) -> bool
+    ensures { result ≡ starts_from (column + 1) parts.now }
+{
+    match parts.first() {
+        Some((first, _)) => *first > column,
+        None => true,
+    }
+}
+
+/// How many rows name the column or an earlier one.
+fn passed(column: u32, table: &Table) -> usize
+    ensures { result ≡ passed (column + 1) table.now }
+{
+    let mut count = 0;
+    for place in 0..table.len() {
+        if !starts_beyond(column, table.parts(place)) {
+            count += 1;
+        }
+    }
+    count
+}
+
+/// Lists the rows that bound the column from below.
+fn list_lowers(places: &mut Vec<usize>, column: u32, table: &Table) -> Result<(), OutOfMemory>
+    ensures { OnOk result (AreLowerPlaces column table.now places.new.items) }
+{
+    places.clear();
+    for place in 0..table.len() {
+        if bounds_below(column, table.parts(place)) {
+            places.push(place)?;
+        }
+    }
+    Ok(())
+}
+
+/// Adds a row unless it always holds.
+pub fn put(
+    table: &mut Table,
+    parts: &[(u32, i128)],
+    constant: i128,
+    origin: Origin,
+) -> Result<(), OutOfMemory>
+    requires { AllWithin parts.now }
+    ensures { OnOk result (IsPut (record { parts = parts.now; constant = constant }) origin
+        table.old table.new) }
+{
+    if parts.is_empty() && constant <= 0 {
+        return Ok(());
+    }
+    table.add(parts, constant, origin)
+}
+
+/// Adds the sums of an upper row with the lower ones, until one is too wide. Says whether none was.
+fn add_sums(
+    parts: &mut Vec<(u32, i128)>,
+    column: u32,
+    table: &mut Table,
+    upper: usize,
+    lowers: &[usize],
+) -> Result<bool, OutOfMemory>
+    requires rows { AreRows table.old }
+    requires upper { (upper < length table.old)
+        × IsTrue (bounds_above column (sum_at table.old upper).parts) }
+    requires lowers { AreLowerPlaces column table.old lowers.now }
+    ensures grown { OnOk result (IsGrown column table.old table.new) }
+    ensures sums { IfOk result (λ b. b ≡ true → (lower : ℕ) → Contains lowers.now lower →
+        IsSummed column table.new upper lower) }
+    ensures wide { IfOk result (λ b. b ≡ false → HasWide column table.old) }
+{
+    for lower in lowers {
+        match combine(parts, column, table, upper, *lower) {
+            Ok(Made { constant, making }) => put(table, parts, constant, Origin::Made(making))?,
+            Err(LinError::Wide) => return Ok(false),
+            Err(LinError::Memory) => return Err(AllocError),
+        }
+    }
+    Ok(true)
+}
+
+/// The same, of any row: one that is no upper row has no sums.
+fn add_sums_of(
+    parts: &mut Vec<(u32, i128)>,
+    column: u32,
+    table: &mut Table,
+    place: usize,
+    lowers: &[usize],
+) -> Result<bool, OutOfMemory>
+    requires rows { AreRows table.old }
+    requires place { place < length table.old }
+    requires lowers { AreLowerPlaces column table.old lowers.now }
+    ensures grown { OnOk result (IsGrown column table.old table.new) }
+    ensures sums { IfOk result (λ b. b ≡ true → (lower : ℕ) →
+        ArePaired column table.old place lower → IsSummed column table.new place lower) }
+    ensures wide { IfOk result (λ b. b ≡ false → HasWide column table.old) }
+{
+    if bounds_above(column, table.parts(place)) {
+        add_sums(parts, column, table, place, lowers)
+    } else {
+        Ok(true)
+    }
+}
+
+/// Whether the sums of an upper row with the lower ones are within the limits.
+fn are_narrow(
+    parts: &mut Vec<(u32, i128)>,
+    column: u32,
+    table: &Table,
+    upper: usize,
+    lowers: &[usize],
+) -> Result<bool, OutOfMemory>
+    requires rows { AreRows table.now }
+    requires upper { (upper < length table.now)
+        × IsTrue (bounds_above column (sum_at table.now upper).parts) }
+    requires lowers { AreLowerPlaces column table.now lowers.now }
+    ensures sums { IfOk result (λ b. b ≡ true → (lower : ℕ) → Contains lowers.now lower →
+        IsTrue (is_within (pair_sum column (sum_at table.now upper, sum_at table.now lower)))) }
+    ensures wide { IfOk result (λ b. b ≡ false → HasWide column table.now) }
+{
+    for lower in lowers {
+        match combine(parts, column, table, upper, *lower) {
+            Ok(_) => {}
+            Err(LinError::Wide) => return Ok(false),
+            Err(LinError::Memory) => return Err(AllocError),
+        }
+    }
+    Ok(true)
+}
+
+/// Whether the sums of all upper rows with the lower ones are within the limits. None is kept.
+fn are_all_narrow(
+    parts: &mut Vec<(u32, i128)>,
+    column: u32,
+    table: &Table,
+    lowers: &[usize],
+) -> Result<bool, OutOfMemory>
+    requires rows { AreRows table.now }
+    requires lowers { AreLowerPlaces column table.now lowers.now }
+    ensures narrow { IfOk result (λ b. b ≡ true → AreNarrow column table.now) }
+    ensures wide { IfOk result (λ b. b ≡ false → HasWide column table.now) }
+{
+    for upper in 0..table.len() {
+        if bounds_above(column, table.parts(upper))
+            && !are_narrow(parts, column, table, upper, lowers)?
+        {
+            return Ok(false);
+        }
+    }
+    Ok(true)
+}
+
+/// Adds the sums of all upper rows with the lower ones, until one is too wide or too many rows are
+/// left. From then on sums are measured, and none is kept.
+fn add_all(
+    parts: &mut Vec<(u32, i128)>,
+    column: u32,
+    table: &mut Table,
+    lowers: &[usize],
+) -> Result<Eliminated, OutOfMemory>
+    requires rows { AreRows table.old }
+    requires lowers { AreLowerPlaces column table.old lowers.now }
+    ensures { IfOk result (λ p. IsLeft column table.old table.new p) }
+{
+    let passed = passed(column, table);
+    for place in 0..table.len() {
+        if !add_sums_of(parts, column, table, place, lowers)? {
+            return Ok(Eliminated::Wide);
+        }
+        if table.len() - passed > MAX_ROWS {
+            let narrow = are_all_narrow(parts, column, table, lowers)?;
+            return Ok(if narrow {
+                Eliminated::Rows
+            } else {
+                Eliminated::Wide
+            });
+        }
+    }
+    if table.len() - passed > MAX_ROWS {
+        return Ok(Eliminated::Rows);
+    }
+    Ok(Eliminated::Done)
+}
+
+/// Eliminates the column: the rows that follow from the pairs of its rows are added.
+pub fn eliminate(work: &mut Work, table: &mut Table, column: u32) -> Result<Eliminated, OutOfMemory>
+    requires { AreRows table.old }
+    ensures { IfOk result (λ p. IsLeft column table.old table.new p) }
+{
+    list_lowers(&mut work.lowers, column, table)?;
+    add_all(&mut work.parts, column, table, &work.lowers)
+}
