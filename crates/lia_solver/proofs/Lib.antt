@@ -1,4 +1,3 @@
-pub mod NamedColumns
 pub mod Listed
 pub mod Bounding
 pub mod ChosenPoints

@@ -21,7 +21,8 @@ use std::alloc::Global;
 /// A point of the cube, a certificate that it has none, or the limit that was met.
 pub fn solve(alloc: Global, cube: &Cube) -> Result<Solved, OutOfMemory>
     ensures plan { IfOk result (λ s. IsAnswer (solution cube.now.atoms) s) }
-    ensures branches { IfOk result (λ s. IfLimited s (λ limit. IfBranches limit AreAllSplit)) }
+    ensures branches { IfOk result
+        (λ s. IfLimited s (λ limit. IfBranches limit (AreAllSplit cube.now.atoms))) }
     ensures point { IfOk result (λ s. IfPoint s (λ at. HoldsAll (valuation at) cube.now.atoms)) }
     ensures never { IfOk result (λ s. IfNever s (λ c. Refutes cube.now.atoms (refutation_of c))) }
     ensures values { IfOk result (λ s. IfPoint s (λ at. Is64 (valuation at))) }

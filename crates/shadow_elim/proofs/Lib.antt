@@ -26,6 +26,8 @@ pub mod Bests
 pub mod PlanValues
 pub mod Summing
 pub mod Projecting
+pub mod NamedColumns
+pub mod SplitTree
 pub mod SplitLimit
 pub mod Filtering
 pub mod Holding
