@@ -3,7 +3,7 @@ use Rattle.std.proofs.Common.{◌≡◌, ◌⊎◌, inl, inr, ℕ, suc, zero, �
 use Rattle.std.specs.Prelude.{IsTrue, All, ◌≤ℤ◌, OnOk, if◌then◌else◌}
 use Rattle.std.specs.Result.{is_err}
 use Rattle.std.proofs.lemmas.Int.{ints}
-use Rattle.std.proofs.lemmas.List.{take_more, drop_more, take-append-drop}
+use Rattle.std.proofs.lemmas.List.{take_more, drop_more, take-append-drop, map-append}
 use Rattle.std.proofs.lemmas.List.Elements.{All-push}
 use Rattle.linear_formula.specs.LinearSum.{LinearSum, Valuation, Is64, value_of, is_within, is_term}
 use Rattle.linear_formula.specs.Results.{negated}
@@ -13,9 +13,10 @@ use Rattle.linear_formula.specs.declared.question.Question.TheVariants as questi
 use Rattle.linear_formula.proofs.Limits.{IsTerm-from_test, test-from_Within}
 use Rattle.infeasible_cert.specs.declared.certificate.Certificate.{Certificate}
 use Rattle.infeasible_cert.specs.Refutation.{refutation_of}
-use Rattle.infeasible_cert.specs.Right.{Refutes}
+use Rattle.infeasible_cert.specs.Right.{Refutes, with_columns, columns_of, rows_of}
 use Rattle.infeasible_cert.specs.Terms.{HasTerms}
 use Rattle.shadow_elim.specs.Plan.{cube_of}
+use Rattle.shadow_elim.proofs.NamedColumns.{columns-last}
 use Rattle.shadow_elim.specs.Questions.{with_negation, CanNegate, IsEntailed, IsShownToEntail}
 use Rattle.shadow_elim.specs.Entailment.{question_of, StopsAt}
 use Rattle.lia_solver.specs.Entailment.{RefuteEach}
@@ -63,6 +64,13 @@ pub question-is : (left asked : List Atom) (atom : Atom) → CanNegate atom → 
 question-is left asked atom h e =
     ap (λ as_. question.Cube (cube_of as_)) e ∙ ap (λ b. if b then question.Cube (cube_of (with_negation left atom)) else question.Combine
     ((negsuc 0, atom.term) ∷ []) (pos 1)) (sym h)
+
+-- the columns of the left cube and of the negation
+pub asked-columns : (left asked : List Atom) (other : Atom) (columns all : List ℕ) → asked ≡ left ++ other ∷ [] → columns
+    ≡ columns_of (rows_of left) → all ≡ with_columns other.term.parts columns → all ≡ columns_of (rows_of asked)
+asked-columns left asked other columns all e ec ea =
+    ea ∙ ap (with_columns other.term.parts) ec ∙ sym (columns-last (rows_of left) other.term)
+    ∙ ap columns_of (sym (ap rows_of e ∙ map-append (λ (a : Atom). a.term) left (other ∷ [])))
 
 -- an atom follows where its negation never holds
 pub follows : (left asked : List Atom) (atom other : Atom) → asked ≡ left ++ other ∷ [] →

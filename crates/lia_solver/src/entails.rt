@@ -1,33 +1,63 @@
 //! Whether one cube entails another.
 
-ghost use Rattle.std.specs.Prelude.{List, All, IfOk, IsTrue};
+ghost use Rattle.std.specs.Prelude.{◌≡◌, ◌++◌, ◌∷◌, [], List, All, IfOk, IsTrue};
 ghost use Rattle.linear_formula.specs.LinearSum.{Valuation, Is64, valuation, is_within};
 ghost use Rattle.linear_formula.specs.Formula.{HoldsAll};
 ghost use Rattle.linear_formula.specs.Results.{negated};
 ghost use Rattle.linear_formula.specs.declared.formula.Atom.{Atom};
 ghost use Rattle.infeasible_cert.specs.Refutation.{refutation_of};
 ghost use Rattle.infeasible_cert.specs.Terms.{HasTerms};
-ghost use Rattle.lia_solver.specs.steps.Asked.{IsAnswerTo};
+ghost use Rattle.lia_solver.specs.steps.Asked.{IsLeft, IsAnswerTo};
 ghost use Rattle.lia_solver.specs.steps.Further.{IsMeant};
 ghost use Rattle.shadow_elim.specs.Entailment.{StopsAt, IsPointOf, IsLimitOf};
 ghost use Rattle.shadow_elim.specs.Questions.{IsShownToEntail};
 ghost use Rattle.lia_solver.specs.Entailment.{RefuteEach, IfYes, IfNo, IfLimit};
 
-use crate::solve::solve;
+use crate::columns::{columns_of, with_columns};
+use crate::solve::solve_along;
 use crate::solved::{Certificates, Entailed, Solved};
 use infeasible_cert::certificate::Certificate;
 use linear_formula::assignment::Assignment;
 use linear_formula::error::OutOfMemory;
-use linear_formula::formula::{Atom, Cube};
+use linear_formula::formula::{Atom, Atoms, Cube};
 use linear_formula::question::{Question, Summands};
 use shadow_elim::limit::{Kept, Limit};
 use std::alloc::Global;
 
+/// The cube of which is asked what it entails, and its columns.
+#[derive(Drop)]
+struct Left {
+    cube: Cube,
+    columns: Vec<u32>,
+}
+
 /// What an atom's question comes to.
 enum Answer {
-    Never(Certificate),
+    /// Nothing meets the left cube and the negation. The cube is given back for the next atom.
+    Never(Certificate, Left),
     Point(Assignment),
     Limit(Kept),
+}
+
+fn left_of(alloc: Global, cube: &Cube) -> Result<Left, OutOfMemory>
+    ensures { IfOk result (λ left. IsLeft cube.now.atoms left) }
+{
+    Ok(Left {
+        columns: columns_of(alloc, cube.atoms.as_slice())?,
+        cube: cube.copy(alloc)?,
+    })
+}
+
+/// The cube without its last atom. It keeps its memory.
+fn without_last(cube: Cube) -> Cube
+    ensures { (atoms : List Atom) (last : Atom) → cube.atoms ≡ atoms ++ last ∷ [] →
+        result.atoms ≡ atoms }
+{
+    let mut atoms = cube.atoms.into_vec();
+    let _ = atoms.pop();
+    Cube {
+        atoms: Atoms::from_vec(atoms),
+    }
 }
 
 /// The sum that negates the atom, which is too wide.
@@ -44,17 +74,24 @@ fn wide(alloc: Global, atom: &Atom) -> Result<Kept, OutOfMemory>
     })
 }
 
-fn ask(alloc: Global, left: &Cube, atom: &Atom) -> Result<Answer, OutOfMemory>
-    ensures answer { IfOk result (λ a. IsAnswerTo left.now.atoms atom.now a) }
-    ensures meant { IfOk result (λ a. IsMeant left.now.atoms atom.now a) }
+/// Asks for a point of the left cube and the negation of the atom.
+fn ask(alloc: Global, left: Left, atom: &Atom) -> Result<Answer, OutOfMemory>
+    requires { IsLeft left.cube.atoms left }
+    ensures answer { IfOk result (λ a. IsAnswerTo left.cube.atoms atom.now a) }
+    ensures meant { IfOk result (λ a. IsMeant left.cube.atoms atom.now a) }
 {
     let mut negated = atom.copy(alloc)?;
     if negated.negate().is_err() {
         return Ok(Answer::Limit(wide(alloc, atom)?));
     }
-    let cube = left.with(alloc, negated)?;
-    match solve(alloc, &cube)? {
-        Solved::Never(certificate) => Ok(Answer::Never(certificate)),
+    let Left { mut cube, columns } = left;
+    let all = with_columns(alloc, &columns, negated.term.parts())?;
+    cube.atoms.push(negated)?;
+    match solve_along(alloc, &cube, all)? {
+        Solved::Never(certificate) => {
+            let cube = without_last(cube);
+            Ok(Answer::Never(certificate, Left { cube, columns }))
+        }
         Solved::Point(at) => Ok(Answer::Point(at)),
         Solved::Limit(limit) => Ok(Answer::Limit(Kept {
             question: Question::Cube(cube),
@@ -84,9 +121,13 @@ pub fn entails(alloc: Global, left: &Cube, right: &Cube) -> Result<Entailed, Out
         (IsLimitOf left.now.atoms kept))) }
 {
     let mut certificates = Vec::new(alloc);
+    let mut asked = left_of(alloc, left)?;
     for atom in right.atoms.as_slice() {
-        match ask(alloc, left, atom)? {
-            Answer::Never(certificate) => certificates.push(certificate)?,
+        match ask(alloc, asked, atom)? {
+            Answer::Never(certificate, rest) => {
+                certificates.push(certificate)?;
+                asked = rest;
+            }
             Answer::Point(at) => return Ok(Entailed::No(at)),
             Answer::Limit(kept) => return Ok(Entailed::Limit(kept)),
         }
