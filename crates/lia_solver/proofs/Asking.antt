@@ -20,6 +20,7 @@ use Rattle.shadow_elim.proofs.NamedColumns.{columns-last}
 use Rattle.shadow_elim.specs.Questions.{with_negation, CanNegate, IsEntailed, IsShownToEntail}
 use Rattle.shadow_elim.specs.Entailment.{question_of, StopsAt}
 use Rattle.lia_solver.specs.Entailment.{RefuteEach}
+use Rattle.lia_solver.specs.steps.Asked.{IsNegation}
 
 -- The atoms that hold
 
@@ -47,9 +48,19 @@ holds_or_not v atom = by_value (value_of v atom.term) where
 
 -- The negation
 
-pub on-ok : {T E : Type 0} (P : Type 0) (r : Result T E) (b : Bool) → b ≡ is_err r → b ≡ false → OnOk r P → P
+on-ok : {T E : Type 0} (P : Type 0) (r : Result T E) (b : Bool) → b ≡ is_err r → b ≡ false → OnOk r P → P
 on-ok P (Ok x) b e f h = h
 on-ok P (Err x) b e f h = absurd (cc)
+
+pub negation-is : {T E : Type 0} (atom copied other : Atom) (r : Result T E) (b : Bool) → copied ≡ atom → b ≡ is_err r → b ≡ false →
+    OnOk r (other.term ≡ negated copied.term) → OnOk r (IsTrue (is_term other.term)) →
+    OnOk r ((v : ℕ → ℤ) → (Holds v other ↔ (¬ Holds v copied))) → IsNegation atom other
+negation-is atom copied other r b same e f value term law = record {
+  value = on-ok (other.term ≡ negated copied.term) r b e f value ∙ ap (λ (a : Atom). negated a.term) same;
+  term = on-ok (IsTrue (is_term other.term)) r b e f term;
+  law = λ v. subst (λ (a : Atom). Holds v other ↔ (¬ Holds v a)) same
+      (on-ok ((v : ℕ → ℤ) → (Holds v other ↔ (¬ Holds v copied))) r b e f law v);
+}
 
 pub can-negate : (atom : Atom) (t : LinearSum) → t ≡ negated atom.term → IsTrue (is_term t) → CanNegate atom
 can-negate atom t e h =

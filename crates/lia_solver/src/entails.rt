@@ -7,13 +7,14 @@ ghost use Rattle.linear_formula.specs.Results.{negated};
 ghost use Rattle.linear_formula.specs.declared.formula.Atom.{Atom};
 ghost use Rattle.infeasible_cert.specs.Refutation.{refutation_of};
 ghost use Rattle.infeasible_cert.specs.Terms.{HasTerms};
-ghost use Rattle.lia_solver.specs.steps.Asked.{IsLeft, IsAnswerTo};
+ghost use Rattle.lia_solver.specs.steps.Asked.{IsLeft, IsNegation, IsAnswerTo};
 ghost use Rattle.lia_solver.specs.steps.Further.{IsMeant};
 ghost use Rattle.shadow_elim.specs.Entailment.{StopsAt, IsPointOf, IsLimitOf};
 ghost use Rattle.shadow_elim.specs.Questions.{IsShownToEntail};
 ghost use Rattle.lia_solver.specs.Entailment.{RefuteEach, IfYes, IfNo, IfLimit};
 
 use crate::columns::{columns_of, with_columns};
+use crate::implied::{implied, is_simple};
 use crate::solve::solve_along;
 use crate::solved::{Certificates, Entailed, Solved};
 use infeasible_cert::certificate::Certificate;
@@ -24,11 +25,12 @@ use linear_formula::question::{Question, Summands};
 use shadow_elim::limit::{Kept, Limit};
 use std::alloc::Global;
 
-/// The cube of which is asked what it entails, and its columns.
+/// The cube of which is asked what it entails, its columns, and whether it is simple.
 #[derive(Drop)]
 struct Left {
     cube: Cube,
     columns: Vec<u32>,
+    simple: bool,
 }
 
 /// What an atom's question comes to.
@@ -42,9 +44,11 @@ enum Answer {
 fn left_of(alloc: Global, cube: &Cube) -> Result<Left, OutOfMemory>
     ensures { IfOk result (λ left. IsLeft cube.now.atoms left) }
 {
+    let columns = columns_of(alloc, cube.atoms.as_slice())?;
     Ok(Left {
-        columns: columns_of(alloc, cube.atoms.as_slice())?,
         cube: cube.copy(alloc)?,
+        simple: is_simple(cube.atoms.as_slice(), &columns),
+        columns,
     })
 }
 
@@ -75,22 +79,26 @@ fn wide(alloc: Global, atom: &Atom) -> Result<Kept, OutOfMemory>
 }
 
 /// Asks for a point of the left cube and the negation of the atom.
-fn ask(alloc: Global, left: Left, atom: &Atom) -> Result<Answer, OutOfMemory>
+fn search(alloc: Global, left: Left, negation: Atom) -> Result<Answer, OutOfMemory>
     requires { IsLeft left.cube.atoms left }
-    ensures answer { IfOk result (λ a. IsAnswerTo left.cube.atoms atom.now a) }
-    ensures meant { IfOk result (λ a. IsMeant left.cube.atoms atom.now a) }
+    ensures { IfOk result (λ a. (atom : Atom) → IsNegation atom negation →
+        (IsAnswerTo left.cube.atoms atom a × IsMeant left.cube.atoms atom a)) }
 {
-    let mut negated = atom.copy(alloc)?;
-    if negated.negate().is_err() {
-        return Ok(Answer::Limit(wide(alloc, atom)?));
-    }
-    let Left { mut cube, columns } = left;
-    let all = with_columns(alloc, &columns, negated.term.parts())?;
-    cube.atoms.push(negated)?;
+    let Left {
+        mut cube,
+        columns,
+        simple,
+    } = left;
+    let all = with_columns(alloc, &columns, negation.term.parts())?;
+    cube.atoms.push(negation)?;
     match solve_along(alloc, &cube, all)? {
         Solved::Never(certificate) => {
-            let cube = without_last(cube);
-            Ok(Answer::Never(certificate, Left { cube, columns }))
+            let left = Left {
+                cube: without_last(cube),
+                columns,
+                simple,
+            };
+            Ok(Answer::Never(certificate, left))
         }
         Solved::Point(at) => Ok(Answer::Point(at)),
         Solved::Limit(limit) => Ok(Answer::Limit(Kept {
@@ -98,6 +106,26 @@ fn ask(alloc: Global, left: Left, atom: &Atom) -> Result<Answer, OutOfMemory>
             limit,
         })),
     }
+}
+
+/// What the atom's question comes to. Where one row of a simple cube entails the atom, nothing is
+/// searched.
+fn ask(alloc: Global, left: Left, atom: &Atom) -> Result<Answer, OutOfMemory>
+    requires { IsLeft left.cube.atoms left }
+    ensures answer { IfOk result (λ a. IsAnswerTo left.cube.atoms atom.now a) }
+    ensures meant { IfOk result (λ a. IsMeant left.cube.atoms atom.now a) }
+{
+    let mut negation = atom.copy(alloc)?;
+    if negation.negate().is_err() {
+        return Ok(Answer::Limit(wide(alloc, atom)?));
+    }
+    if left.simple {
+        let rows = left.cube.atoms.as_slice();
+        if let Some(certificate) = implied(alloc, rows, &left.columns, atom, &negation)? {
+            return Ok(Answer::Never(certificate, left));
+        }
+    }
+    search(alloc, left, negation)
 }
 
 /// Whether each assignment that meets the left cube meets the right one. The atoms of the right

@@ -34,3 +34,4 @@ pub mod Holding
 pub mod Standing
 pub mod Needless
 pub mod Weaker
+pub mod PlainRows

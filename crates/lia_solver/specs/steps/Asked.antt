@@ -1,7 +1,8 @@
 -- What the question of one atom comes to.
-use Rattle.std.specs.Prelude.{◌≡◌, List}
-use Rattle.linear_formula.specs.LinearSum.{valuation}
-use Rattle.linear_formula.specs.Formula.{HoldsAll}
+use Rattle.std.specs.Prelude.{◌≡◌, ◌↔◌, true, IsTrue, List}
+use Rattle.linear_formula.specs.LinearSum.{Valuation, valuation, is_term}
+use Rattle.linear_formula.specs.Results.{negated}
+use Rattle.linear_formula.specs.Formula.{Holds, HoldsAll}
 use Rattle.linear_formula.specs.declared.formula.Atom.{Atom}
 use Rattle.infeasible_cert.specs.Refutation.{refutation_of}
 use Rattle.infeasible_cert.specs.Right.{Refutes, columns_of, rows_of}
@@ -9,6 +10,7 @@ use Rattle.infeasible_cert.specs.Terms.{HasTerms}
 use Rattle.lia_solver.specs.declared.entails.Left.{Left}
 use Rattle.lia_solver.specs.declared.entails.Answer.{Answer}
 use Rattle.lia_solver.specs.declared.entails.Answer.TheVariants.{Never, Point, Limit}
+use Rattle.lia_solver.specs.steps.Implied.{IsSimple}
 use Rattle.shadow_elim.specs.Questions.{with_negation, IsEntailed}
 use Rattle.shadow_elim.specs.Entailment.{IsPointOf, IsLimitOf}
 
@@ -16,6 +18,13 @@ use Rattle.shadow_elim.specs.Entailment.{IsPointOf, IsLimitOf}
 pub record IsLeft (atoms : List Atom) (left : Left) : Type 0 where
   pub atoms_are : left.cube.atoms ≡ atoms
   pub columns_are : left.columns.items ≡ columns_of (rows_of atoms)
+  pub simple : left.simple ≡ true → IsSimple atoms left.columns.items
+
+-- the negation of an atom, which is a term
+pub record IsNegation (atom negation : Atom) : Type 0 where
+  pub value : negation.term ≡ negated atom.term
+  pub term : IsTrue (is_term negation.term)
+  pub law : (v : Valuation) → Holds v negation ↔ (¬ Holds v atom)
 
 abbrev pub IsAnswerTo : List Atom → Atom → Answer → Type 0
 IsAnswerTo left atom (Never certificate rest) =
