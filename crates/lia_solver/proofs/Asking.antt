@@ -3,7 +3,7 @@ use Rattle.std.proofs.Common.{◌≡◌, ◌⊎◌, inl, inr, ℕ, suc, zero, �
 use Rattle.std.specs.Prelude.{IsTrue, All, ◌≤ℤ◌, OnOk, if◌then◌else◌}
 use Rattle.std.specs.Result.{is_err}
 use Rattle.std.proofs.lemmas.Int.{ints}
-use Rattle.std.proofs.lemmas.List.{take_more, drop_more, take-append-drop}
+use Rattle.std.proofs.lemmas.List.{take_more, drop_more, take-append-drop, map-append}
 use Rattle.std.proofs.lemmas.List.Elements.{All-push}
 use Rattle.linear_formula.specs.LinearSum.{LinearSum, Valuation, Is64, value_of, is_within, is_term}
 use Rattle.linear_formula.specs.Results.{negated}
@@ -13,12 +13,14 @@ use Rattle.linear_formula.specs.declared.question.Question.TheVariants as questi
 use Rattle.linear_formula.proofs.Limits.{IsTerm-from_test, test-from_Within}
 use Rattle.infeasible_cert.specs.declared.certificate.Certificate.{Certificate}
 use Rattle.infeasible_cert.specs.Refutation.{refutation_of}
-use Rattle.infeasible_cert.specs.Right.{Refutes}
+use Rattle.infeasible_cert.specs.Right.{Refutes, with_columns, columns_of, rows_of}
 use Rattle.infeasible_cert.specs.Terms.{HasTerms}
 use Rattle.shadow_elim.specs.Plan.{cube_of}
+use Rattle.shadow_elim.proofs.NamedColumns.{columns-last}
 use Rattle.shadow_elim.specs.Questions.{with_negation, CanNegate, IsEntailed, IsShownToEntail}
 use Rattle.shadow_elim.specs.Entailment.{question_of, StopsAt}
 use Rattle.lia_solver.specs.Entailment.{RefuteEach}
+use Rattle.lia_solver.specs.steps.Asked.{IsNegation}
 
 -- The atoms that hold
 
@@ -46,9 +48,19 @@ holds_or_not v atom = by_value (value_of v atom.term) where
 
 -- The negation
 
-pub on-ok : {T E : Type 0} (P : Type 0) (r : Result T E) (b : Bool) → b ≡ is_err r → b ≡ false → OnOk r P → P
+on-ok : {T E : Type 0} (P : Type 0) (r : Result T E) (b : Bool) → b ≡ is_err r → b ≡ false → OnOk r P → P
 on-ok P (Ok x) b e f h = h
 on-ok P (Err x) b e f h = absurd (cc)
+
+pub negation-is : {T E : Type 0} (atom copied other : Atom) (r : Result T E) (b : Bool) → copied ≡ atom → b ≡ is_err r → b ≡ false →
+    OnOk r (other.term ≡ negated copied.term) → OnOk r (IsTrue (is_term other.term)) →
+    OnOk r ((v : ℕ → ℤ) → (Holds v other ↔ (¬ Holds v copied))) → IsNegation atom other
+negation-is atom copied other r b same e f value term law = record {
+  value = on-ok (other.term ≡ negated copied.term) r b e f value ∙ ap (λ (a : Atom). negated a.term) same;
+  term = on-ok (IsTrue (is_term other.term)) r b e f term;
+  law = λ v. subst (λ (a : Atom). Holds v other ↔ (¬ Holds v a)) same
+      (on-ok ((v : ℕ → ℤ) → (Holds v other ↔ (¬ Holds v copied))) r b e f law v);
+}
 
 pub can-negate : (atom : Atom) (t : LinearSum) → t ≡ negated atom.term → IsTrue (is_term t) → CanNegate atom
 can-negate atom t e h =
@@ -63,6 +75,13 @@ pub question-is : (left asked : List Atom) (atom : Atom) → CanNegate atom → 
 question-is left asked atom h e =
     ap (λ as_. question.Cube (cube_of as_)) e ∙ ap (λ b. if b then question.Cube (cube_of (with_negation left atom)) else question.Combine
     ((negsuc 0, atom.term) ∷ []) (pos 1)) (sym h)
+
+-- the columns of the left cube and of the negation
+pub asked-columns : (left asked : List Atom) (other : Atom) (columns all : List ℕ) → asked ≡ left ++ other ∷ [] → columns
+    ≡ columns_of (rows_of left) → all ≡ with_columns other.term.parts columns → all ≡ columns_of (rows_of asked)
+asked-columns left asked other columns all e ec ea =
+    ea ∙ ap (with_columns other.term.parts) ec ∙ sym (columns-last (rows_of left) other.term)
+    ∙ ap columns_of (sym (ap rows_of e ∙ map-append (λ (a : Atom). a.term) left (other ∷ [])))
 
 -- an atom follows where its negation never holds
 pub follows : (left asked : List Atom) (atom other : Atom) → asked ≡ left ++ other ∷ [] →

@@ -1,4 +1,3 @@
-pub mod NamedColumns
 pub mod Listed
 pub mod Bounding
 pub mod ChosenPoints
@@ -19,6 +18,7 @@ pub mod Extending
 pub mod OneColumn
 pub mod Deriving
 pub mod Asking
+pub mod Implying
 pub mod Branching
 pub mod Settling
 pub mod Marking

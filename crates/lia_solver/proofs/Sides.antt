@@ -21,7 +21,7 @@ use Rattle.lia_solver.specs.declared.solved.Solved.TheVariants as solved
 use Rattle.lia_solver.specs.steps.Branches.{branch_rows, IsBranch, IsSearched}
 use Rattle.lia_solver.specs.steps.Further.{IsAnswered}
 use Rattle.lia_solver.specs.steps.Searches.{IsSearchable}
-use Rattle.lia_solver.proofs.NamedColumns.{columns-kept}
+use Rattle.shadow_elim.proofs.NamedColumns.{columns-kept}
 use Rattle.shadow_elim.proofs.Members.{Among, contains-among}
 use Rattle.shadow_elim.proofs.Tests.{at_most_no, at_most_yes}
 

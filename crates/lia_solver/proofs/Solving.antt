@@ -61,7 +61,8 @@ point-64 atoms (Never certificate) h = tt
 point-64 atoms (Limit limit) h = tt
 
 -- the cubes of a limit of splits
-pub limit-branches : (atoms : List Atom) (s : Solved) → IsAnswer (solution atoms) s → IfLimited s (λ limit. IfBranches limit AreAllSplit)
+pub limit-branches : (atoms : List Atom) (s : Solved) → IsAnswer (solution atoms) s →
+    IfLimited s (λ limit. IfBranches limit (AreAllSplit atoms))
 limit-branches atoms (Point at) h = tt
 limit-branches atoms (Never certificate) h = tt
 limit-branches atoms (Limit limit) h = limit_splits atoms limit h

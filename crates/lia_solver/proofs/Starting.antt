@@ -24,7 +24,7 @@ use Rattle.shadow_elim.proofs.Staying.{at-least-of, as-strong-is, HasAtLeast, me
 use Rattle.shadow_elim.proofs.Keeping.{met-holds}
 use Rattle.shadow_elim.proofs.Naming.{AllTerms, listed-terms}
 use Rattle.shadow_elim.proofs.Exact.{HasRange as IsRanged, range-listed}
-use Rattle.lia_solver.proofs.NamedColumns.{IsNamed, named-among}
+use Rattle.shadow_elim.proofs.NamedColumns.{IsNamed, named-among}
 use Rattle.lia_solver.proofs.ChosenPoints.{test-from_ascends, values-ascend, NamesOnly, outcome-chosen}
 use Rattle.lia_solver.proofs.Choosing.{all-at, all-from, range-from, columns-are}
 

@@ -6,6 +6,7 @@ pub mod Choices
 pub mod Deriving
 pub mod Entries
 pub mod Further
+pub mod Implied
 pub mod Lines
 pub mod Merged
 pub mod Numbers

@@ -10,6 +10,7 @@ mod derivation;
 mod division;
 mod eliminate;
 pub mod entails;
+mod implied;
 mod merge;
 mod pairing;
 mod pruning;

@@ -267,7 +267,7 @@ added-none xs lists = record {
 
 -- No more stay than there are
 
-length-reduced_after : (bs ts : List LinearSum) → length (reduced_after bs ts) ≤ length ts
+pub length-reduced_after : (bs ts : List LinearSum) → length (reduced_after bs ts) ≤ length ts
 length-reduced_after bs [] = omega arith
 length-reduced_after bs (t ∷ ts) = by_test (stays bs t ts) (length-reduced_after (bs ++ t ∷ []) ts) where
   by_test : (b : Bool) → length (reduced_after (bs ++ t ∷ []) ts) ≤ length ts →

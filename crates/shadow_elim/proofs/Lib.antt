@@ -26,9 +26,12 @@ pub mod Bests
 pub mod PlanValues
 pub mod Summing
 pub mod Projecting
+pub mod NamedColumns
+pub mod SplitTree
 pub mod SplitLimit
 pub mod Filtering
 pub mod Holding
 pub mod Standing
 pub mod Needless
 pub mod Weaker
+pub mod PlainRows

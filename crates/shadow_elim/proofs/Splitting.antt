@@ -30,7 +30,7 @@ terms-push (q ∷ rows) r h k = (h.0, terms-push rows r h.1 k)
 -- Signs
 
 -- the tests of the code
-not_below_from : (y z : ℤ) → int_lt y z ≡ false → z ≤ℤ y
+pub not_below_from : (y z : ℤ) → int_lt y z ≡ false → z ≤ℤ y
 not_below_from y z e = grind (arith, ints)
 
 pub positive_from : (z : ℤ) → FitsSigned w128 z → int_lt (pos 0) (to_z w128 (of_z w128 z)) ≡ true → pos 0 <ℤ z

@@ -120,7 +120,7 @@ product-below m c h k =
 sum-below : (a b : ℤ) → unsigned_abs a ≤ 2 ^ 83 → unsigned_abs b ≤ 2 ^ 83 → unsigned_abs (a +ℤ (b +ℤ pos 0)) ≤ 2 ^ 84
 sum-below a b h k = omega (arith, ints, h, k)
 
-small-constant : (x : ℕ) (u l : LinearSum) → IsTrue (is_upper x u) → IsTrue (is_lower x l) → IsSmall x u → IsSmall x l →
+pub small-constant : (x : ℕ) (u l : LinearSum) → IsTrue (is_upper x u) → IsTrue (is_lower x l) → IsSmall x u → IsSmall x l →
     unsigned_abs (pair_sum x (u, l)).constant ≤ 2 ^ 84
 small-constant x u l iu il h k =
     let bal = balance (size_of x u) (size_of x l) (upper-is x u iu).positive (lower-is x l il).positive in

@@ -1,6 +1,7 @@
 //! Laws of the definitions that contracts cite, for the crates above. These functions compute
 //! nothing.
 
+ghost use Rattle.shadow_elim.specs.SplitCubes.{RightLimitsKeepTrees, TreesHaveSides};
 ghost use Rattle.shadow_elim.specs.ProjectionLaws.{ProjectionsKeep, ProjectionsLoseNone, ProjectionsNameNone, ProjectionsNameNoOther, ProjectionsAreTerms, ListsNamed, SumsHold, EqualRowsHold, SumsRename, SumsKeep};
 
 /// What holds of the rows that a projection gives.
@@ -19,4 +20,10 @@ pub fn sums()
     ensures equal { EqualRowsHold }
     ensures rename { SumsRename }
     ensures keep { SumsKeep }
+{}
+
+/// What holds of the cubes that a limit of splits keeps.
+pub fn limits()
+    ensures splits { RightLimitsKeepTrees }
+    ensures sides { TreesHaveSides }
 {}

@@ -1,6 +1,6 @@
 //! Questions with known answers, and small boxes by brute force.
 
-use crate::rows::{Row, cube_of, push_row, small_cube};
+use crate::rows::{Row, cube_of, push_row, small_cube, term_of};
 use infeasible_cert::certificate::Certificate;
 use infeasible_cert::check::refutes;
 use lia_solver::entails::entails;
@@ -8,7 +8,7 @@ use lia_solver::solve::solve;
 use lia_solver::solved::{Entailed, Solved};
 use linear_formula::assignment::{Assignment, Values};
 use linear_formula::error::LinError;
-use linear_formula::formula::{Atoms, Cube};
+use linear_formula::formula::{Atom, Atoms, Cube};
 use shadow_elim::limit::{Limit, LimitKind, MAX_SPLITS};
 use std::alloc::Global;
 use std::test::Fail;
@@ -183,6 +183,77 @@ fn entails_what_follows(rt: HostRuntime) -> Result<(), Fail> {
         let found = entailment(alloc, left, right)?;
         assert!(rt; found == answer);
     }
+    Ok(())
+}
+
+/// The limit that `size * column 0 <= 0` meets where it is asked whether it entails itself.
+fn own_limit(alloc: Global, size: i64) -> Result<Option<LimitKind>, LinError> {
+    let cube = cube_of(alloc, &[(&[(size, 0)], 0)])?;
+    match entails(alloc, &cube, &cube)? {
+        Entailed::Limit(kept) => Ok(Some(kept.limit.kind())),
+        _ => Ok(None),
+    }
+}
+
+#[test]
+fn meets_a_limit_before_a_contradiction(rt: HostRuntime) -> Result<(), Fail> {
+    let alloc = rt.alloc();
+    for (size, limit) in [(1 << 21, None), (1 << 22, Some(LimitKind::Wide))] {
+        let met = own_limit(alloc, size)?;
+        assert!(rt; met == limit);
+    }
+    Ok(())
+}
+
+/// Whether the certificate shows that the left cube entails the row.
+fn shows(
+    alloc: Global,
+    left: &Cube,
+    row: &Row,
+    certificate: &Certificate,
+) -> Result<bool, LinError> {
+    let mut negation = Atom {
+        term: term_of(alloc, row)?,
+    };
+    negation.negate()?;
+    let cube = left.with(alloc, negation)?;
+    Ok(refutes(&cube, certificate))
+}
+/// For how many of the first rows the certificates show that the cube of two bounds entails them.
+fn shown_count(alloc: Global, wanted: &[Row]) -> Result<usize, LinError> {
+    let left = cube_of(alloc, &[(&[(1, 0)], -3), (&[(2, 4)], -5), (&[(-1, 0)], 0)])?;
+    let right = cube_of(alloc, wanted)?;
+    let certificates = match entails(alloc, &left, &right)? {
+        Entailed::Yes(certificates) => certificates,
+        _ => return Ok(0),
+    };
+    for (place, row) in wanted.iter().enumerate() {
+        let shown = match certificates.as_slice().get(place) {
+            Some(certificate) => shows(alloc, &left, row, certificate)?,
+            None => false,
+        };
+        if !shown {
+            return Ok(place);
+        }
+    }
+    Ok(wanted.len())
+}
+
+#[test]
+fn entails_one_atom_after_the_other(rt: HostRuntime) -> Result<(), Fail> {
+    // Two of the bounds, weaker ones, a sum of two, a row without a column, and a bound that always
+    // holds.
+    let wanted: [Row; 7] = [
+        (&[(1, 0)], -3),
+        (&[(-1, 0)], -1),
+        (&[(2, 4)], -6),
+        (&[(1, 4)], -2),
+        (&[(1, 0), (1, 4)], -5),
+        (&[], -1),
+        (&[(1, 2)], -9223372036854775807),
+    ];
+    let count = shown_count(rt.alloc(), &wanted)?;
+    assert_eq!(rt; count, 7);
     Ok(())
 }
 

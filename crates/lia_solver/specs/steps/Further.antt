@@ -34,7 +34,7 @@ IsAnswered (searched.Nothing certificate) = Unit {0}
 
 -- the atom follows from the others, or a point meets them and not the atom
 abbrev pub IsMeant : List Atom → Atom → Answer → Type 0
-IsMeant left atom (answer.Never certificate) = (v : Valuation) → Is64 v → HoldsAll v left →
+IsMeant left atom (answer.Never certificate rest) = (v : Valuation) → Is64 v → HoldsAll v left →
     Holds v atom
 IsMeant left atom (answer.Point at) = HoldsAll (valuation at) left × (¬ Holds (valuation at) atom)
 IsMeant left atom (answer.Limit kept) = Unit {0}

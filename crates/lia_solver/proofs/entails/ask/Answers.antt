@@ -1,91 +1,50 @@
-use Rattle.std.proofs.Common.{◌≡◌, ℕ, ℤ, List, ◌↔◌, sym, ap, subst, ◌∙◌}
-use Rattle.std.specs.Prelude.{IsTrue}
-use Rattle.linear_formula.specs.LinearSum.{Valuation, Is64, valuation, is_term}
-use Rattle.linear_formula.specs.Results.{negated}
-use Rattle.linear_formula.specs.Formula.{Holds, HoldsAll}
+use Rattle.std.proofs.Common.{◌≡◌, List, [], ◌∷◌, ◌++◌, refl, sym, subst}
+use Rattle.std.specs.Prelude.{IfSome, Option}
+use Rattle.std.proofs.lemmas.Result.{IfOk-weaker}
 use Rattle.linear_formula.specs.declared.formula.Atom.{Atom}
+use Rattle.linear_formula.proofs.TermAtoms.{are_terms-push}
+use Rattle.infeasible_cert.specs.declared.certificate.Certificate.{Certificate}
 use Rattle.infeasible_cert.specs.Refutation.{refutation_of}
 use Rattle.infeasible_cert.specs.Right.{Refutes}
-use Rattle.infeasible_cert.specs.Terms.{HasTerms}
-use Rattle.shadow_elim.specs.Plan.{solution}
-use Rattle.lia_solver.specs.declared.solved.Solved.{Solved}
-use Rattle.lia_solver.specs.Answers.{IsAnswer, IfPoint, IfNever}
+use Rattle.infeasible_cert.proofs.Sound.{right-sound}
 use Rattle.shadow_elim.specs.Questions.{with_negation}
-use Rattle.lia_solver.proofs.Asking.{on-ok, can-negate, asked-is, question-is, follows, fails}
+use Rattle.lia_solver.specs.steps.Implied.{IsImplied}
+use Rattle.lia_solver.proofs.Asking.{negation-is, can-negate, asked-is, follows}
 use Rattle.lia_solver.proofs.entails.ask.Goals as goal
 
-pub returns-in-Never-clause-answer : goal.returns-in-Never-clause-answer
-returns-in-Never-clause-answer c =
-    let left = c.args.left.now.atoms in let atom = c.args.atom.now in let asked = c.in_ok-cube.cube.atoms in let other = c.negate.new.self
-    in
-    let same : c.in_ok-negated.negated ≡ atom = c.in_ok-negated.ensures in
-    let value = on-ok (other.term ≡ negated c.in_ok-negated.negated.term) c.negate.result c.is_err.result c.is_err.ensures.value
-    c.if-is_err.false c.negate.ensures.value ∙ ap (λ (a : Atom). negated a.term) same in
-    let kept = on-ok (IsTrue (is_term other.term)) c.negate.result c.is_err.result c.is_err.ensures.value c.if-is_err.false
-    c.negate.ensures.kept in
-    let can = can-negate atom other.term value kept in
-    let is : asked ≡ with_negation left atom = asked-is left asked atom other c.in_ok-cube.ensures value in
-    let plan = subst (IsAnswer (solution asked)) c.in-Never.is c.in_ok-certificate.ensures.plan in
-    let never = subst (λ (s : Solved). IfNever s (λ d. Refutes asked (refutation_of d))) c.in-Never.is c.in_ok-certificate.ensures.never in
-    let terms = subst (λ (s : Solved). IfNever s (λ d. HasTerms (refutation_of d))) c.in-Never.is c.in_ok-certificate.ensures.terms in (
-      (can, (plan.0, ap solution (sym is) ∙ plan.1)),
-      subst (λ (as_ : List Atom). Refutes as_ (refutation_of c.in-Never.certificate)) is never,
-      terms,
-    )
+pub returns-clause-answer : goal.returns-clause-answer
+returns-clause-answer c =
+    let n = negation-is c.args.atom.now c.in_ok-negation.negation c.negate.new.self c.negate.result c.is_err.result c.in_ok-negation.ensures
+    c.is_err.ensures.value c.if-is_err.false c.negate.ensures.value c.negate.ensures.kept c.negate.ensures.law in
+    IfOk-weaker c.search.result _ _ (λ a h. (h c.args.atom.now n).0) c.search.ensures
 
-pub returns-in-Never-clause-meant : goal.returns-in-Never-clause-meant
-returns-in-Never-clause-meant c =
-    let left = c.args.left.now.atoms in let atom = c.args.atom.now in let asked = c.in_ok-cube.cube.atoms in let other = c.negate.new.self
-    in
-    let same : c.in_ok-negated.negated ≡ atom = c.in_ok-negated.ensures in
-    let value = on-ok (other.term ≡ negated c.in_ok-negated.negated.term) c.negate.result c.is_err.result c.is_err.ensures.value
-    c.if-is_err.false c.negate.ensures.value ∙ ap (λ (a : Atom). negated a.term) same in
-    let law = on-ok ((v : ℕ → ℤ) → (Holds v other ↔ (¬ Holds v c.in_ok-negated.negated))) c.negate.result c.is_err.result
-    c.is_err.ensures.value c.if-is_err.false c.negate.ensures.law in
-    let law_of : (v : Valuation) → Holds v other ↔ (¬ Holds v atom) = λ v. subst (λ (a : Atom). Holds v other ↔ (¬ Holds v a)) same (law v)
-    in
-    let sound = subst (λ (s : Solved). IfNever s (λ d. (v : Valuation) → Is64 v → HoldsAll v asked → ⊥)) c.in-Never.is
-    c.in_ok-certificate.ensures.sound in
-    follows left asked atom other c.in_ok-cube.ensures law_of sound
+pub returns-clause-meant : goal.returns-clause-meant
+returns-clause-meant c =
+    let n = negation-is c.args.atom.now c.in_ok-negation.negation c.negate.new.self c.negate.result c.is_err.result c.in_ok-negation.ensures
+    c.is_err.ensures.value c.if-is_err.false c.negate.ensures.value c.negate.ensures.kept c.negate.ensures.law in
+    IfOk-weaker c.search.result _ _ (λ a h. (h c.args.atom.now n).1) c.search.ensures
 
-pub returns-in-Point-clause-answer : goal.returns-in-Point-clause-answer
-returns-in-Point-clause-answer c =
-    let left = c.args.left.now.atoms in let atom = c.args.atom.now in let asked = c.in_ok-cube.cube.atoms in let other = c.negate.new.self
-    in
-    let same : c.in_ok-negated.negated ≡ atom = c.in_ok-negated.ensures in
-    let value = on-ok (other.term ≡ negated c.in_ok-negated.negated.term) c.negate.result c.is_err.result c.is_err.ensures.value
-    c.if-is_err.false c.negate.ensures.value ∙ ap (λ (a : Atom). negated a.term) same in
-    let kept = on-ok (IsTrue (is_term other.term)) c.negate.result c.is_err.result c.is_err.ensures.value c.if-is_err.false
-    c.negate.ensures.kept in
-    let can = can-negate atom other.term value kept in
-    let is : asked ≡ with_negation left atom = asked-is left asked atom other c.in_ok-cube.ensures value in
-    let plan = subst (IsAnswer (solution asked)) c.in-Point.is c.in_ok-certificate.ensures.plan in
-    let point = subst (λ (s : Solved). IfPoint s (λ at. HoldsAll (valuation at) asked)) c.in-Point.is c.in_ok-certificate.ensures.point in
-    ((can, ap solution (sym is) ∙ plan), subst (HoldsAll (valuation c.in-Point.at)) is point)
+pub returns-in-Some-clause-answer : goal.returns-in-Some-clause-answer
+returns-in-Some-clause-answer c =
+    let atom = c.args.atom.now in let other = c.negate.new.self in
+    let n = negation-is atom c.in_ok-negation.negation other c.negate.result c.is_err.result c.in_ok-negation.ensures c.is_err.ensures.value
+    c.if-is_err.false c.negate.ensures.value c.negate.ensures.kept c.negate.ensures.law in
+    let found = subst (λ (o : Option Certificate). IfSome o (λ d. IsImplied c.as_slice-rows.result.now atom d)) c.in-Some.is
+    c.in_ok-certificate.ensures in
+    let i = subst (λ (as_ : List Atom). IsImplied as_ atom c.in-Some.certificate) c.as_slice-rows.ensures.value found in
+    ((can-negate atom other.term n.value n.term, i.never), i.refutes, i.terms, c.requires)
 
-pub returns-in-Point-clause-meant : goal.returns-in-Point-clause-meant
-returns-in-Point-clause-meant c =
-    let left = c.args.left.now.atoms in let atom = c.args.atom.now in let asked = c.in_ok-cube.cube.atoms in let other = c.negate.new.self
-    in
-    let same : c.in_ok-negated.negated ≡ atom = c.in_ok-negated.ensures in
-    let value = on-ok (other.term ≡ negated c.in_ok-negated.negated.term) c.negate.result c.is_err.result c.is_err.ensures.value
-    c.if-is_err.false c.negate.ensures.value ∙ ap (λ (a : Atom). negated a.term) same in
-    let law = on-ok ((v : ℕ → ℤ) → (Holds v other ↔ (¬ Holds v c.in_ok-negated.negated))) c.negate.result c.is_err.result
-    c.is_err.ensures.value c.if-is_err.false c.negate.ensures.law in
-    let law_of : (v : Valuation) → Holds v other ↔ (¬ Holds v atom) = λ v. subst (λ (a : Atom). Holds v other ↔ (¬ Holds v a)) same (law v)
-    in
-    let point = subst (λ (s : Solved). IfPoint s (λ at. HoldsAll (valuation at) asked)) c.in-Point.is c.in_ok-certificate.ensures.point in
-    fails left asked atom other (valuation c.in-Point.at) c.in_ok-cube.ensures (law_of (valuation c.in-Point.at)) point
-
-pub returns-in-Limit-clause-answer : goal.returns-in-Limit-clause-answer
-returns-in-Limit-clause-answer c =
-    let left = c.args.left.now.atoms in let atom = c.args.atom.now in let asked = c.in_ok-cube.cube.atoms in let other = c.negate.new.self
-    in
-    let same : c.in_ok-negated.negated ≡ atom = c.in_ok-negated.ensures in
-    let value = on-ok (other.term ≡ negated c.in_ok-negated.negated.term) c.negate.result c.is_err.result c.is_err.ensures.value
-    c.if-is_err.false c.negate.ensures.value ∙ ap (λ (a : Atom). negated a.term) same in
-    let kept = on-ok (IsTrue (is_term other.term)) c.negate.result c.is_err.result c.is_err.ensures.value c.if-is_err.false
-    c.negate.ensures.kept in
-    let can = can-negate atom other.term value kept in
-    let is : asked ≡ with_negation left atom = asked-is left asked atom other c.in_ok-cube.ensures value in
-    (question-is left asked atom can is, subst (IsAnswer (solution asked)) c.in-Limit.is c.in_ok-certificate.ensures.plan)
+pub returns-in-Some-clause-meant : goal.returns-in-Some-clause-meant
+returns-in-Some-clause-meant c =
+    let left = c.args.left.cube.atoms in let atom = c.args.atom.now in let other = c.negate.new.self in
+    let n = negation-is atom c.in_ok-negation.negation other c.negate.result c.is_err.result c.in_ok-negation.ensures c.is_err.ensures.value
+    c.if-is_err.false c.negate.ensures.value c.negate.ensures.kept c.negate.ensures.law in
+    let found = subst (λ (o : Option Certificate). IfSome o (λ d. IsImplied c.as_slice-rows.result.now atom d)) c.in-Some.is
+    c.in_ok-certificate.ensures in
+    let i = subst (λ (as_ : List Atom). IsImplied as_ atom c.in-Some.certificate) c.as_slice-rows.ensures.value found in
+    let asked = left ++ other ∷ [] in
+    let is : asked ≡ with_negation left atom = asked-is left asked atom other refl n.value in
+    let terms = are_terms-push left other c.as_slice-rows.ensures.terms n.term in
+    let r = refutation_of c.in-Some.certificate in
+    follows left asked atom other refl n.law (λ v w h. right-sound asked r v terms i.terms (subst (λ (as_ : List Atom). Refutes as_ r)
+    (sym is) i.refutes) w h)

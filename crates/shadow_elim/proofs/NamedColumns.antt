@@ -1,11 +1,11 @@
--- The columns that rows name stay the same with a row of one of them.
+-- The columns that rows name: those of one more row, and that they stay the same with a row of one of them.
 use Rattle.std.proofs.Common.{◌≡◌, ◌⊎◌, inl, inr, ℕ, ◌≤◌, ◌+◌, nat_lt, ◌==◌, List, [], ◌∷◌, ◌++◌, ℤ, arith, refl, sym, ap, subst, ◌∙◌}
 use borrow.Author.Tests.{eqb-true}
 use Rattle.linear_formula.specs.LinearSum.{LinearSum}
 use Rattle.linear_formula.proofs.Values.{chosen}
 use Rattle.infeasible_cert.specs.Right.{with_column, with_columns, columns_of}
 use Rattle.infeasible_cert.proofs.Ascending.{Ascends, columns-ascend}
-use Rattle.shadow_elim.proofs.Members.{Among}
+use Rattle.shadow_elim.proofs.Members.{Among, among-append_right}
 
 -- Ascending columns with the same members are the same
 
@@ -142,3 +142,20 @@ columns-kept ts t x a e h =
       back : (z : ℕ) → Among z (columns_of ts) ⊎ Among z (columns_of (t ∷ [])) → Among z (columns_of ts)
       back z (inl k) = k
       back z (inr k) = row_cases z (all-cases z t.parts [] k)
+
+-- the columns of one more row
+pub columns-last : (ts : List LinearSum) (t : LinearSum) → columns_of (ts ++ t ∷ []) ≡ with_columns t.parts (columns_of ts)
+columns-last ts t =
+    same-members 0 0 (columns_of (ts ++ t ∷ [])) (columns_of (t ∷ ts)) (columns-ascend (ts ++ t ∷ [])) (columns-ascend (t ∷ ts))
+    (λ z k. forth z (more-cases z ts (t ∷ []) k)) (λ z k. back z (all-cases z t.parts (columns_of ts) k)) where
+      alone : (z : ℕ) → IsNamed z t.parts ⊎ Among z [] → Among z (with_columns t.parts (columns_of ts))
+      alone z (inl k) = all-has z t.parts (columns_of ts) k
+      alone z (inr k) = absurd k
+
+      forth : (z : ℕ) → Among z (columns_of ts) ⊎ Among z (columns_of (t ∷ [])) → Among z (with_columns t.parts (columns_of ts))
+      forth z (inl k) = all-keeps z t.parts (columns_of ts) k
+      forth z (inr k) = alone z (all-cases z t.parts [] k)
+
+      back : (z : ℕ) → IsNamed z t.parts ⊎ Among z (columns_of ts) → Among z (columns_of (ts ++ t ∷ []))
+      back z (inl k) = named-among z (ts ++ t ∷ []) t (among-append_right ts (t ∷ []) t (inl refl)) k
+      back z (inr k) = more-keeps z ts (t ∷ []) k
