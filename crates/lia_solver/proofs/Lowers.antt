@@ -14,12 +14,6 @@ pub record AreLowersTo (x : ℕ) (entries : List Entry) (n : ℕ) (places : List
   pub right : (i : ℕ) → Contains places i → (i < length entries) × IsTrue (bounds_below x (sum_at entries i).parts)
   pub all : (i : ℕ) → i < n → IsTrue (bounds_below x (sum_at entries i).parts) → Contains places i
 
-pub lowers-none : (x : ℕ) (entries : List Entry) (places : List ℕ) → places ≡ [] → AreLowersTo x entries 0 places
-lowers-none x entries places e = record {
-  right = λ i k. absurd (contains-among [] i (subst (λ (ps : List ℕ). Contains ps i) e k));
-  all = λ i h k. absurd (omega (arith, h));
-}
-
 -- one more row, which does
 pub lowers-push : (x : ℕ) (entries : List Entry) (n : ℕ) (places next : List ℕ) → AreLowersTo x entries n places → n < length entries →
     IsTrue (bounds_below x (sum_at entries n).parts) → next ≡ places ++ n ∷ [] → AreLowersTo x entries (n + 1) next

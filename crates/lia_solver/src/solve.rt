@@ -13,6 +13,7 @@ ghost use Rattle.lia_solver.specs.Answers.{IsAnswer, IfPoint, IfNever, IfLimited
 use crate::columns::columns_of;
 use crate::search::{Search, Searched};
 use crate::solved::Solved;
+use crate::table::Table;
 use linear_formula::error::OutOfMemory;
 use linear_formula::formula::Cube;
 use shadow_elim::limit::{Limit, MAX_COLUMNS};
@@ -34,7 +35,9 @@ pub fn solve(alloc: Global, cube: &Cube) -> Result<Solved, OutOfMemory>
     if columns.len() > MAX_COLUMNS {
         return Ok(Solved::Limit(Limit::Columns));
     }
-    let mut search = Search::new(alloc, atoms.len(), columns);
+    let rows = atoms.len() + 2 * columns.len();
+    let table = Table::new(alloc, rows, rows)?;
+    let mut search = Search::new(alloc, atoms.len(), columns, table);
     match search.question(cube)? {
         Searched::Answer(solved) => Ok(solved),
         Searched::Nothing(certificate) => Ok(Solved::Never(certificate)),

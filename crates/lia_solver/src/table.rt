@@ -135,6 +135,15 @@ impl Table {
         })
     }
 
+    /// Takes all rows out.
+    pub fn clear(&mut self)
+        ensures { self.new ≡ [] }
+    {
+        self.parts.clear();
+        self.lines.clear();
+        self.heads = no_heads();
+    }
+
     pub fn len(&self) -> usize
         ensures { result ≡ length self.now }
     {
