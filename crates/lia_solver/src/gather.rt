@@ -38,8 +38,8 @@ fn put_ranges(table: &mut Table, columns: &[u32], first: u32) -> Result<(), OutO
 {
     for (place, column) in columns.iter().enumerate() {
         let number = first + 2 * place as u32;
-        put(table, &[(*column, 1)], UPPER, Origin::Given(number))?;
-        put(table, &[(*column, -1)], LOWER, Origin::Given(number + 1))?;
+        table.add(&[(*column, 1)], UPPER, Origin::Given(number))?;
+        table.add(&[(*column, -1)], LOWER, Origin::Given(number + 1))?;
     }
     Ok(())
 }

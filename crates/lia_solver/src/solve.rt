@@ -19,6 +19,10 @@ use linear_formula::formula::Cube;
 use shadow_elim::limit::{Limit, MAX_COLUMNS};
 use std::alloc::Global;
 
+/// How many rows, and how many coefficients, have room at the start: most questions have no more
+/// lists of coefficients.
+const ROOM: usize = 8;
+
 /// A point of the cube, a certificate that it has none, or the limit that was met.
 pub fn solve(alloc: Global, cube: &Cube) -> Result<Solved, OutOfMemory>
     ensures plan { IfOk result (λ s. IsAnswer (solution cube.now.atoms) s) }
@@ -35,8 +39,7 @@ pub fn solve(alloc: Global, cube: &Cube) -> Result<Solved, OutOfMemory>
     if columns.len() > MAX_COLUMNS {
         return Ok(Solved::Limit(Limit::Columns));
     }
-    let rows = atoms.len() + 2 * columns.len();
-    let table = Table::new(alloc, rows, rows)?;
+    let table = Table::new(alloc, ROOM, ROOM)?;
     let mut search = Search::new(alloc, atoms.len(), columns, table);
     match search.question(cube)? {
         Searched::Answer(solved) => Ok(solved),

@@ -1,4 +1,4 @@
-use Rattle.std.proofs.Common.{◌+◌, ◌*◌, ◌<◌, ◌^◌, List, ℕ, get_or, refl, arith, subst}
+use Rattle.std.proofs.Common.{◌+◌, ◌*◌, ◌<◌, ◌^◌, List, ℕ, get_or, inr, refl, arith, subst}
 use Rattle.std.proofs.lemmas.List.{take_all}
 use Rattle.infeasible_cert.specs.Right.{range_rows}
 use Rattle.lia_solver.specs.steps.Gathered.{ArePut}
@@ -12,8 +12,9 @@ loop-place-preserved c =
     let number = c.args.first + 2 * c.loop-place.place in
     let fits = c.type_inv.columns c.loop-place.place in
     let small : x < 2 ^ 32 = omega (arith, fits) in
-    put-ranges c.args.columns.now c.args.first c.loop-place.place number (number + 1) x c.args.table.now c.loop-place.table c.put.new.table
-    c.put-in-loop-place.new.table c.loop-place-test.true refl refl refl c.loop-place.invariant c.in_ok-put.ensures c.in_ok-put-2.ensures
+    put-ranges c.args.columns.now c.args.first c.loop-place.place number (number + 1) x c.args.table.now c.loop-place.table c.add.new.self
+    c.add-in-loop-place.new.self c.loop-place-test.true refl refl refl c.loop-place.invariant (inr (refl, c.in_ok-add.ensures))
+    (inr (refl, c.in_ok-add-2.ensures))
     small
 
 pub returns : goal.returns
