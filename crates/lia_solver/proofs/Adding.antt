@@ -230,7 +230,7 @@ added-step t o old new (inr n) = new-step t o old new n
 
 -- Terms
 
-row-same : (s t : LinearSum) → s.parts ≡ t.parts → s.constant ≡ t.constant → s ≡ t
+pub row-same : (s t : LinearSum) → s.parts ≡ t.parts → s.constant ≡ t.constant → s ≡ t
 row-same s t e f = λ i. record { parts = e i; constant = f i }
 
 pub step-terms : (t : LinearSum) (o : Origin) (old new : List Entry) → IsStep t o old new → IsTrue (is_term t) → AreTermEntries old →

@@ -8,7 +8,7 @@ use Rattle.linear_formula.proofs.Limits.{IsTerm-from_test}
 use Rattle.linear_formula.proofs.Order.{listed-absent}
 use Rattle.infeasible_cert.proofs.Ascending.{Ascends}
 use Rattle.shadow_elim.specs.Division.{tightened}
-use Rattle.shadow_elim.specs.Elimination.{is_upper, is_lower, is_free, pair_sum}
+use Rattle.shadow_elim.specs.Elimination.{is_free, pair_sum}
 use Rattle.shadow_elim.specs.Reduction.{is_trivial}
 use Rattle.shadow_elim.proofs.Exact.{HasRange as IsRanged, range-kept}
 use Rattle.shadow_elim.proofs.Keeping.{IsPairOf, IsFreeIn, IsMadeOf, IsAfter}
@@ -16,12 +16,12 @@ use Rattle.shadow_elim.proofs.Members.{Among, among-filter, filter-among, contai
 use Rattle.shadow_elim.proofs.Naming.{AllTerms}
 use Rattle.shadow_elim.proofs.PairSums.{free-is}
 use Rattle.shadow_elim.proofs.Staying.{IsCovered}
-use Rattle.lia_solver.specs.steps.Choices.{HasRange}
+use Rattle.lia_solver.specs.steps.Solved.{HasRange}
 use Rattle.lia_solver.specs.steps.Entries.{Entry, entry_at, sum_at, bounds_above, bounds_below, ArePaired}
 use Rattle.lia_solver.specs.steps.Solved.{AreReady}
 use Rattle.lia_solver.specs.steps.Tables.{starts_from, sums_of, live, IsHeld, AreRows, IsOld, IsMadeIn, IsGrown, IsBehind}
 use Rattle.lia_solver.proofs.ChosenPoints.{ascends-from_test, test-from_ascends, ascends-above, NamesOnly, after-names_only}
-use Rattle.lia_solver.proofs.Choosing.{all-at, all-from, ranged-from, range-from}
+use Rattle.lia_solver.proofs.Ranges.{all-at, all-from, ranged-from, range-from}
 use Rattle.lia_solver.proofs.FirstColumns.{starts, above-upper, below-lower, above-from, below-from, starts-absent, starts-lower, starts-order, absent-starts, sum-starts}
 use Rattle.lia_solver.proofs.Growing.{upper-stays, lower-stays}
 use Rattle.lia_solver.proofs.Strongest.{AreApart, AreStrongest}
@@ -116,7 +116,7 @@ pub record IsReady (low : ℕ) (columns : List ℕ) (entries : List Entry) : Typ
   pub named : NamesOnly columns (live low entries)
   pub ranges : (x : ℕ) → Among x columns → IsRanged x (live low entries)
 
-live-terms : (x : ℕ) (entries : List Entry) → AreRows entries → AllTerms (live x entries)
+pub live-terms : (x : ℕ) (entries : List Entry) → AreRows entries → AllTerms (live x entries)
 live-terms x entries r t a =
     let p = live-place x entries t a in
     subst (λ (s : LinearSum). IsTrue (is_term s)) p.here (r.terms.greatest p.place p.inside)

@@ -51,12 +51,6 @@ pub record ArePushed (question splits : List Atom) (columns : List ℕ) (rows : 
   pub rows_are : rows ≡ numbered_from 0 (rows_of question) ++ (numbered_from (length question + 2 * length columns) (rows_of splits)
       ++ numbered_from (length question) (range_rows columns))
 
-pub pushed-in_order : (q s r : List Row) (r0 r1 r2 r3 : List Row) → r0 ≡ [] → r1 ≡ r0 ++ q → r2 ≡ r1 ++ s → r3 ≡ r2 ++ r →
-    r3 ≡ q ++ (s ++ r)
-pushed-in_order q s r r0 r1 r2 r3 none e f g =
-    g ∙ ap (λ (rs : List Row). rs ++ r) (f ∙ ap (λ (rs : List Row). rs ++ s) (e ∙ ap (λ (rs : List Row). rs ++ q) none)) ∙ append_assoc q s
-    r
-
 pub pushed-terms : (question splits : List Atom) (columns : List ℕ) (rows : List Row) → ArePushed question splits columns rows →
     terms_of rows ≡ rows_of (question ++ splits) ++ range_rows columns
 pushed-terms question splits columns rows h =

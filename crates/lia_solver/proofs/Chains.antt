@@ -11,7 +11,7 @@ use Rattle.std.specs.List.{slice_range}
 use Rattle.std.proofs.lemmas.List.{get_or-map, get_or-replicate, length-map, length-set, length-drop, length-append, take-append-le, take_all, get_or_append_left, get_or_push, get_or_default, drop-append-le, map-append, get_or-set_same, get_or-set_other}
 use Rattle.std.proofs.Math.Nat.{mod-lt}
 use Rattle.std.proofs.Math.Seq.{drop-append_seam, map-set_same}
-use Rattle.lia_solver.specs.steps.Lines.{parts_of_line, parts_at, bucket_at, IsPast, AreInChains, AreLines, IsChained, joined_line}
+use Rattle.lia_solver.specs.steps.Lines.{parts_of_line, parts_at, bucket_at, IsPast, AreInChains, AreLines, joined_line}
 
 -- A search along a chain
 
@@ -20,14 +20,6 @@ pub record IsFinding (pool : List (ℕ × ℤ)) (lines : List Line) (past : ℕ)
   pub limit : past ≤ length lines
   pub other : (j : ℕ) → past ≤ j → j < length lines → parts_at pool lines j ≡ parts → ⊥
   pub chain : (j : ℕ) → past ≡ suc j → bucket_at pool lines j ≡ bucket_of parts
-
-pub finding-first : (pool : List (ℕ × ℤ)) (lines : List Line) (past : ℕ) (parts : List (ℕ × ℤ)) → IsChained pool lines past parts →
-    IsFinding pool lines past parts
-finding-first pool lines past parts h = record {
-  limit = h.head.limit;
-  other = λ j a b e. h.head.none j a b (ap bucket_of e);
-  chain = h.head.last;
-}
 
 -- the line before has other coefficients
 pub finding-more : (pool : List (ℕ × ℤ)) (lines : List Line) (past place before : ℕ) (parts : List (ℕ × ℤ)) → past ≡ suc place →

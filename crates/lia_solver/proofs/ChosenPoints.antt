@@ -16,7 +16,6 @@ use Rattle.shadow_elim.specs.Division.{floor_quotient, ceiling_quotient}
 use Rattle.shadow_elim.specs.Elimination.{is_upper, is_lower, size_of, Remainder, remains, wide, too_many, after_column}
 use Rattle.shadow_elim.specs.Points.{Outcome, chosen, refuted, split, too_wide, too_many_rows, least_value, greatest_value, rest_of, upper_bound, lower_bound, lower_floor, nearest, with_value, outcome_after, outcome}
 use Rattle.shadow_elim.specs.Reduction.{is_contradiction, has_no_parts}
-use Rattle.lia_solver.specs.steps.Choices.{columns_of_values}
 use Rattle.shadow_elim.proofs.Tightening.{floor-bounds, ceiling-bounds}
 use Rattle.shadow_elim.proofs.PairSums.{upper-is, lower-is, free-is, rest_at, value-with_column, value-split}
 use Rattle.shadow_elim.proofs.Members.{Among, among-filter, among-map}
@@ -30,6 +29,9 @@ use Rattle.shadow_elim.proofs.Exact.{neg-mul}
 use Rattle.shadow_elim.proofs.Exact.{sign-cases}
 
 -- Ascending columns
+
+abbrev pub columns_of_values : List (ℕ × ℤ) → List ℕ
+columns_of_values values = map (λ p. p.0) values
 
 pub ascends-from_test : (low : ℕ) (xs : List ℕ) → IsTrue (is_ascending_from low (map (λ x. (x, pos 0)) xs)) → Ascends low xs
 ascends-from_test low [] h = tt

@@ -31,9 +31,6 @@ pub covered-then : (rows others : List LinearSum) (t : LinearSum) → Covers row
 covered-then rows others t h (inl e) = inl e
 covered-then rows others t h (inr g) = covered-weaker rows g.0 t g.2 (h g.0 g.1)
 
-pub covers-then : (rows others more : List LinearSum) → Covers rows others → Covers others more → Covers rows more
-covers-then rows others more h k = λ t a. covered-then rows others t h (k t a)
-
 pub covers-among : (rows others : List LinearSum) → ((t : LinearSum) → Among t others → Among t rows) → Covers rows others
 covers-among rows others h = λ t a. inr (t, h t a, at-least-itself t)
 

@@ -21,7 +21,7 @@ use Rattle.lia_solver.specs.steps.Entries.{Entry, entry_at, sum_at, making_of, b
 use Rattle.lia_solver.specs.steps.Solved.{IsMadeEarlier, IsOf, HaveOrigins}
 use Rattle.lia_solver.specs.steps.Tables.{starts_from, IsMadeIn}
 use Rattle.lia_solver.proofs.FirstColumns.{above-upper, below-lower}
-use Rattle.lia_solver.proofs.Renumbering.{terms-push}
+use Rattle.lia_solver.proofs.Closing.{terms-push}
 
 -- Numbers
 

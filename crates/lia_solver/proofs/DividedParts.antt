@@ -1,5 +1,5 @@
 -- Coefficients that are divided in place.
-use Rattle.std.proofs.Common.{◌≡◌, ℕ, suc, zero, ◌<◌, ◌≤◌, List, [], ◌∷◌, ◌++◌, length, get_or, set, take, drop, ℤ, arith, refl, ap}
+use Rattle.std.proofs.Common.{◌≡◌, ℕ, suc, zero, ◌<◌, List, [], ◌∷◌, ◌++◌, length, get_or, set, take, drop, ℤ, arith, refl, ap}
 use Rattle.shadow_elim.specs.Division.{divided_parts, floor_quotient}
 
 -- the first coefficients divided, the others as they were
@@ -16,14 +16,6 @@ pub divided-here : (d k : ℕ) (ps : List (ℕ × ℤ)) (e : ℕ × ℤ) → k <
 divided-here d k [] e h = absurd (omega (arith, h))
 divided-here d zero (p ∷ ps) e h = refl
 divided-here d (suc k) (p ∷ ps) e h = divided-here d k ps e (omega (arith, h))
-
-pub divided-all : (d k : ℕ) (ps : List (ℕ × ℤ)) → length ps ≤ k → partly_divided d k ps ≡ divided_parts d ps
-divided-all d k [] h = none d k where
-  none : (d k : ℕ) → partly_divided d k [] ≡ []
-  none d zero = refl
-  none d (suc k) = refl
-divided-all d zero (p ∷ ps) h = absurd (omega (arith, h))
-divided-all d (suc k) (p ∷ ps) h = ap (λ qs. (p.0, floor_quotient p.1 d) ∷ qs) (divided-all d k ps (omega (arith, h)))
 
 pub divided-length : (d k : ℕ) (ps : List (ℕ × ℤ)) → length (partly_divided d k ps) ≡ length ps
 divided-length d zero ps = refl

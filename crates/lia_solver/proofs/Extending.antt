@@ -168,18 +168,6 @@ extended-crossed x entries values h =
       crossed : (y z : ℤ) → IsTrue (int_lt z y) → int_le y z ≡ false
       crossed y z k = grind (arith, ints)
 
-pub extended-met : (x : ℕ) (entries : List Entry) (values : List (ℕ × ℤ)) → int_lt (high_in x values entries) (low_in x values entries)
-    ≡ false → extended_in x entries values ≡ chosen ((x, nearest (low_in x values entries) (high_in x values entries)) ∷ values)
-extended-met x entries values h =
-    let met : int_le (low_in x values entries) (high_in x values entries) ≡ true = meets (low_in x values entries)
-    (high_in x values entries)
-    h
-    in
-    ap (λ b. if b then chosen ((x, nearest (low_in x values entries) (high_in x values entries)) ∷ values) else split x
-    (floor_in x values entries)) met where
-      meets : (y z : ℤ) → int_lt z y ≡ false → int_le y z ≡ true
-      meets y z k = grind (arith, ints)
-
 pub low-between : (x : ℕ) (values : List (ℕ × ℤ)) (entries : List Entry) → least_value ≤ℤ low_in x values entries
 low-between x values entries = greatest-start least_value (map (lower_of x values) (lowers_in x entries))
 

@@ -299,15 +299,3 @@ lowers-then x a b places s h = record {
       let f = s.back i q (below-starts x (x + 1) (sum_at b i).parts (omega arith) k) in
       h.all i f.0 (subst (λ (e : Entry). IsTrue (bounds_below x e.sum.parts)) f.1 k);
 }
-
-pub lowers-back : (x : ℕ) (a b : List Entry) (places : List ℕ) → AreSameBelow (x + 1) a b → AreLowerPlaces x b places →
-    AreLowerPlaces x a places
-lowers-back x a b places s h = record {
-  right = λ i k.
-      let r = h.right i k in
-      let f = s.back i r.0 (below-starts x (x + 1) (sum_at b i).parts (omega arith) r.1) in
-      (f.0, subst (λ (e : Entry). IsTrue (bounds_below x e.sum.parts)) f.1 r.1);
-  all = λ i q k.
-      let f = s.forth i q (below-starts x (x + 1) (sum_at a i).parts (omega arith) k) in
-      h.all i f.0 (subst (λ (e : Entry). IsTrue (bounds_below x e.sum.parts)) (sym f.1) k);
-}

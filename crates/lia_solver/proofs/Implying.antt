@@ -26,7 +26,7 @@ use Rattle.shadow_elim.proofs.NamedColumns.{IsNamed, named-among, columns-last, 
 use Rattle.shadow_elim.proofs.PlainRows.{parts-cancel, ArePlain, IsDoomed, doomed-refuted, few-bear}
 use Rattle.shadow_elim.proofs.Strength.{AsStrong-from_test}
 use Rattle.lia_solver.specs.steps.Implied.{IsShort, IsSimple, sum_of_two}
-use Rattle.lia_solver.proofs.Choosing.{all-at}
+use Rattle.lia_solver.proofs.Ranges.{all-at}
 use Rattle.lia_solver.proofs.Sides.{search-refuted}
 use Rattle.lia_solver.proofs.Solving.{few-columns}
 

@@ -1,5 +1,5 @@
 -- Rows that bound a column from below, and how many rows a column has passed.
-use Rattle.std.proofs.Common.{◌≡◌, ◌⊎◌, inl, inr, ℕ, suc, ◌<◌, ◌≤◌, ◌+◌, Bool, true, false, not, List, [], ◌∷◌, ◌++◌, length, take, arith, sym, ap, subst, ◌∙◌}
+use Rattle.std.proofs.Common.{◌≡◌, ◌⊎◌, inl, inr, ℕ, suc, ◌<◌, ◌≤◌, ◌+◌, Bool, true, false, not, List, [], ◌∷◌, ◌++◌, length, take, ℤ, arith, refl, sym, ap, subst, ◌∙◌}
 use Rattle.std.specs.Prelude.{IsTrue, Contains, filter, if◌then◌else◌}
 use Rattle.std.proofs.lemmas.Bool.{cases_lt}
 use Rattle.std.proofs.lemmas.List.{length-append, length-take-le, take_more, take_all}
@@ -7,18 +7,13 @@ use Rattle.std.proofs.lemmas.List.Elements.{filter-append}
 use Rattle.shadow_elim.proofs.Members.{Among, among-append_left, among-append_right, among-append_cases, contains-among, among-contains}
 use Rattle.lia_solver.specs.steps.Entries.{Entry, no_entry, entry_at, sum_at, bounds_below}
 use Rattle.lia_solver.specs.steps.Tables.{starts_from, is_passed, passed, AreLowerPlaces}
+use Rattle.lia_solver.proofs.FirstColumns.{below-starts}
 use Rattle.lia_solver.proofs.Growing.{filter-no}
 
 -- those among the first rows
 pub record AreLowersTo (x : ℕ) (entries : List Entry) (n : ℕ) (places : List ℕ) : Type 0 where
   pub right : (i : ℕ) → Contains places i → (i < length entries) × IsTrue (bounds_below x (sum_at entries i).parts)
   pub all : (i : ℕ) → i < n → IsTrue (bounds_below x (sum_at entries i).parts) → Contains places i
-
-pub lowers-none : (x : ℕ) (entries : List Entry) (places : List ℕ) → places ≡ [] → AreLowersTo x entries 0 places
-lowers-none x entries places e = record {
-  right = λ i k. absurd (contains-among [] i (subst (λ (ps : List ℕ). Contains ps i) e k));
-  all = λ i h k. absurd (omega (arith, h));
-}
 
 -- one more row, which does
 pub lowers-push : (x : ℕ) (entries : List Entry) (n : ℕ) (places next : List ℕ) → AreLowersTo x entries n places → n < length entries →
@@ -37,6 +32,13 @@ lowers-push x entries n places next a h k e = subst (AreLowersTo x entries (n + 
       among-contains (places ++ n ∷ []) i (among-append_left places (n ∷ []) i (contains-among places i (a.all i lt b)))
   by_place i b (inr ge) q =
       among-contains (places ++ n ∷ []) i (among-append_right places (n ∷ []) i (inl (omega (arith, ge, q))))
+
+-- a row that names no column up to x doesn't bound it
+pub below-apart : (x : ℕ) (ps : List (ℕ × ℤ)) → starts_from (x + 1) ps ≡ true → bounds_below x ps ≡ false
+below-apart x ps h = by_value (bounds_below x ps) refl where
+  by_value : (b : Bool) → bounds_below x ps ≡ b → b ≡ false
+  by_value true e = sym h ∙ below-starts x (x + 1) ps (omega arith) e
+  by_value false e = refl
 
 -- one more row, which doesn't
 pub lowers-skip : (x : ℕ) (entries : List Entry) (n : ℕ) (places : List ℕ) → AreLowersTo x entries n places →

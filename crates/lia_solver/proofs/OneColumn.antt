@@ -18,7 +18,7 @@ use Rattle.lia_solver.specs.declared.columnwise.Chosen.TheVariants as found
 use Rattle.lia_solver.specs.declared.table.Origin.{Origin}
 use Rattle.lia_solver.specs.declared.table.Origin.TheVariants.{Given, Made}
 use Rattle.lia_solver.specs.steps.Entries.{Entry, entry_at, sum_at}
-use Rattle.lia_solver.specs.steps.Solved.{AreReady, IsMadeEarlier, IsOf, HaveOrigins, AreKept, IsRefuted, IsChosenIn}
+use Rattle.lia_solver.specs.steps.Solved.{AreReady, IsMadeEarlier, IsOf, HaveOrigins, AreKept, IsChosenIn}
 use Rattle.lia_solver.specs.steps.Tables.{starts_from, live, AreRows, IsOld, IsMadeIn, IsGrown, IsBehind, IsOverfull, HasWide}
 use Rattle.lia_solver.proofs.Behind.{IsReady, ready-is, is-ready, live-among, live-place, live-strongest, places-pair, pair-places, grown-from, behind-ready}
 use Rattle.lia_solver.proofs.ChosenPoints.{ascends-from_lower, values-ascend, outcome-chosen}
@@ -181,13 +181,3 @@ found-passed x xs old mid new (found.Contradiction place) b ready n h = record {
 }
 found-passed x xs old mid new found.Wide b ready n h = tt
 found-passed x xs old mid new found.Rows b ready n h = tt
-
--- nothing is left but a contradiction
-pub bare-refuted : (entries : List Entry) (i : ℕ) → AreRows entries → i < length entries → (sum_at entries i).parts ≡ [] →
-    IsRefuted [] entries entries i
-bare-refuted entries i r h e = record {
-  rows = r;
-  inside = h;
-  never = bare-never entries i r h e;
-  origins = λ base low ready k. origins-later base low (2 ^ 32) entries ready.bound k;
-}

@@ -183,9 +183,6 @@ row-within s ps qs c e h f =
 
 -- Measured sums, one after another
 
-pub narrow-none : (x : ℕ) (entries : List Entry) (u : ℕ) (places : List ℕ) → AreNarrowTo x entries u places 0
-narrow-none x entries u places i d h = absurd (omega (arith, h))
-
 pub narrow-more : (x : ℕ) (entries : List Entry) (u : ℕ) (places : List ℕ) (n : ℕ) → n < length places → AreNarrowTo x entries u places n →
     IsTrue (is_within (pair_sum x (sum_at entries u, sum_at entries (get_or places n 0)))) → AreNarrowTo x entries u places (n + 1)
 narrow-more x entries u places n h s w i d k = by_place (cases_lt i n) where
@@ -198,12 +195,6 @@ narrow-more x entries u places n h s w i d k = by_place (cases_lt i n) where
         equal : (a b : ℕ) → b ≤ a → a ≤ b → a ≡ b
         equal a b p q = omega (arith, p, q)
 
-pub narrow-all : (x : ℕ) (entries : List Entry) (u : ℕ) (places : List ℕ) (n : ℕ) → length places ≤ n → AreNarrowTo x entries u places n →
-    (l : ℕ) → Contains places l → IsTrue (is_within (pair_sum x (sum_at entries u, sum_at entries l)))
-narrow-all x entries u places n h s l c =
-    let p = listed-place places l c in
-    subst (λ (k : ℕ). IsTrue (is_within (pair_sum x (sum_at entries u, sum_at entries k)))) (p.2 0) (s p.0 0 (omega (arith, h, p.1)))
-
 pub all-narrow-more : (x : ℕ) (entries : List Entry) (n : ℕ) → AreAllNarrowTo x entries n → ((l : ℕ) → ArePaired x entries n l →
     IsTrue (is_within (pair_sum x (sum_at entries n, sum_at entries l)))) → AreAllNarrowTo x entries (n + 1)
 all-narrow-more x entries n s w u l h p = by_place (cases_lt u n) where
@@ -213,9 +204,6 @@ all-narrow-more x entries n s w u l h p = by_place (cases_lt u n) where
       let same : u ≡ n = omega (arith, h, ge) in
       subst (λ (v : ℕ). IsTrue (is_within (pair_sum x (sum_at entries v, sum_at entries l)))) (sym same)
       (w l (subst (λ (v : ℕ). ArePaired x entries v l) same p))
-
-pub all-narrow : (x : ℕ) (entries : List Entry) (n : ℕ) → length entries ≤ n → AreAllNarrowTo x entries n → AreNarrow x entries
-all-narrow x entries n h s u l p = s u l (omega (arith, h, p.upper_place)) p
 
 -- a row that doesn't bound the column from above is the upper one of no pair
 pub not-upper : {X : Type 0} (x : ℕ) (entries : List Entry) (u l : ℕ) → bounds_above x (sum_at entries u).parts ≡ false →
@@ -239,11 +227,6 @@ eliminated-more x old now new n r e g s = record {
   by_place u l h p q (inr ge) =
       let same : u ≡ n = omega (arith, h, ge) in
       subst (λ (v : ℕ). IsSummed x new v l) (sym same) (s l (subst (λ (v : ℕ). ArePaired x now v l) same q))
-
-pub eliminated-skip : (x : ℕ) (old now : List Entry) (n : ℕ) → AreRows old → AreEliminatedTo x old now n →
-    bounds_above x (sum_at now n).parts ≡ false → AreEliminatedTo x old now (n + 1)
-eliminated-skip x old now n r e h =
-    eliminated-more x old now now n r e (grown-start x now e.grown.rows) (λ l p. not-upper x now n l h p)
 
 pub has-wide_back : (x : ℕ) (old now : List Entry) → AreRows old → IsGrown x old now → HasWide x now → HasWide x old
 has-wide_back x old now r g w = wide-back x old now w.upper w.lower r g w.paired w.wide

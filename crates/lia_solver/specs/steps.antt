@@ -2,16 +2,13 @@ pub mod Asked
 pub mod Bounded
 pub mod Branches
 pub mod Buckets
-pub mod Choices
 pub mod Deriving
 pub mod Entries
 pub mod Further
+pub mod Gathered
 pub mod Implied
 pub mod Lines
-pub mod Merged
 pub mod Numbers
-pub mod Pruned
 pub mod Searches
-pub mod Settling
 pub mod Solved
 pub mod Tables

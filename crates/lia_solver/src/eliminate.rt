@@ -67,30 +67,24 @@ fn starts_beyond(column: u32, parts: &[(u32, i128)]) -> bool
     }
 }
 
-/// How many rows name the column or an earlier one.
-fn passed(column: u32, table: &Table) -> usize
-    ensures { result ≡ passed (column + 1) table.now }
-{
-    let mut count = 0;
-    for place in 0..table.len() {
-        if !starts_beyond(column, table.parts(place)) {
-            count += 1;
-        }
-    }
-    count
-}
-
-/// Lists the rows that bound the column from below.
-fn list_lowers(places: &mut Vec<usize>, column: u32, table: &Table) -> Result<(), OutOfMemory>
-    ensures { OnOk result (AreLowerPlaces column table.now places.new.items) }
+/// Lists the rows that bound the column from below, and says how many rows name it or an earlier
+/// one.
+fn list_lowers(places: &mut Vec<usize>, column: u32, table: &Table) -> Result<usize, OutOfMemory>
+    ensures places { OnOk result (AreLowerPlaces column table.now places.new.items) }
+    ensures passed { IfOk result (λ n. n ≡ passed (column + 1) table.now) }
 {
     places.clear();
+    let mut passed = 0;
     for place in 0..table.len() {
-        if bounds_below(column, table.parts(place)) {
-            places.push(place)?;
+        let parts = table.parts(place);
+        if !starts_beyond(column, parts) {
+            passed += 1;
+            if bounds_below(column, parts) {
+                places.push(place)?;
+            }
         }
     }
-    Ok(())
+    Ok(passed)
 }
 
 /// Adds a row unless it always holds.
@@ -209,23 +203,24 @@ fn are_all_narrow(
 }
 
 /// Adds the sums of all upper rows with the lower ones, until one is too wide or too many rows are
-/// left. From then on sums are measured, and none is kept.
+/// left, beside those that are behind. From then on sums are measured, and none is kept.
 fn add_all(
     parts: &mut Vec<(u32, i128)>,
     column: u32,
     table: &mut Table,
     lowers: &[usize],
+    behind: usize,
 ) -> Result<Eliminated, OutOfMemory>
     requires rows { AreRows table.old }
     requires lowers { AreLowerPlaces column table.old lowers.now }
+    requires passed { behind ≡ passed (column + 1) table.old }
     ensures { IfOk result (λ p. IsLeft column table.old table.new p) }
 {
-    let passed = passed(column, table);
     for place in 0..table.len() {
         if !add_sums_of(parts, column, table, place, lowers)? {
             return Ok(Eliminated::Wide);
         }
-        if table.len() - passed > MAX_ROWS {
+        if table.len() - behind > MAX_ROWS {
             let narrow = are_all_narrow(parts, column, table, lowers)?;
             return Ok(if narrow {
                 Eliminated::Rows
@@ -234,7 +229,7 @@ fn add_all(
             });
         }
     }
-    if table.len() - passed > MAX_ROWS {
+    if table.len() - behind > MAX_ROWS {
         return Ok(Eliminated::Rows);
     }
     Ok(Eliminated::Done)
@@ -245,6 +240,6 @@ pub fn eliminate(work: &mut Work, table: &mut Table, column: u32) -> Result<Elim
     requires { AreRows table.old }
     ensures { IfOk result (λ p. IsLeft column table.old table.new p) }
 {
-    list_lowers(&mut work.lowers, column, table)?;
-    add_all(&mut work.parts, column, table, &work.lowers)
+    let behind = list_lowers(&mut work.lowers, column, table)?;
+    add_all(&mut work.parts, column, table, &work.lowers, behind)
 }

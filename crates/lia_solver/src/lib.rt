@@ -3,18 +3,17 @@
 
 mod bounds;
 mod branch;
-mod choice;
 mod columns;
 mod columnwise;
 mod derivation;
 mod division;
 mod eliminate;
 pub mod entails;
+mod gather;
 mod implied;
 mod merge;
+mod narrow;
 mod pairing;
-mod pruning;
-mod refutation;
 mod search;
 pub mod solve;
 pub mod solved;

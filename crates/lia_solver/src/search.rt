@@ -10,7 +10,9 @@ ghost use Rattle.lia_solver.specs.steps.Further.{AreOutcomeTerms, AreSearchedTer
 ghost use Rattle.lia_solver.specs.steps.Searches.{IsSearchable};
 
 use crate::branch::{BranchOutcome, solve_branch};
+use crate::eliminate::Work;
 use crate::solved::Solved;
+use crate::table::Table;
 use infeasible_cert::certificate::Certificate;
 use linear_formula::error::OutOfMemory;
 use linear_formula::formula::{Atom, Cube};
@@ -28,14 +30,16 @@ pub enum Searched {
     Nothing(Certificate),
 }
 
-/// The search of one question: how many atoms it has, its columns, and the cubes that were split so
-/// far.
+/// The search of one question: how many atoms it has, its columns, the cubes that were split so
+/// far, and what each branch uses anew.
 #[derive(Drop)]
 pub struct Search {
     alloc: Global,
     atoms: usize,
     columns: Vec<u32>,
     splits: Vec<Cube>,
+    work: Work,
+    table: Table,
 }
 
 /// The cube with one more row.
@@ -46,7 +50,7 @@ fn with_row(alloc: Global, cube: &Cube, term: Term) -> Result<Cube, OutOfMemory>
 }
 
 impl Search {
-    pub fn new(alloc: Global, atoms: usize, columns: Vec<u32>) -> Search
+    pub fn new(alloc: Global, atoms: usize, columns: Vec<u32>, table: Table) -> Search
         ensures atoms { result.atoms ≡ atoms }
         ensures columns { result.columns.items ≡ columns.items }
         ensures splits { result.splits.items ≡ [] }
@@ -56,19 +60,31 @@ impl Search {
             atoms,
             columns,
             splits: Vec::new(alloc),
+            work: Work::new(alloc),
+            table,
         }
     }
 
-    fn outcome(&self, cube: &Cube) -> Result<BranchOutcome, OutOfMemory>
-        requires branch { IsSearchable self.now cube.now.atoms }
+    fn outcome(&mut self, cube: &Cube) -> Result<BranchOutcome, OutOfMemory>
+        requires branch { IsSearchable self.old cube.now.atoms }
         ensures plan { IfOk result (λ o. outcome_of cube.now.atoms ≡ planned o) }
         ensures right { IfOk result
-            (λ o. IsRightOutcome (take self.now.atoms cube.now.atoms)
-            (drop self.now.atoms cube.now.atoms) o) }
+            (λ o. IsRightOutcome (take self.old.atoms cube.now.atoms)
+            (drop self.old.atoms cube.now.atoms) o) }
         ensures terms { IfOk result (λ o. AreOutcomeTerms o) }
+        ensures atoms { self.new.atoms ≡ self.old.atoms }
+        ensures columns { self.new.columns.items ≡ self.old.columns.items }
+        ensures splits { self.new.splits.items ≡ self.old.splits.items }
     {
         let (question, splits) = cube.atoms.as_slice().split_at(self.atoms);
-        solve_branch(self.alloc, question, splits, &self.columns)
+        solve_branch(
+            self.alloc,
+            &mut self.work,
+            &mut self.table,
+            question,
+            splits,
+            &self.columns,
+        )
     }
 
     /// Searches the whole question. It is copied only where it is split or kept with a limit.

@@ -13,10 +13,15 @@ ghost use Rattle.lia_solver.specs.Answers.{IsAnswer, IfPoint, IfNever, IfLimited
 use crate::columns::columns_of;
 use crate::search::{Search, Searched};
 use crate::solved::Solved;
+use crate::table::Table;
 use linear_formula::error::OutOfMemory;
 use linear_formula::formula::Cube;
 use shadow_elim::limit::{Limit, MAX_COLUMNS};
 use std::alloc::Global;
+
+/// How many rows, and how many coefficients, have room at the start: most questions have no more
+/// lists of coefficients.
+const ROOM: usize = 8;
 
 /// A point of the cube, a certificate that it has none, or the limit that was met.
 pub fn solve(alloc: Global, cube: &Cube) -> Result<Solved, OutOfMemory>
@@ -54,7 +59,9 @@ pub(crate) fn solve_along(
     if columns.len() > MAX_COLUMNS {
         return Ok(Solved::Limit(Limit::Columns));
     }
-    let mut search = Search::new(alloc, cube.atoms.as_slice().len(), columns);
+    let atoms = cube.atoms.as_slice().len();
+    let table = Table::new(alloc, ROOM, ROOM)?;
+    let mut search = Search::new(alloc, atoms, columns, table);
     match search.question(cube)? {
         Searched::Answer(solved) => Ok(solved),
         Searched::Nothing(certificate) => Ok(Solved::Never(certificate)),

@@ -104,20 +104,14 @@ fn no_heads() -> [usize; BUCKETS]
     [0; BUCKETS]
 }
 
-/// The line with one more row of its coefficients: the stronger one of both stands.
-fn joined(line: Line, constant: i128, origin: Origin) -> Line
-    ensures { result ≡ joined_line line constant origin }
+/// Joins one more row of its coefficients to the line: the stronger one of both stands.
+fn join(line: &mut Line, constant: i128, origin: Origin)
+    ensures { line.new ≡ joined_line line.old constant origin }
 {
-    let least = line.least.min(constant);
+    line.least = line.least.min(constant);
     if line.constant < constant {
-        Line {
-            constant,
-            least,
-            origin,
-            ..line
-        }
-    } else {
-        Line { least, ..line }
+        line.constant = constant;
+        line.origin = origin;
     }
 }
 
@@ -133,6 +127,18 @@ impl Table {
             lines,
             heads,
         })
+    }
+
+    /// Takes all rows out.
+    pub fn clear(&mut self)
+        ensures { self.new ≡ [] }
+    {
+        if self.lines.is_empty() {
+            return;
+        }
+        self.parts.clear();
+        self.lines.clear();
+        self.heads = no_heads();
     }
 
     pub fn len(&self) -> usize
@@ -198,8 +204,7 @@ impl Table {
         let before = self.heads[bucket];
         match find(&self.parts, &self.lines, before, parts) {
             Some(place) => {
-                let line = self.lines[place];
-                self.lines[place] = joined(line, constant, origin);
+                join(&mut self.lines[place], constant, origin);
                 Ok(())
             }
             None => {

@@ -1,5 +1,5 @@
 -- Branches of a question: its atoms, and then one for each split on the way.
-use Rattle.std.specs.Prelude.{◌≡◌, ℕ, ◌≤◌, List, ◌++◌, ℤ, pos, ◌<ℤ◌, Contains}
+use Rattle.std.specs.Prelude.{◌≡◌, ℕ, ◌≤◌, List, ◌++◌, pos, ◌<ℤ◌, Contains}
 use Rattle.linear_formula.specs.LinearSum.{LinearSum, valuation}
 use Rattle.linear_formula.specs.Formula.{HoldsAll}
 use Rattle.linear_formula.specs.declared.formula.Atom.{Atom}
@@ -10,24 +10,9 @@ use Rattle.shadow_elim.specs.Points.{Outcome, chosen, refuted, split, too_wide, 
 use Rattle.shadow_elim.specs.Plan.{Search, nothing}
 use Rattle.lia_solver.specs.declared.branch.BranchOutcome.{BranchOutcome}
 use Rattle.lia_solver.specs.declared.branch.BranchOutcome.TheVariants as branch
-use Rattle.lia_solver.specs.declared.choice.Choice.{Choice}
-use Rattle.lia_solver.specs.declared.choice.Choice.TheVariants as choice
 use Rattle.lia_solver.specs.declared.search.Searched.{Searched}
 use Rattle.lia_solver.specs.declared.search.Searched.TheVariants as searched
 use Rattle.lia_solver.specs.Answers.{IsAnswer, IfPoint}
-
--- a choice as the outcome of an elimination without a contradiction
-abbrev pub chosen_by : Choice → Outcome
-chosen_by (choice.Values values) = chosen values
-chosen_by (choice.Split column at) = split column at
-
-abbrev pub IfValues : Choice → (List (ℕ × ℤ) → Type 0) → Type 0
-IfValues (choice.Values values) P = P values
-IfValues (choice.Split column at) P = Unit {0}
-
-abbrev pub IfSplit : Choice → (ℕ → ℤ → Type 0) → Type 0
-IfSplit (choice.Values values) P = Unit {0}
-IfSplit (choice.Split column at) P = P column at
 
 -- what a branch came to, as an outcome of the plan
 abbrev pub planned : BranchOutcome → Outcome

@@ -1,5 +1,5 @@
 -- What the rows of a table come to, column by column.
-use Rattle.std.specs.Prelude.{◌≡◌, ℕ, ◌+◌, ◌^◌, ◌<◌, ◌≤◌, true, List, ◌∷◌, length, map, filter, IsTrue, Contains, All, ℤ, pos, neg_ℤ, int_le, ◌<ℤ◌, if◌then◌else◌}
+use Rattle.std.specs.Prelude.{◌≡◌, ℕ, ◌+◌, ◌^◌, ◌<◌, ◌≤◌, true, List, [], ◌∷◌, length, map, filter, IsTrue, Contains, All, ℤ, pos, negsuc, neg_ℤ, int_le, ◌≤ℤ◌, ◌<ℤ◌, if◌then◌else◌}
 use Rattle.linear_formula.specs.LinearSum.{LinearSum, coefficient, is_ascending_from}
 use Rattle.infeasible_cert.specs.Right.{row_at}
 use Rattle.shadow_elim.specs.Division.{floor_quotient, ceiling_quotient}
@@ -10,7 +10,6 @@ use Rattle.lia_solver.specs.declared.columnwise.Chosen.{Chosen}
 use Rattle.lia_solver.specs.declared.columnwise.Chosen.TheVariants as found
 use Rattle.lia_solver.specs.declared.table.Origin.{Origin}
 use Rattle.lia_solver.specs.declared.table.Origin.TheVariants.{Given, Made}
-use Rattle.lia_solver.specs.steps.Choices.{HasRange}
 use Rattle.lia_solver.specs.steps.Entries.{Entry, entry_at, sum_at, bounds_above, bounds_below}
 use Rattle.lia_solver.specs.steps.Tables.{starts_from, sums_of, live, AreRows, AreSameBelow, IsMadeIn}
 
@@ -53,6 +52,14 @@ outcome_by (found.Split column at) = split column at
 outcome_by (found.Contradiction place) = refuted
 outcome_by found.Wide = too_wide
 outcome_by found.Rows = too_many_rows
+
+-- rows that keep the column in its range, or stronger ones, are among the rows
+abbrev pub HasRange : List LinearSum → ℕ → Type 0
+HasRange rows x =
+    ((t : LinearSum) × Contains rows t × (t.parts ≡ (x, pos 1) ∷ [])
+    × (negsuc 9223372036854775806 ≤ℤ t.constant)) ×
+    ((t : LinearSum) × Contains rows t × (t.parts ≡ (x, negsuc 0) ∷ [])
+    × (negsuc 9223372036854775807 ≤ℤ t.constant))
 
 -- columns that can be eliminated from the rows that name no column before `low`
 pub record AreReady (low : ℕ) (columns : List ℕ) (entries : List Entry) : Type 0 where

@@ -4,7 +4,7 @@ use Rattle.std.specs.Int.{w64, w128}
 use Rattle.std.proofs.lemmas.Int.{ints}
 use Rattle.shadow_elim.specs.Points.{split}
 use Rattle.lia_solver.specs.steps.Solved.{high_in, low_in, floor_in}
-use Rattle.lia_solver.proofs.Choosing.{ascending-lower, fits-between}
+use Rattle.lia_solver.proofs.Ranges.{ascending-lower, fits-between}
 use Rattle.lia_solver.proofs.Extending.{extended-crossed, low-between, floor-between, high-between}
 use Rattle.lia_solver.proofs.columnwise.extend.Goals as goal
 

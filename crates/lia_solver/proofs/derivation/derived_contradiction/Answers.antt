@@ -1,4 +1,4 @@
-use Rattle.lia_solver.proofs.Renumbering.{both-hold, ends-in_contradiction}
+use Rattle.lia_solver.proofs.Closing.{both-hold, ends-in_contradiction}
 use Rattle.lia_solver.specs.steps.Entries.{sum_at}
 use Rattle.lia_solver.proofs.derivation.derived_contradiction.Goals as goal
 

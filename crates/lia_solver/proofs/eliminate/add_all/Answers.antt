@@ -26,8 +26,8 @@ overflow_sub-len c =
     omega (
       arith,
       c.len.ensures,
-      passed-fits c.args.column c.args.table.now c.add_sums_of.new.table c.passed-passed.result e.grown
-          c.passed-passed.ensures,
+      passed-fits c.args.column c.args.table.now c.add_sums_of.new.table c.args.behind e.grown
+          c.requires.passed,
     )
 
 pub are_all_narrow-requires-clause-lowers : goal.are_all_narrow-requires-clause-lowers
@@ -40,14 +40,14 @@ pub returns-then-narrow : goal.returns-then-narrow
 returns-then-narrow c =
     let e = eliminated-more c.args.column c.args.table.now c.loop-place.table c.add_sums_of.new.table c.loop-place.place c.requires.rows
     c.loop-place.invariant c.in_ok-add_sums_of.ensures.grown (c.in_ok-add_sums_of.ensures.sums c.if-not-branch.false) in
-    overfull-is c.args.column c.args.table.now c.add_sums_of.new.table c.passed-passed.result e.grown
+    overfull-is c.args.column c.args.table.now c.add_sums_of.new.table c.args.behind e.grown
     (narrow-back c.args.column c.args.table.now c.add_sums_of.new.table e.grown (c.in_ok-narrow.ensures.narrow c.if-narrow.true))
-    c.passed-passed.ensures (omega (
+    c.requires.passed (omega (
       arith,
       c.len.ensures,
-      c.if-len-passed-gt-MAX_ROWS.true,
+      c.if-len-behind-gt-MAX_ROWS.true,
       passed-fits c.args.column c.args.table.now
-          c.add_sums_of.new.table c.passed-passed.result e.grown c.passed-passed.ensures,
+          c.add_sums_of.new.table c.args.behind e.grown c.requires.passed,
     ))
 
 pub returns-else-narrow : goal.returns-else-narrow
@@ -67,30 +67,30 @@ overflow_sub-len-2 c =
     omega (
       arith,
       c.len-2.ensures,
-      passed-fits c.args.column c.args.table.now c.loop-place.table c.passed-passed.result
-          c.loop-place.invariant.grown c.passed-passed.ensures,
+      passed-fits c.args.column c.args.table.now c.loop-place.table c.args.behind
+          c.loop-place.invariant.grown c.requires.passed,
     )
 
-pub returns-then-len-passed-gt-MAX_ROWS-2 : goal.returns-then-len-passed-gt-MAX_ROWS-2
-returns-then-len-passed-gt-MAX_ROWS-2 c =
-    overfull-all c.args.column c.args.table.now c.loop-place.table c.loop-place.place c.passed-passed.result
-    (omega (arith, c.loop-place-test.false, c.len-place-end.ensures)) c.loop-place.invariant c.passed-passed.ensures
+pub returns-then-len-behind-gt-MAX_ROWS-2 : goal.returns-then-len-behind-gt-MAX_ROWS-2
+returns-then-len-behind-gt-MAX_ROWS-2 c =
+    overfull-all c.args.column c.args.table.now c.loop-place.table c.loop-place.place c.args.behind
+    (omega (arith, c.loop-place-test.false, c.len-place-end.ensures)) c.loop-place.invariant c.requires.passed
     (omega (
       arith,
       c.len-2.ensures,
-      c.if-len-passed-gt-MAX_ROWS-2.true,
+      c.if-len-behind-gt-MAX_ROWS-2.true,
       passed-fits c.args.column c.args.table.now
-          c.loop-place.table c.passed-passed.result c.loop-place.invariant.grown c.passed-passed.ensures,
+          c.loop-place.table c.args.behind c.loop-place.invariant.grown c.requires.passed,
     ))
 
 pub returns : goal.returns
 returns c =
-    behind-all c.args.column c.args.table.now c.loop-place.table c.loop-place.place c.passed-passed.result
-    (omega (arith, c.loop-place-test.false, c.len-place-end.ensures)) c.loop-place.invariant c.passed-passed.ensures
+    behind-all c.args.column c.args.table.now c.loop-place.table c.loop-place.place c.args.behind
+    (omega (arith, c.loop-place-test.false, c.len-place-end.ensures)) c.loop-place.invariant c.requires.passed
     (omega (
       arith,
       c.len-2.ensures,
-      c.if-len-passed-gt-MAX_ROWS-2.false,
+      c.if-len-behind-gt-MAX_ROWS-2.false,
       passed-fits c.args.column c.args.table.now
-          c.loop-place.table c.passed-passed.result c.loop-place.invariant.grown c.passed-passed.ensures,
+          c.loop-place.table c.args.behind c.loop-place.invariant.grown c.requires.passed,
     ))

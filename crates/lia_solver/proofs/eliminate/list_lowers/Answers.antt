@@ -1,23 +1,49 @@
 use Rattle.std.proofs.Common.{◌∙◌, ◌+◌, ◌<◌, length, ℕ, Vec, Global, arith, sym, ap, subst}
 use Rattle.lia_solver.specs.steps.Entries.{no_entry, bounds_below}
-use Rattle.lia_solver.proofs.Lowers.{AreLowersTo, lowers-push, lowers-skip, lowers-all}
+use Rattle.lia_solver.specs.steps.Tables.{starts_from}
+use Rattle.lia_solver.proofs.Lowers.{AreLowersTo, lowers-push, lowers-skip, below-apart, passed-one, passed-none, passed-limit}
 use Rattle.lia_solver.proofs.eliminate.list_lowers.Goals as goal
-use Rattle.lia_solver.proofs.eliminate.list_lowers.Goals.{then-bounds_below+in_ok-push, else-bounds_below}
+use Rattle.lia_solver.proofs.eliminate.list_lowers.Goals.{then-not-starts_beyond+then-bounds_below+in_ok-push, then-not-starts_beyond+else-bounds_below, else-not-starts_beyond}
 
-pub returns : goal.returns
-returns c =
-    lowers-all c.args.column c.args.table.now c.loop-place.place c.loop-place.places.items
-    (omega (arith, c.loop-place-test.false, c.len-place-end.ensures)) c.loop-place.invariant
+pub overflow_add-passed : goal.overflow_add-passed
+overflow_add-passed c =
+    omega (
+      arith,
+      c.loop-place.invariant.1,
+      c.loop-place-test.true,
+      c.len-place-end.ensures,
+      c.len-place-end.type_inv,
+      passed-limit (c.args.column + 1) c.args.table.now c.loop-place.place (omega (arith, c.loop-place-test.true, c.len-place-end.ensures)),
+    )
 
 pub loop-place-preserved : goal.loop-place-preserved
 loop-place-preserved c =
-    let inside : c.loop-place.place < length c.args.table.now = omega (arith, c.loop-place-test.true, c.len-place-end.ensures) in
-    let test = c.bounds_below.ensures ∙ ap (bounds_below c.args.column) (c.parts.ensures no_entry) in
-    elim c.if-bounds_below.branch [
-      | then-bounds_below+in_ok-push w ↦ lowers-push c.args.column c.args.table.now c.loop-place.place c.loop-place.places.items
-          c.if-bounds_below.places.items c.loop-place.invariant inside (sym test ∙ w.if-bounds_below.true)
-          (ap (λ (v : Vec ℕ Global). v.items) w.places-is ∙ w.in_ok-push.ensures.items)
-      | else-bounds_below w ↦ subst (AreLowersTo c.args.column c.args.table.now (c.loop-place.place + 1))
-          (sym (ap (λ (v : Vec ℕ Global). v.items) w.places-is)) (lowers-skip c.args.column c.args.table.now c.loop-place.place
-          c.loop-place.places.items c.loop-place.invariant (sym test ∙ w.if-bounds_below.false))
+    let x = c.args.column in
+    let es = c.args.table.now in
+    let n = c.loop-place.place in
+    let parts = c.parts-parts.ensures no_entry in
+    let inside : n < length es = omega (arith, c.loop-place-test.true, c.len-place-end.ensures) in
+    let test = c.starts_beyond.ensures ∙ ap (starts_from (x + 1)) parts in
+    elim c.if-not-starts_beyond.branch [
+      | then-not-starts_beyond+then-bounds_below+in_ok-push w ↦ (
+        lowers-push x es n c.loop-place.places.items c.if-not-starts_beyond.places.items c.loop-place.invariant.0 inside
+            (sym (w.bounds_below.ensures ∙ ap (bounds_below x) parts) ∙ w.if-bounds_below.true)
+            (ap (λ (v : Vec ℕ Global). v.items) w.places-is ∙ w.in_ok-push.ensures.items),
+        w.passed-is ∙ ap (λ k. k + 1) c.loop-place.invariant.1
+            ∙ sym (passed-one (x + 1) es n inside (sym test ∙ w.if-not-starts_beyond.true)),
+      )
+      | then-not-starts_beyond+else-bounds_below w ↦ (
+        subst (AreLowersTo x es (n + 1)) (sym (ap (λ (v : Vec ℕ Global). v.items) w.places-is))
+            (lowers-skip x es n c.loop-place.places.items c.loop-place.invariant.0
+            (sym (w.bounds_below.ensures ∙ ap (bounds_below x) parts) ∙ w.if-bounds_below.false)),
+        w.passed-is ∙ ap (λ k. k + 1) c.loop-place.invariant.1
+            ∙ sym (passed-one (x + 1) es n inside (sym test ∙ w.if-not-starts_beyond.true)),
+      )
+      | else-not-starts_beyond w ↦ (
+        subst (AreLowersTo x es (n + 1)) (sym (ap (λ (v : Vec ℕ Global). v.items) w.places-is))
+            (lowers-skip x es n c.loop-place.places.items c.loop-place.invariant.0
+            (below-apart x _ (sym test ∙ w.if-not-starts_beyond.false))),
+        w.passed-is ∙ c.loop-place.invariant.1
+            ∙ sym (passed-none (x + 1) es n inside (sym test ∙ w.if-not-starts_beyond.false)),
+      )
     ]

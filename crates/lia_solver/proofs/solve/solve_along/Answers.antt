@@ -18,7 +18,7 @@ returns-in-Answer-clause-plan c =
     let few = few-columns atoms (omega (arith, ap length c.requires, c.len.ensures, c.if-len-gt-MAX_COLUMNS.false)) in
     let whole = searched-whole atoms atoms c.new-search.result.atoms 512 c.new-search.result.splits.items
     c.question.new.self.splits.items c.in_ok-solved.field-0 refl
-    (c.new-search.ensures.atoms ∙ ap length c.as_slice.ensures.value) c.new-search.ensures.splits c.in_ok-solved.ensures.searched in
+    (c.new-search.ensures.atoms ∙ ap length c.as_slice-atoms.ensures.value) c.new-search.ensures.splits c.in_ok-solved.ensures.searched in
     let answer = subst (λ (s : Searched). IsSearched atoms [] 512 c.question.new.self.splits.items (search 512 [] atoms) s)
     c.in-Answer.is whole in
     rw few answer.0
@@ -28,7 +28,7 @@ returns-in-Answer-clause-point c =
     let atoms = c.args.cube.now.atoms in
     let whole = searched-whole atoms atoms c.new-search.result.atoms 512 c.new-search.result.splits.items
     c.question.new.self.splits.items c.in_ok-solved.field-0 refl
-    (c.new-search.ensures.atoms ∙ ap length c.as_slice.ensures.value) c.new-search.ensures.splits c.in_ok-solved.ensures.searched in
+    (c.new-search.ensures.atoms ∙ ap length c.as_slice-atoms.ensures.value) c.new-search.ensures.splits c.in_ok-solved.ensures.searched in
     (subst (λ (s : Searched). IsSearched atoms [] 512 c.question.new.self.splits.items (search 512 [] atoms) s) c.in-Answer.is whole).1
 
 pub returns-clause-plan : goal.returns-clause-plan
@@ -37,7 +37,7 @@ returns-clause-plan c =
     let few = few-columns atoms (omega (arith, ap length c.requires, c.len.ensures, c.if-len-gt-MAX_COLUMNS.false)) in
     let whole = searched-whole atoms atoms c.new-search.result.atoms 512 c.new-search.result.splits.items
     c.question.new.self.splits.items c.in_ok-solved.field-0 refl
-    (c.new-search.ensures.atoms ∙ ap length c.as_slice.ensures.value) c.new-search.ensures.splits c.in_ok-solved.ensures.searched in
+    (c.new-search.ensures.atoms ∙ ap length c.as_slice-atoms.ensures.value) c.new-search.ensures.splits c.in_ok-solved.ensures.searched in
     let found = subst (λ (s : Searched). IsSearched atoms [] 512 c.question.new.self.splits.items (search 512 [] atoms) s)
     c.in-Nothing.is whole in
     (c.question.new.self.splits.items, few ∙ found.0)
@@ -47,7 +47,7 @@ returns-clause-never c =
     let atoms = c.args.cube.now.atoms in
     let whole = searched-whole atoms atoms c.new-search.result.atoms 512 c.new-search.result.splits.items
     c.question.new.self.splits.items c.in_ok-solved.field-0 refl
-    (c.new-search.ensures.atoms ∙ ap length c.as_slice.ensures.value) c.new-search.ensures.splits c.in_ok-solved.ensures.searched in
+    (c.new-search.ensures.atoms ∙ ap length c.as_slice-atoms.ensures.value) c.new-search.ensures.splits c.in_ok-solved.ensures.searched in
     let found = subst (λ (s : Searched). IsSearched atoms [] 512 c.question.new.self.splits.items (search 512 [] atoms) s)
     c.in-Nothing.is whole in
     record { shallow = found.1; right = refutes-whole atoms (refutation_of c.in-Nothing.certificate) found.2 }
@@ -56,7 +56,7 @@ pub returns-clause-sound : goal.returns-clause-sound
 returns-clause-sound c = λ v w h.
     let atoms = c.args.cube.now.atoms in
     let r = refutation_of c.in-Nothing.certificate in
-    right-sound atoms r v c.as_slice.ensures.terms (subst AreSearchedTerms c.in-Nothing.is c.in_ok-solved.ensures.terms)
+    right-sound atoms r v c.as_slice-atoms.ensures.terms (subst AreSearchedTerms c.in-Nothing.is c.in_ok-solved.ensures.terms)
     (returns-clause-never c) w h
 
 pub returns-in-Answer-clause-values : goal.returns-in-Answer-clause-values

@@ -5,7 +5,7 @@ use Rattle.infeasible_cert.specs.Refutation.{refutation_of}
 use Rattle.infeasible_cert.specs.Right.{at_most, at_least}
 use Rattle.infeasible_cert.proofs.Branching.{minus-cast, more-cast}
 use Rattle.shadow_elim.specs.Points.{split}
-use Rattle.shadow_elim.specs.Plan.{outcome_of, search, with_row, limit_met}
+use Rattle.shadow_elim.specs.Plan.{outcome_of, search, with_row, nothing, limit_met}
 use Rattle.shadow_elim.specs.declared.limit.Limit.TheVariants.{Branches}
 use Rattle.lia_solver.specs.declared.search.Searched.{Searched}
 use Rattle.lia_solver.specs.steps.Branches.{planned, IsRightOutcome, IsSearched, branch_rows}
@@ -16,7 +16,7 @@ use Rattle.lia_solver.proofs.search.Search.+search.Goals.{split-then-depth-eq0-v
 pub branch-returns-in-Wide-clause-searched : goal.branch-returns-in-Wide-clause-searched
 branch-returns-in-Wide-clause-searched t c =
     let atoms = c.args.cube.atoms in let n = c.args.self.now.atoms in
-    subst (λ (s : Searched). IsSearched (take n atoms) (drop n atoms) c.args.depth c.args.self.now.splits.items
+    subst (λ (s : Searched). IsSearched (take n atoms) (drop n atoms) c.args.depth c.outcome.new.self.splits.items
     (search c.args.depth c.args.self.now.splits.items atoms) s) (sym c.limited.ensures) (
       search-wide c.args.depth c.args.self.now.splits.items
           atoms (c.in_ok-at.ensures.plan ∙ ap planned c.in-Wide.is),
@@ -26,7 +26,7 @@ branch-returns-in-Wide-clause-searched t c =
 pub branch-returns-in-Rows-clause-searched : goal.branch-returns-in-Rows-clause-searched
 branch-returns-in-Rows-clause-searched t c =
     let atoms = c.args.cube.atoms in let n = c.args.self.now.atoms in
-    subst (λ (s : Searched). IsSearched (take n atoms) (drop n atoms) c.args.depth c.args.self.now.splits.items
+    subst (λ (s : Searched). IsSearched (take n atoms) (drop n atoms) c.args.depth c.outcome.new.self.splits.items
     (search c.args.depth c.args.self.now.splits.items atoms) s) (sym c.limited-in-Rows.ensures) (
       search-rows c.args.depth
           c.args.self.now.splits.items atoms (c.in_ok-at.ensures.plan ∙ ap planned c.in-Rows.is),
@@ -45,7 +45,8 @@ pub branch-returns-in-Refuted-clause-searched : goal.branch-returns-in-Refuted-c
 branch-returns-in-Refuted-clause-searched t c =
     let atoms = c.args.cube.atoms in let n = c.args.self.now.atoms in
     let right = subst (IsRightOutcome (take n atoms) (drop n atoms)) c.in-Refuted.is c.in_ok-at.ensures.right in (
-      search-refuted c.args.depth c.args.self.now.splits.items atoms (c.in_ok-at.ensures.plan ∙ ap planned c.in-Refuted.is),
+      search-refuted c.args.depth c.args.self.now.splits.items atoms (c.in_ok-at.ensures.plan ∙ ap planned c.in-Refuted.is)
+          ∙ ap nothing (sym c.outcome.ensures.splits),
       omega arith,
       right,
     )
@@ -74,7 +75,14 @@ pub split-branch-self-requires : goal.split-branch-self-requires
 split-branch-self-requires t c = (
   omega (arith, c.if-depth-eq0.false),
   searchable-more c.args.self.now
-      (record { alloc = c.args.self.now.alloc; atoms = c.args.self.now.atoms; columns = c.args.self.now.columns; splits = c.push.new.self })
+      (record {
+        alloc = c.args.self.now.alloc;
+        atoms = c.args.self.now.atoms;
+        columns = c.args.self.now.columns;
+        splits = c.push.new.self;
+        work = c.args.self.now.work;
+        table = c.args.self.now.table;
+      })
       c.args.cube.atoms c.in_ok-low.low.atoms c.in_ok-below.below c.args.column (pos 1) c.requires.branch refl refl c.in_ok-low.ensures
       (ap (λ (u : LinearSum). u.parts) c.in_ok-below.ensures) c.requires.column,
 )

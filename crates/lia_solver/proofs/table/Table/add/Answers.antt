@@ -27,8 +27,8 @@ invariant_of-self c =
     in
     let f : FitsSigned w128 c.args.constant = search rules in
     subst (λ (l : Line). AreLines pool (set lines c.in-Some.place l) c.self.inside.heads)
-    (sym (joined-is lines c.in-Some.place c.index-line.result.now c.joined.result c.args.constant c.args.origin h c.index-line.ensures f
-    c.joined.ensures)) (lines-joined pool lines c.self.inside.heads c.in-Some.place c.args.constant c.args.origin c.self.invariant h)
+    (sym (joined-is lines c.in-Some.place c.index_mut.result.now c.join.new.line c.args.constant c.args.origin h c.index_mut.ensures.value f
+    c.join.ensures)) (lines-joined pool lines c.self.inside.heads c.in-Some.place c.args.constant c.args.origin c.self.invariant h)
 
 pub returns-in-Some : goal.returns-in-Some
 returns-in-Some c =
@@ -41,8 +41,8 @@ returns-in-Some c =
     let here : parts_at pool lines c.in-Some.place ≡ t.parts = ap (λ ls. parts_at pool ls c.in-Some.place) (sym c.deref-2.ensures.value)
     ∙ ap (λ ps. parts_at ps c.deref-2.result.now c.in-Some.place) (sym c.deref.ensures.value) ∙ c.in-Some.ensures.1 in
     subst (λ (l : Line). IsAdded t c.args.origin c.args.self.now (entries_of pool (set lines c.in-Some.place l)))
-    (sym (joined-is lines c.in-Some.place c.index-line.result.now c.joined.result c.args.constant c.args.origin h c.index-line.ensures f
-    c.joined.ensures)) (added-joined pool lines c.args.self.now c.in-Some.place t c.args.origin c.self.view_is h here)
+    (sym (joined-is lines c.in-Some.place c.index_mut.result.now c.join.new.line c.args.constant c.args.origin h c.index_mut.ensures.value f
+    c.join.ensures)) (added-joined pool lines c.args.self.now c.in-Some.place t c.args.origin c.self.view_is h here)
 
 pub invariant_of-self-in_err-push-in-None : goal.invariant_of-self-in_err-push-in-None
 invariant_of-self-in_err-push-in-None c =

@@ -1,0 +1,8 @@
+use Rattle.std.proofs.Common.{take}
+use Rattle.infeasible_cert.specs.Right.{range_rows}
+use Rattle.lia_solver.specs.steps.Gathered.{ArePut}
+use Rattle.lia_solver.specs.steps.Numbers.{numbered_from}
+use Rattle.lia_solver.proofs.gather.put_ranges.Given as goal
+
+abbrev pub invariant-loop-place : goal.invariant-loop-place
+invariant-loop-place l = ArePut (numbered_from l.first (range_rows (take l.place l.columns))) l.initial.table l.table

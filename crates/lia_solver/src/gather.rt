@@ -1,0 +1,67 @@
+//! The table of a branch's rows.
+
+ghost use Rattle.std.specs.Prelude.{List, ◌≡◌, ◌+◌, ◌*◌, ◌^◌, ◌<◌, ◌++◌, ◌∷◌, [], length, OnOk, IsTrue};
+ghost use Rattle.linear_formula.specs.Formula.{are_terms};
+ghost use Rattle.infeasible_cert.specs.Right.{rows_of, range_rows};
+ghost use Rattle.lia_solver.specs.steps.Gathered.{ArePut, AreGathered, numbered_rows};
+ghost use Rattle.lia_solver.specs.steps.Numbers.{numbered_from};
+
+use crate::eliminate::put;
+use crate::table::{Origin, Table};
+use linear_formula::error::OutOfMemory;
+use linear_formula::formula::Atom;
+
+/// The constants of the rows of a column's range: that no value is above the greatest one, and none
+/// below the least one.
+const UPPER: i128 = -9_223_372_036_854_775_807;
+
+const LOWER: i128 = -9_223_372_036_854_775_808;
+
+/// Puts the atoms' rows into the table, numbered from `first` on.
+fn put_atoms(table: &mut Table, atoms: &[Atom], first: u32) -> Result<(), OutOfMemory>
+    requires terms { IsTrue (are_terms atoms.now) }
+    requires numbers { first + length atoms.now < 2 ^ 32 }
+    ensures { OnOk result (ArePut (numbered_from first (rows_of atoms.now)) table.old table.new) }
+{
+    for (place, atom) in atoms.iter().enumerate() {
+        let number = Origin::Given(first + place as u32);
+        put(table, atom.term.parts(), atom.term.constant(), number)?;
+    }
+    Ok(())
+}
+
+/// Puts the rows of the columns' ranges into the table, numbered from `first` on.
+fn put_ranges(table: &mut Table, columns: &[u32], first: u32) -> Result<(), OutOfMemory>
+    requires { first + 2 * length columns.now < 2 ^ 32 }
+    ensures { OnOk result (ArePut (numbered_from first (range_rows columns.now)) table.old
+        table.new) }
+{
+    for (place, column) in columns.iter().enumerate() {
+        let number = first + 2 * place as u32;
+        table.add(&[(*column, 1)], UPPER, Origin::Given(number))?;
+        table.add(&[(*column, -1)], LOWER, Origin::Given(number + 1))?;
+    }
+    Ok(())
+}
+
+/// Fills a table with the rows of a branch: their numbers are those that they have in its
+/// certificate, where the ranges come before the rows of the splits.
+pub fn gather(
+    table: &mut Table,
+    question: &[Atom],
+    splits: &[Atom],
+    columns: &[u32],
+) -> Result<(), OutOfMemory>
+    requires question { IsTrue (are_terms question.now) }
+    requires splits { IsTrue (are_terms splits.now) }
+    requires numbers { length question.now + 2 * length columns.now + length splits.now < 2 ^ 32 }
+    ensures { OnOk result (AreGathered (numbered_rows question.now splits.now columns.now)
+        table.new) }
+{
+    let ranges = question.len() as u32;
+    let further = ranges + 2 * columns.len() as u32;
+    table.clear();
+    put_atoms(table, question, 0)?;
+    put_atoms(table, splits, further)?;
+    put_ranges(table, columns, ranges)
+}
