@@ -1,9 +1,9 @@
 //! Rows of which each list of coefficients stands once, with its greatest constant.
 
-ghost use Rattle.std.specs.Prelude.{◌≡◌, ◌<◌, ℕ, List, [], length, slice_index_or, replicate, IfOk, OnOk, MatchOption};
+ghost use Rattle.std.specs.Prelude.{◌≡◌, ◌<◌, ◌≤◌, ℕ, List, [], length, slice_index_or, replicate, IfOk, OnOk, MatchOption};
 ghost use Rattle.linear_formula.specs.steps.Order.{AllWithin};
 ghost use Rattle.lia_solver.specs.steps.Entries.{Entry, IsAdded};
-ghost use Rattle.lia_solver.specs.steps.Buckets.{bucket_of};
+ghost use Rattle.lia_solver.specs.steps.Buckets.{sign_code, bucket_of};
 ghost use Rattle.lia_solver.specs.steps.Lines.{IsChained, parts_at, joined_line};
 
 use linear_formula::error::OutOfMemory;
@@ -11,7 +11,7 @@ use std::alloc::Global;
 use std::marker::Model;
 
 /// How many chains the rows are in, by their coefficients.
-const BUCKETS: usize = 64;
+const BUCKETS: usize = 256;
 
 /// How a row follows.
 #[derive(Clone, Copy, Debug)]
@@ -65,16 +65,24 @@ impl Model for Table {
     ghost invariant = { λ t. AreLines t.parts.items t.lines.items t.heads };
 }
 
+fn sign_code(coefficient: i128) -> usize
+    ensures code { result ≡ sign_code coefficient }
+    ensures bound { result ≤ 131 }
+{
+    if coefficient < 0 { 131 } else { 0 }
+}
+
 /// The chain of these coefficients.
 fn bucket_of(parts: &[(u32, i128)]) -> usize
     requires { AllWithin parts.now }
     ensures value { result ≡ bucket_of parts.now }
-    ensures bound { result < 64 }
+    ensures bound { result < 256 }
 {
     let mut bucket: usize = 0;
     for (column, coefficient) in parts {
         let size = coefficient.unsigned_abs() as usize;
-        bucket = (31 * bucket + *column as usize + size) % BUCKETS;
+        let code = 101 * *column as usize + 7 * size + sign_code(*coefficient);
+        bucket = (37 * bucket + code) % BUCKETS;
     }
     bucket
 }
@@ -99,7 +107,7 @@ fn find(pool: &[(u32, i128)], lines: &[Line], past: usize, parts: &[(u32, i128)]
 
 /// Chains without rows.
 fn no_heads() -> [usize; BUCKETS]
-    ensures { result ≡ replicate 64 0 }
+    ensures { result ≡ replicate 256 0 }
 {
     [0; BUCKETS]
 }

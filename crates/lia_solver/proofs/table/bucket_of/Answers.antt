@@ -14,13 +14,52 @@ overflow_cast-size c =
       ap unsigned_abs (cast_same (at c.args.parts.now c.loop-column.column-index).1 (omega (arith, small))),
     )
 
-pub overflow_add-bucket-in-loop-column : goal.overflow_add-bucket-in-loop-column
-overflow_add-bucket-in-loop-column c =
+pub overflow_mul-code-in-loop-column : goal.overflow_mul-code-in-loop-column
+overflow_mul-code-in-loop-column c =
     let small = AllWithin-at c.args.parts.now c.loop-column.column-index (omega arith) c.requires in
     let bound = c.loop-column.invariant.1 in
     omega (
       arith,
       small,
+      bound,
+      c.unsigned_abs-size.ensures.value,
+      ap unsigned_abs (cast_same (at c.args.parts.now c.loop-column.column-index).1 (omega (arith, small))),
+    )
+
+pub overflow_add-code : goal.overflow_add-code
+overflow_add-code c =
+    let small = AllWithin-at c.args.parts.now c.loop-column.column-index (omega arith) c.requires in
+    let bound = c.loop-column.invariant.1 in
+    omega (
+      arith,
+      small,
+      bound,
+      c.unsigned_abs-size.ensures.value,
+      ap unsigned_abs (cast_same (at c.args.parts.now c.loop-column.column-index).1 (omega (arith, small))),
+    )
+
+pub overflow_add-code-in-loop-column : goal.overflow_add-code-in-loop-column
+overflow_add-code-in-loop-column c =
+    let small = AllWithin-at c.args.parts.now c.loop-column.column-index (omega arith) c.requires in
+    let bound = c.loop-column.invariant.1 in
+    omega (
+      arith,
+      small,
+      bound,
+      c.sign_code.ensures.bound,
+      c.unsigned_abs-size.ensures.value,
+      ap unsigned_abs (cast_same (at c.args.parts.now c.loop-column.column-index).1 (omega (arith, small))),
+    )
+
+pub overflow_add-bucket : goal.overflow_add-bucket
+overflow_add-bucket c =
+    let small = AllWithin-at c.args.parts.now c.loop-column.column-index (omega arith) c.requires in
+    let bound = c.loop-column.invariant.1 in
+    omega (
+      arith,
+      small,
+      bound,
+      c.sign_code.ensures.bound,
       c.unsigned_abs-size.ensures.value,
       ap unsigned_abs (cast_same (at c.args.parts.now c.loop-column.column-index).1 (omega (arith, small))),
     )
