@@ -219,7 +219,8 @@ fn shows(
     let cube = left.with(alloc, negation)?;
     Ok(refutes(&cube, certificate))
 }
-/// For how many of the first rows the certificates show that the cube of two bounds entails them.
+
+/// For how many of the first rows the certificates show that a cube of three bounds entails them.
 fn shown_count(alloc: Global, wanted: &[Row]) -> Result<usize, LinError> {
     let left = cube_of(alloc, &[(&[(1, 0)], -3), (&[(2, 4)], -5), (&[(-1, 0)], 0)])?;
     let right = cube_of(alloc, wanted)?;
