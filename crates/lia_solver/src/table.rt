@@ -10,7 +10,7 @@ use linear_formula::error::OutOfMemory;
 use std::alloc::Global;
 use std::marker::Model;
 
-/// How many chains the rows are in, by their coefficients: a prime, and few enough to clear at once.
+/// How many chains the rows are in, by their coefficients: a prime, few enough to clear at once.
 const BUCKETS: usize = 233;
 
 /// How a row follows.
