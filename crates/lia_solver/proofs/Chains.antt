@@ -170,11 +170,11 @@ last-parts pool parts heads l h =
     ∙ ap (take (length (pool ++ parts) - length pool)) (drop-append_seam pool parts)
     ∙ take_all (length (pool ++ parts) - length pool) parts (omega (arith, length-append pool parts))
 
-bucket-bound : (parts : List (ℕ × ℤ)) → bucket_of parts < 256
+bucket-bound : (parts : List (ℕ × ℤ)) → bucket_of parts < 233
 bucket-bound parts = bound 0 parts (omega arith) where
-  bound : (b : ℕ) (ps : List (ℕ × ℤ)) → b < 256 → fold next_bucket b ps < 256
+  bound : (b : ℕ) (ps : List (ℕ × ℤ)) → b < 233 → fold next_bucket b ps < 233
   bound b [] h = h
-  bound b (p ∷ ps) h = bound (next_bucket b p) ps (mod-lt (37 * b + (101 * p.0 + 7 * unsigned_abs p.1 + sign_code p.1)) {m = 256}
+  bound b (p ∷ ps) h = bound (next_bucket b p) ps (mod-lt (37 * b + (101 * p.0 + 7 * unsigned_abs p.1 + sign_code p.1)) {m = 233}
       (omega arith))
 
 pub lines-pushed : (pool parts : List (ℕ × ℤ)) (lines : List Line) (heads : List ℕ) (l : Line) → AreLines pool lines heads →
@@ -245,7 +245,7 @@ lines-pushed pool parts lines heads l h k = record {
       (subst (λ (p : ℕ). IsPast all lines' (length lines) b p) (sym k.before)
       (past-old (length lines) b (get_or heads b 0) (omega arith) (h.last b (bucket-bound parts))))))
 
-  last : (b : ℕ) → b < 256 → (b ≡ bucket_of parts) ⊎ (b ≡ bucket_of parts → ⊥) →
+  last : (b : ℕ) → b < 233 → (b ≡ bucket_of parts) ⊎ (b ≡ bucket_of parts → ⊥) →
       IsPast all lines' (length lines') b (get_or (set heads (bucket_of parts) (length lines + 1)) b 0)
   last b q (inl e) =
       let here = get_or-set_same heads (bucket_of parts) (length lines + 1) 0 (omega (arith, h.count, bucket-bound parts)) in
@@ -273,14 +273,14 @@ lines-pushed pool parts lines heads l h k = record {
 
 -- A table without rows
 
-pub lines-none : AreLines [] [] (replicate 256 0)
+pub lines-none : AreLines [] [] (replicate 233 0)
 lines-none = record {
   chains = record {
     inside = λ i d k. absurd (omega (arith, k));
     before = λ i d k. absurd (omega (arith, k));
   };
   count = refl;
-  last = λ b k. subst (λ (p : ℕ). IsPast [] [] 0 b p) (sym (get_or-replicate 256 b 0 0 k)) (record {
+  last = λ b k. subst (λ (p : ℕ). IsPast [] [] 0 b p) (sym (get_or-replicate 233 b 0 0 k)) (record {
     limit = omega arith;
     none = λ j u v w. omega (arith, v);
     last = λ j u. absurd (omega (arith, u));

@@ -10,8 +10,8 @@ use linear_formula::error::OutOfMemory;
 use std::alloc::Global;
 use std::marker::Model;
 
-/// How many chains the rows are in, by their coefficients.
-const BUCKETS: usize = 256;
+/// How many chains the rows are in, by their coefficients: a prime, few enough to clear at once.
+const BUCKETS: usize = 233;
 
 /// How a row follows.
 #[derive(Clone, Copy, Debug)]
@@ -76,7 +76,7 @@ fn sign_code(coefficient: i128) -> usize
 fn bucket_of(parts: &[(u32, i128)]) -> usize
     requires { AllWithin parts.now }
     ensures value { result ≡ bucket_of parts.now }
-    ensures bound { result < 256 }
+    ensures bound { result < 233 }
 {
     let mut bucket: usize = 0;
     for (column, coefficient) in parts {
@@ -107,7 +107,7 @@ fn find(pool: &[(u32, i128)], lines: &[Line], past: usize, parts: &[(u32, i128)]
 
 /// Chains without rows.
 fn no_heads() -> [usize; BUCKETS]
-    ensures { result ≡ replicate 256 0 }
+    ensures { result ≡ replicate 233 0 }
 {
     [0; BUCKETS]
 }

@@ -41,8 +41,8 @@ pub record AreInChains (pool : List (ℕ × ℤ)) (lines : List Line) : Type 0 w
 
 pub record AreLines (pool : List (ℕ × ℤ)) (lines : List Line) (heads : List ℕ) : Type 0 where
   pub chains : AreInChains pool lines
-  pub count : length heads ≡ 256
-  pub last : (b : ℕ) → b < 256 → IsPast pool lines (length lines) b (slice_index heads b)
+  pub count : length heads ≡ 233
+  pub last : (b : ℕ) → b < 233 → IsPast pool lines (length lines) b (slice_index heads b)
 
 -- the head of the chain of these coefficients
 pub record IsChained (pool : List (ℕ × ℤ)) (lines : List Line) (past : ℕ) (parts : List (ℕ × ℤ)) :
