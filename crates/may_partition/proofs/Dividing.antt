@@ -10,7 +10,7 @@ use Rattle.may_partition.specs.declared.division.Division.{Division}
 use Rattle.may_partition.specs.declared.region.RegionEdge.{RegionEdge}
 use Rattle.may_partition.specs.Parted.{same_edge, parents, is_cut, has_regions}
 use Rattle.may_partition.specs.Shown.{is_live, have_regions}
-use Rattle.may_partition.specs.steps.Copies.{IsDivision, IsPieceOf, IsKept, IsUncut, GoesOn, IsCopy, AnyCopy}
+use Rattle.may_partition.specs.steps.Copies.{IsDivision, IsPieceOf, IsKept, IsUncut, GoesOn, GoesToNew, IsCopy, IsNewCopy, AnyCopy}
 use Rattle.may_partition.proofs.Splitting.{parent_old, parent_new, or_left, or_right, not_in}
 
 -- Tests of edges
@@ -75,30 +75,25 @@ pub record GoesBefore (d : Division) (x : RegionEdge) (to : ℕ) (e : RegionEdge
 
 abbrev pub ReachesTo : Division → List RegionEdge → List RegionEdge → RegionEdge → ℕ → Type 0
 ReachesTo d old now x to =
-    (e : RegionEdge) → IsTrue (is_live now e) ↔ (IsTrue (is_live old e) ⊎ (IsUncut d x e ⊎ GoesBefore d x to e))
+    (e : RegionEdge) → IsTrue (is_live now e) ↔ (IsTrue (is_live old e) ⊎ GoesBefore d x to e)
 
-pub none_before : (d : Division) (old now : List RegionEdge) (x : RegionEdge) →
-    ((e : RegionEdge) → IsTrue (is_live now e) ↔ (IsTrue (is_live old e) ⊎ IsUncut d x e)) → ReachesTo d old now x d.first
-none_before d old now x h e = (
-  λ l. ⊎_elim inl (λ u. inr (inl u)) ((h e).0 l),
-  λ l. (h e).1 (⊎_elim inl (λ r. ⊎_elim inr (λ b. absurd (omega (arith, b.new, b.before))) r) l),
-)
+pub none_before : (d : Division) (xs : List RegionEdge) (x : RegionEdge) → ReachesTo d xs xs x d.first
+none_before d xs x e = (λ l. inl l, λ l. ⊎_elim (λ k. k) (λ b. absurd (omega (arith, b.new, b.before))) l)
 
 pub one_before : (d : Division) (old now : List RegionEdge) (x : RegionEdge) (to : ℕ) → d.first ≤ to → ReachesTo d old now x to →
     ReachesTo d old (now ++ record { edge = x.edge; from = x.from; to = to } ∷ []) x (to + 1)
 one_before d old now x to low h e = (
-  λ l. ⊎_elim (λ k. ⊎_elim inl
-      (λ r. inr (⊎_elim inl (λ b. inr (record { edge = b.edge; from = b.from; new = b.new; before = omega (arith, b.before) })) r))
-      ((h e).0 k)) (λ s. inr (inr (record { edge = s.edge; from = s.from; new = omega (arith, low, s.to); before = omega (arith, s.to) })))
+  λ l. ⊎_elim (λ k. ⊎_elim inl (λ b. inr (record { edge = b.edge; from = b.from; new = b.new; before = omega (arith, b.before) }))
+      ((h e).0 k)) (λ s. inr (record { edge = s.edge; from = s.from; new = omega (arith, low, s.to); before = omega (arith, s.to) }))
       ((live_push now y e).0 l),
-  λ l. (live_push now y e).1 (⊎_elim (λ o. inl ((h e).1 (inl o))) (λ r. ⊎_elim (λ u. inl ((h e).1 (inr (inl u)))) here r) l),
+  λ l. (live_push now y e).1 (⊎_elim (λ o. inl ((h e).1 (inl o))) here l),
 )
   where
     y : RegionEdge
     y = record { edge = x.edge; from = x.from; to = to }
 
     here : GoesBefore d x (to + 1) e → IsTrue (is_live now e) ⊎ AreSame y e
-    here b = ⊎_elim (λ lt. inl ((h e).1 (inr (inr (record { edge = b.edge; from = b.from; new = b.new; before = lt })))))
+    here b = ⊎_elim (λ lt. inl ((h e).1 (inr (record { edge = b.edge; from = b.from; new = b.new; before = lt }))))
         (λ past. inr (record { edge = b.edge; from = b.from; to = omega (arith, past, b.before) })) (cases_lt e.to to)
 
 -- the end of a region's new pieces
@@ -112,15 +107,15 @@ end_cases d a = by_test (a == d.cut.from) refl where
   by_test true h = inl (eqb-true a d.cut.from h, rw h refl)
   by_test false h = inr (λ s. absurd (let w : true ≡ false = sym (eq-eqb a d.cut.from s) ∙ h in cc), rw h refl)
 
--- a piece of a region is the region itself, or a new one before the end of its pieces
-piece_cases : (d : Division) → IsDivision d → (a b : ℕ) → IsPieceOf d a b → (b ≡ a) ⊎ ((d.first ≤ b) × (b < end_at d a))
-piece_cases d ok a b p =
-    ⊎_elim (λ old. inl (sym (parent_old d.first d.cut.from b old) ∙ p.parent_is)) new (cases_lt b d.first)
-  where
-    new : d.first ≤ b → (b ≡ a) ⊎ ((d.first ≤ b) × (b < end_at d a))
-    new past =
-        let same : a ≡ d.cut.from = sym p.parent_is ∙ parent_new d.first d.cut.from b past in
-        ⊎_elim (λ c. inr (past, subst (λ n. b < n) (sym c.1) p.exists)) (λ c. absurd (c.0 same)) (end_cases d a)
+-- a new piece comes before the end of its region's
+before_end : (d : Division) (a b : ℕ) → IsPieceOf d a b → d.first ≤ b → b < end_at d a
+before_end d a b p past =
+    let same : a ≡ d.cut.from = sym p.parent_is ∙ parent_new d.first d.cut.from b past in
+    ⊎_elim (λ c. subst (λ n. b < n) (sym c.1) p.exists) (λ c. absurd (c.0 same)) (end_cases d a)
+
+-- a piece of a region is the region itself, or a new one
+piece_cases : (d : Division) (a b : ℕ) → IsPieceOf d a b → (b ≡ a) ⊎ (d.first ≤ b)
+piece_cases d a b p = ⊎_elim (λ old. inl (sym (parent_old d.first d.cut.from b old) ∙ p.parent_is)) inr (cases_lt b d.first)
 
 old_piece : (d : Division) → IsDivision d → (a b : ℕ) → a < d.first → b ≡ a → IsPieceOf d a b
 old_piece d ok a b low same =
@@ -131,17 +126,31 @@ new_piece d ok a b past before =
     ⊎_elim (λ c. record { exists = subst (λ n. b < n) c.1 before; parent_is = parent_new d.first d.cut.from b past ∙ sym c.0 })
     (λ c. absurd (omega (arith, past, subst (λ n. b < n) c.1 before))) (end_cases d a)
 
-pub all_before : (d : Division) → IsDivision d → (old now : List RegionEdge) (x : RegionEdge) (to : ℕ) → x.to < d.first →
-    to ≡ end_at d x.to →
+pub all_before : (d : Division) → IsDivision d → (old now : List RegionEdge) (x : RegionEdge) (to : ℕ) → to ≡ end_at d x.to →
     ReachesTo d old now x to →
+    (e : RegionEdge) → IsTrue (is_live now e) ↔ (IsTrue (is_live old e) ⊎ GoesToNew d x e)
+all_before d ok old now x to is_end h e = (
+  λ l. ⊎_elim inl (λ b. inr (record {
+    same_edge = b.edge;
+    same_from = b.from;
+    to = new_piece d ok x.to e.to b.new (subst (λ n. e.to < n) is_end b.before);
+    new = b.new;
+  })) ((h e).0 l),
+  λ l. (h e).1 (⊎_elim inl (λ g. inr (record {
+    edge = g.same_edge;
+    from = g.same_from;
+    new = g.new;
+    before = subst (λ n. e.to < n) (sym is_end) (before_end d x.to e.to g.to g.new);
+  })) l),
+)
+
+pub goes_on : (d : Division) → IsDivision d → (old mid now : List RegionEdge) (x : RegionEdge) → x.to < d.first →
+    ((e : RegionEdge) → IsTrue (is_live mid e) ↔ (IsTrue (is_live old e) ⊎ IsUncut d x e)) →
+    ((e : RegionEdge) → IsTrue (is_live now e) ↔ (IsTrue (is_live mid e) ⊎ GoesToNew d x e)) →
     (e : RegionEdge) → IsTrue (is_live now e) ↔ (IsTrue (is_live old e) ⊎ GoesOn d x e)
-all_before d ok old now x to low is_end h e = (
-  λ l. ⊎_elim inl (λ r. inr (⊎_elim uncut new r)) ((h e).0 l),
-  λ l. (h e).1 (⊎_elim inl
-      (λ g. inr (⊎_elim
-      (λ s. inl (record { same = same_from_parts x e (record { edge = g.same_edge; from = g.same_from; to = s }); stays = g.stays }))
-      (λ b. inr (record { edge = g.same_edge; from = g.same_from; new = b.0; before = subst (λ n. e.to < n) (sym is_end) b.1 }))
-      (piece_cases d ok x.to e.to g.to))) l),
+goes_on d ok old mid now x low h k e = (
+  λ l. ⊎_elim (λ m. ⊎_elim inl (λ u. inr (uncut u)) ((h e).0 m)) (λ g. inr (new g)) ((k e).0 l),
+  λ l. (k e).1 (⊎_elim (λ o. inl ((h e).1 (inl o))) back l),
 )
   where
     uncut : IsUncut d x e → GoesOn d x e
@@ -149,15 +158,25 @@ all_before d ok old now x to low is_end h e = (
         let s : AreSame x e = same_parts x e u.same in
         record { same_edge = s.edge; same_from = s.from; to = old_piece d ok x.to e.to low s.to; stays = u.stays }
 
-    new : GoesBefore d x to e → GoesOn d x e
-    new b = record {
-      same_edge = b.edge;
-      same_from = b.from;
-      to = new_piece d ok x.to e.to b.new (subst (λ n. e.to < n) is_end b.before);
-      stays = λ c. let k : CutsOff d.first d.cut e = cut_parts d.first d.cut e c in omega (arith, k.to, ok.to, b.new);
+    new : GoesToNew d x e → GoesOn d x e
+    new g = record {
+      same_edge = g.same_edge;
+      same_from = g.same_from;
+      to = g.to;
+      stays = λ c. let w : CutsOff d.first d.cut e = cut_parts d.first d.cut e c in omega (arith, w.to, ok.to, g.new);
     }
 
+    back : GoesOn d x e → IsTrue (is_live mid e) ⊎ GoesToNew d x e
+    back g = ⊎_elim (λ s. inl ((h e).1 (inr (record {
+      same = same_from_parts x e (record { edge = g.same_edge; from = g.same_from; to = s });
+      stays = g.stays;
+    })))) (λ b. inr (record { same_edge = g.same_edge; same_from = g.same_from; to = g.to; new = b })) (piece_cases d x.to e.to g.to)
+
 -- From the pieces of the first region
+
+-- an edge from a region that was there isn't cut
+old_stays : (d : Division) (e : RegionEdge) → e.from < d.first → IsKept d e
+old_stays d e low c = let w : CutsOff d.first d.cut e = cut_parts d.first d.cut e c in omega (arith, w.new, low)
 
 pub record LeavesBefore (d : Division) (x : RegionEdge) (from : ℕ) (e : RegionEdge) : Type 0 where
   pub edge : e.edge ≡ x.edge
@@ -168,10 +187,10 @@ pub record LeavesBefore (d : Division) (x : RegionEdge) (from : ℕ) (e : Region
 
 abbrev pub ReachesFrom : Division → List RegionEdge → List RegionEdge → RegionEdge → ℕ → Type 0
 ReachesFrom d old now x from =
-    (e : RegionEdge) → IsTrue (is_live now e) ↔ (IsTrue (is_live old e) ⊎ (GoesOn d x e ⊎ LeavesBefore d x from e))
+    (e : RegionEdge) → IsTrue (is_live now e) ↔ (IsTrue (is_live old e) ⊎ (GoesToNew d x e ⊎ LeavesBefore d x from e))
 
 pub none_left : (d : Division) (old now : List RegionEdge) (x : RegionEdge) →
-    ((e : RegionEdge) → IsTrue (is_live now e) ↔ (IsTrue (is_live old e) ⊎ GoesOn d x e)) → ReachesFrom d old now x d.first
+    ((e : RegionEdge) → IsTrue (is_live now e) ↔ (IsTrue (is_live old e) ⊎ GoesToNew d x e)) → ReachesFrom d old now x d.first
 none_left d old now x h e = (
   λ l. ⊎_elim inl (λ u. inr (inl u)) ((h e).0 l),
   λ l. (h e).1 (⊎_elim inl (λ r. ⊎_elim inr (λ b. absurd (omega (arith, b.new, b.before))) r) l),
@@ -202,25 +221,66 @@ one_left d old now next x from low h step e = (
 
 pub all_left : (d : Division) → IsDivision d → (old now : List RegionEdge) (x : RegionEdge) (from : ℕ) → x.from < d.first →
     from ≡ end_at d x.from → ReachesFrom d old now x from →
-    (e : RegionEdge) → IsTrue (is_live now e) ↔ (IsTrue (is_live old e) ⊎ IsCopy d x e)
+    (e : RegionEdge) → IsTrue (is_live now e) ↔ (IsTrue (is_live old e) ⊎ IsNewCopy d x e)
 all_left d ok old now x from low is_end h e = (
-  λ l. ⊎_elim inl (λ r. inr (⊎_elim (λ g. record {
-    same_edge = g.same_edge;
-    from = old_piece d ok x.from e.from low g.same_from;
-    to = g.to;
-    stays = g.stays;
-  }) (λ b. record {
-    same_edge = b.edge;
-    from = new_piece d ok x.from e.from b.new (subst (λ n. e.from < n) is_end b.before);
-    to = b.to;
-    stays = b.stays;
-  }) r)) ((h e).0 l),
-  λ l. (h e).1 (⊎_elim inl (λ c. inr (⊎_elim (λ s. inl (record { same_edge = c.same_edge; same_from = s; to = c.to; stays = c.stays }))
-      (λ b. inr (record { edge = c.same_edge; new = b.0; before = subst (λ n. e.from < n) (sym is_end) b.1; to = c.to; stays = c.stays }))
-      (piece_cases d ok x.from e.from c.from))) l),
+  λ l. ⊎_elim inl (λ r. inr (⊎_elim goes leaves r)) ((h e).0 l),
+  λ l. (h e).1 (⊎_elim inl (λ n. inr (back n)) l),
 )
+  where
+    goes : GoesToNew d x e → IsNewCopy d x e
+    goes g = record {
+      copy = record {
+        same_edge = g.same_edge;
+        from = old_piece d ok x.from e.from low g.same_from;
+        to = g.to;
+        stays = old_stays d e (omega (arith, low, g.same_from));
+      };
+      new = inr g.new;
+    }
+
+    leaves : LeavesBefore d x from e → IsNewCopy d x e
+    leaves b = record {
+      copy = record {
+        same_edge = b.edge;
+        from = new_piece d ok x.from e.from b.new (subst (λ n. e.from < n) is_end b.before);
+        to = b.to;
+        stays = b.stays;
+      };
+      new = inl b.new;
+    }
+
+    back : IsNewCopy d x e → GoesToNew d x e ⊎ LeavesBefore d x from e
+    back n = ⊎_elim (λ s. inl (record {
+      same_edge = n.copy.same_edge;
+      same_from = s;
+      to = n.copy.to;
+      new = ⊎_elim (λ f. absurd (omega (arith, f, s, low))) (λ t. t) n.new;
+    })) (λ b. inr (record {
+      edge = n.copy.same_edge;
+      new = b;
+      before = subst (λ m. e.from < m) (sym is_end) (before_end d x.from e.from n.copy.from b);
+      to = n.copy.to;
+      stays = n.copy.stays;
+    })) (piece_cases d x.from e.from n.copy.from)
+
+-- an edge at other regions has no new copies
+pub no_copies : (d : Division) (xs : List RegionEdge) (x : RegionEdge) → (x.from ≡ d.cut.from → ⊥) → (x.to ≡ d.cut.from → ⊥) →
+    (e : RegionEdge) → IsTrue (is_live xs e) ↔ (IsTrue (is_live xs e) ⊎ IsNewCopy d x e)
+no_copies d xs x f t e = (λ l. inl l, λ l. ⊎_elim (λ k. k) (λ n. absurd (none n)) l) where
+  none : IsNewCopy d x e → ⊥
+  none n = ⊎_elim (λ b. f (sym n.copy.from.parent_is ∙ parent_new d.first d.cut.from e.from b))
+      (λ b. t (sym n.copy.to.parent_is ∙ parent_new d.first d.cut.from e.to b)) n.new
 
 -- Of all edges
+
+live_append : (xs ys : List RegionEdge) (e : RegionEdge) → IsTrue (is_live (xs ++ ys) e) ↔ (IsTrue (is_live xs e) ⊎ IsTrue (is_live ys e))
+live_append xs ys e = (
+  λ h. or_parts (is_live xs e) (is_live ys e) (subst IsTrue whole h),
+  λ h. subst IsTrue (sym whole) (⊎_elim (or_left (is_live xs e) (is_live ys e)) (or_right (is_live xs e) (is_live ys e)) h),
+)
+  where
+    whole : is_live (xs ++ ys) e ≡ (is_live xs e || is_live ys e)
+    whole = list_any-append (λ x. same_edge x e) xs ys
 
 any_append : (d : Division) (xs : List RegionEdge) (y e : RegionEdge) → AnyCopy d (xs ++ y ∷ []) e ↔ (AnyCopy d xs e ⊎ IsCopy d y e)
 any_append d [] y e = (λ h. ⊎_elim inr (λ n. absurd n) h, λ h. ⊎_elim (λ n. absurd n) inl h)
@@ -230,13 +290,36 @@ any_append d (x ∷ xs) y e =
       λ h. ⊎_elim (λ a. ⊎_elim inl (λ b. inr (r.1 (inl b))) a) (λ c. inr (r.1 (inr c))) h,
     )
 
-pub one_copied : (d : Division) (xs now next : List RegionEdge) (y : RegionEdge) →
-    ((e : RegionEdge) → IsTrue (is_live now e) ↔ AnyCopy d xs e) →
-    ((e : RegionEdge) → IsTrue (is_live next e) ↔ (IsTrue (is_live now e) ⊎ IsCopy d y e)) → (e : RegionEdge) → IsTrue (is_live next e) ↔
-    AnyCopy d (xs ++ y ∷ []) e
-one_copied d xs now next y h step e =
-    let r = any_append d xs y e in
-    (λ l. r.1 (⊎_elim (λ k. inl ((h e).0 k)) inr ((step e).0 l)), λ l. (step e).1 (⊎_elim (λ k. inl ((h e).1 k)) inr (r.0 l)))
+-- an edge between regions that were there is a copy of its own, and each other one is new
+pub one_copied : (d : Division) → IsDivision d → (xs now next : List RegionEdge) (y : RegionEdge) → y.from < d.first → y.to < d.first →
+    ((e : RegionEdge) → IsTrue (is_live (xs ++ now) e) ↔ AnyCopy d xs e) →
+    ((e : RegionEdge) → IsTrue (is_live next e) ↔ (IsTrue (is_live now e) ⊎ IsNewCopy d y e)) → (e : RegionEdge) →
+    IsTrue (is_live ((xs ++ y ∷ []) ++ next) e) ↔ AnyCopy d (xs ++ y ∷ []) e
+one_copied d ok xs now next y from to h step e = (
+  λ l. any.1 (⊎_elim (λ a. ⊎_elim (λ k. inl (old (inl k))) (λ s. inr (itself s)) ((live_push xs y e).0 a))
+      (λ k. ⊎_elim (λ a. inl (old (inr a))) (λ n. inr n.copy) ((step e).0 k)) ((live_append (xs ++ y ∷ []) next e).0 l)),
+  λ l. (live_append (xs ++ y ∷ []) next e).1 (⊎_elim (λ a. ⊎_elim (λ k. inl ((live_push xs y e).1 (inl k)))
+      (λ k. inr ((step e).1 (inl k))) ((live_append xs now e).0 ((h e).1 a))) copied (any.0 l)),
+)
+  where
+    any : AnyCopy d (xs ++ y ∷ []) e ↔ (AnyCopy d xs e ⊎ IsCopy d y e)
+    any = any_append d xs y e
+
+    old : IsTrue (is_live xs e) ⊎ IsTrue (is_live now e) → AnyCopy d xs e
+    old k = (h e).0 ((live_append xs now e).1 k)
+
+    itself : AreSame y e → IsCopy d y e
+    itself s = record {
+      same_edge = s.edge;
+      from = old_piece d ok y.from e.from from s.from;
+      to = old_piece d ok y.to e.to to s.to;
+      stays = old_stays d e (omega (arith, from, s.from));
+    }
+
+    copied : IsCopy d y e → IsTrue (is_live (xs ++ y ∷ []) e) ⊎ IsTrue (is_live next e)
+    copied c = ⊎_elim (λ f. ⊎_elim (λ t. inl ((live_push xs y e).1 (inr (record { edge = c.same_edge; from = f; to = t }))))
+        (λ b. inr ((step e).1 (inr (record { copy = c; new = inr b })))) (piece_cases d y.to e.to c.to))
+        (λ b. inr ((step e).1 (inr (record { copy = c; new = inl b })))) (piece_cases d y.from e.from c.from)
 
 pub regions_at : (n : ℕ) (xs : List RegionEdge) (i : ℕ) (x : RegionEdge) → IsTrue (have_regions n xs) → slice_get xs i ≡ Some x →
     (x.from < n) × (x.to < n)
