@@ -5,7 +5,7 @@ ghost use Rattle.std.specs.List.{list_all};
 ghost use Rattle.may_partition.specs.declared.region.RegionEdge.{RegionEdge as AnEdge};
 ghost use Rattle.may_partition.specs.Parted.{can_negate, is_cut, negation, pieces};
 ghost use Rattle.may_partition.specs.Shown.{have_regions, is_live};
-ghost use Rattle.may_partition.specs.steps.Copies.{AnyCopy, GoesOn, GoesToNew, IsDivision, IsNewCopy, IsUncut};
+ghost use Rattle.may_partition.specs.steps.Copies.{AnyCopy, GoesOn, GoesToNew, IsCopy, IsDivision, IsNewCopy, IsUncut};
 
 use crate::region::{Region, RegionEdge};
 use linear_formula::error::OutOfMemory;
@@ -156,26 +156,29 @@ impl Division {
         Ok(())
     }
 
-    /// Adds the copies of the edge, of which only one at the divided region has any.
-    fn push_any_copies(
+    /// Adds edges as they are, and then an edge with its copies.
+    fn push_run(
         &self,
         edges: &mut Vec<RegionEdge>,
+        run: &[RegionEdge],
         edge: RegionEdge,
     ) -> Result<(), OutOfMemory>
         requires division { IsDivision self.now }
         requires from { edge.from < self.now.first }
         requires to { edge.to < self.now.first }
         ensures { OnOk result ((e : AnEdge) → IsTrue (is_live edges.new.items e) ↔
-            (IsTrue (is_live edges.old.items e) ⊎ IsNewCopy self.now edge e)) }
+            (IsTrue (is_live edges.old.items e) ⊎ (IsTrue (is_live run.now e)
+            ⊎ IsCopy self.now edge e))) }
     {
-        if edge.from == self.cut.from || edge.to == self.cut.from {
-            self.push_copies(edges, edge)?;
-        }
+        edges.extend_from_slice(run)?;
+        edges.push(edge)?;
+        self.push_copies(edges, edge)?;
         Ok(())
     }
 
-    /// The live edges that the division adds to those before it.
-    pub fn copies(
+    /// The live edges after the division, of those before it: the copies of an edge come right
+    /// behind it.
+    pub fn divided(
         &self,
         alloc: Global,
         edges: &[RegionEdge],
@@ -183,12 +186,17 @@ impl Division {
         requires division { IsDivision self.now }
         requires regions { IsTrue (have_regions self.now.first edges.now) }
         ensures { IfOk result (λ v. (e : AnEdge) →
-            IsTrue (is_live (edges.now ++ v.items) e) ↔ AnyCopy self.now edges.now e) }
+            IsTrue (is_live v.items e) ↔ AnyCopy self.now edges.now e) }
     {
-        let mut copies = Vec::new(alloc);
-        for edge in edges {
-            self.push_any_copies(&mut copies, *edge)?;
+        let mut divided = Vec::with_capacity(alloc, edges.len())?;
+        let mut done = 0;
+        for (place, edge) in edges.iter().enumerate() {
+            if edge.from == self.cut.from || edge.to == self.cut.from {
+                self.push_run(&mut divided, &edges[done..place], *edge)?;
+                done = place + 1;
+            }
         }
-        Ok(copies)
+        divided.extend_from_slice(&edges[done..])?;
+        Ok(divided)
     }
 }

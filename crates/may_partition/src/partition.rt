@@ -14,7 +14,7 @@ use crate::region::{Region, RegionEdge};
 use flow_graph::graph::Graph;
 use linear_formula::error::OutOfMemory;
 use linear_formula::formula::Atom;
-use std::alloc::{AllocError, Global};
+use std::alloc::Global;
 use std::marker::Model;
 use summary_form::query::Query;
 
@@ -52,31 +52,6 @@ fn put_pieces(regions: &mut Vec<Region>, from: u32, mut pieces: Pieces) -> Resul
 {
     regions.append(&mut pieces.others)?;
     regions[from as usize].cube = pieces.kept;
-    Ok(())
-}
-
-/// Puts the pieces in their places and the copies of edges behind all edges, or changes nothing.
-fn put_division(
-    regions: &mut Vec<Region>,
-    edges: &mut Vec<RegionEdge>,
-    from: u32,
-    pieces: Pieces,
-    mut copies: Vec<RegionEdge>,
-) -> Result<(), OutOfMemory>
-    requires { from < length regions.old.items }
-    ensures put { OnOk result ((r : ARegion) → slice_get regions.old.items from ≡ Some r →
-        regions.new.items ≡ slice_set regions.old.items from (region r.node pieces.kept.atoms)
-        ++ pieces.others.items) }
-    ensures copies { OnOk result (edges.new.items ≡ edges.old.items ++ copies.items) }
-    ensures same_regions { OnErr result (regions.new.items ≡ regions.old.items) }
-    ensures same_edges { OnErr result (edges.new.items ≡ edges.old.items) }
-{
-    let count = edges.len();
-    edges.append(&mut copies)?;
-    if put_pieces(regions, from, pieces).is_err() {
-        edges.truncate(count);
-        return Err(AllocError);
-    }
     Ok(())
 }
 
@@ -164,14 +139,9 @@ impl Partition {
             first,
             end,
         };
-        let copies = division.copies(alloc, self.edges.as_slice())?;
-        put_division(
-            &mut self.regions,
-            &mut self.edges,
-            edge.from,
-            pieces,
-            copies,
-        )?;
+        let edges = division.divided(alloc, self.edges.as_slice())?;
+        put_pieces(&mut self.regions, edge.from, pieces)?;
+        self.edges = edges;
         Ok(())
     }
 
