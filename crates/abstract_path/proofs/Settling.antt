@@ -5,7 +5,8 @@ use Rattle.std.proofs.lemmas.Option.{get_or_from_slice_get}
 use Rattle.std.proofs.lemmas.List.{get_or_default, length-replicate}
 use Rattle.std.proofs.lemmas.List.Elements.{Contains-get_or}
 use Rattle.abstract_path.specs.Routes.{IsOpen}
-use Rattle.abstract_path.specs.steps.Chains.{Leads}
+use Rattle.abstract_path.specs.steps.Chains.{Leads, link}
+use Rattle.abstract_path.specs.declared.network.Link.{Link}
 use Rattle.abstract_path.specs.steps.Layers.{IsSettled, Extends, unmet, IsLayered, IsMeasured}
 use Rattle.abstract_path.proofs.Chaining.{split_lead}
 
@@ -31,15 +32,15 @@ current_inside edges shut regions target depth current far way met k l h =
       zero_depth e = omega (arith, e, l.positive)
 
 -- one edge further in a list
-pub one_further : (edges : List (ℕ × ℕ)) (shut : List Bool) (next old new : List ℕ) (x c : ℕ) →
-    ((e a : ℕ) → IsOpen edges shut e a x → (slice_index old a ≢ 0) ⊎ Leads next e c) → 0 < c → Extends old new →
+pub one_further : (edges : List (ℕ × ℕ)) (shut : List Bool) (links : List Link) (old new : List ℕ) (x c : ℕ) →
+    ((e a : ℕ) → IsOpen edges shut e a x → (slice_index old a ≢ 0) ⊎ Leads links e c) → 0 < c → Extends old new →
     ((a : ℕ) → IsOpen edges shut (c - 1) a x → slice_index new a ≢ 0) → (e a : ℕ) → IsOpen edges shut e a x → (slice_index new a ≢ 0)
-    ⊎ Leads next e (slice_index next (c - 1))
-one_further edges shut next old new x c h p ex own e a o = elim (h e a o) [
+    ⊎ Leads links e (link links (c - 1)).next
+one_further edges shut links old new x c h p ex own e a o = elim (h e a o) [
   | inl s ↦ inl (λ z. s (sym (ex a s) ∙ z))
-  | inr l ↦ elim (split_lead next e (c - 1) c (omega (arith, p)) l) [
+  | inr l ↦ elim (split_lead links e (c - 1) c (omega (arith, p)) l) [
     | inl same ↦ inl (own a (subst (λ n. IsOpen edges shut n a x) same o))
-    | inr b ↦ inr (subst (Leads next e) (sym (get_or_from_slice_get next (c - 1) b.0 0 b.1)) b.2)
+    | inr b ↦ inr b
   ]
 ]
 

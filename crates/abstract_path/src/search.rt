@@ -6,7 +6,7 @@ ghost use Rattle.abstract_path.specs.steps.Chains.{AreChains};
 ghost use Rattle.abstract_path.specs.steps.Layers.{IsMeasured, IsSettled, Extends};
 ghost use Rattle.abstract_path.specs.steps.Searching.{IsInLayer, KeepsLayer};
 
-use crate::network::Network;
+use crate::network::{Link, Network};
 use std::alloc::{AllocError, Global};
 use std::mem;
 
@@ -48,8 +48,8 @@ impl<'a> Search<'a> {
     /// Begins at the target.
     fn new(alloc: Global, network: Network<'a>, target: u32) -> Result<Search<'a>, AllocError>
         requires target { target < network.regions }
-        requires chained { AreChains network.edges.now network.chains.first.items
-            network.chains.next.items }
+        requires chained { AreChains network.edges.now network.shut.now
+            network.chains.first.items network.chains.links.items }
         ensures layer { IfOk result (λ s. IsInLayer s) }
         ensures alone { IfOk result (λ s. s.met.items ≡ []) }
         ensures network { IfOk result (λ s. s.network ≡ network.entry) }
@@ -107,7 +107,7 @@ impl<'a> Search<'a> {
         Ok(())
     }
 
-    /// Goes through the edges into one region of the layer.
+    /// Goes through the open edges into one region of the layer.
     fn settle(&mut self, place: usize) -> Result<(), AllocError>
         requires place { place < length self.old.current.items }
         requires layer { IsInLayer self.old }
@@ -122,11 +122,9 @@ impl<'a> Search<'a> {
         let mut cursor = self.network.chains.first[region as usize];
         while cursor > 0 {
             let number = cursor - 1;
-            let (source, to) = self.network.edges[number as usize];
-            if to == region && !self.network.shut[number as usize] {
-                self.meet(place, source, number)?;
-            }
-            cursor = self.network.chains.next[number as usize];
+            let Link { source, next } = self.network.chains.links[number as usize];
+            self.meet(place, source, number)?;
+            cursor = next;
         }
         Ok(())
     }
@@ -150,8 +148,8 @@ impl<'a> Search<'a> {
 /// Measures how far each region lies from the target.
 fn measure(alloc: Global, network: Network<'_>, target: u32) -> Result<Reach, AllocError>
     requires target { target < network.regions }
-    requires chained { AreChains network.edges.now network.chains.first.items
-        network.chains.next.items }
+    requires chained { AreChains network.edges.now network.shut.now network.chains.first.items
+        network.chains.links.items }
     ensures { IfOk result (λ r. IsMeasured network.entry.edges.now network.entry.shut.now
         network.entry.regions target r.far.items r.way.items) }
 {

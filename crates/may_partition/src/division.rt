@@ -5,7 +5,7 @@ ghost use Rattle.std.specs.List.{list_all};
 ghost use Rattle.may_partition.specs.declared.region.RegionEdge.{RegionEdge as AnEdge};
 ghost use Rattle.may_partition.specs.Parted.{can_negate, is_cut, negation, pieces};
 ghost use Rattle.may_partition.specs.Shown.{have_regions, is_live};
-ghost use Rattle.may_partition.specs.steps.Copies.{AnyCopy, GoesOn, IsCopy, IsDivision, IsUncut};
+ghost use Rattle.may_partition.specs.steps.Copies.{AnyCopy, GoesOn, GoesToNew, IsCopy, IsDivision, IsNewCopy, IsUncut};
 
 use crate::region::{Region, RegionEdge};
 use linear_formula::error::OutOfMemory;
@@ -104,6 +104,22 @@ impl Division {
         Ok(())
     }
 
+    /// Adds the edge to each new piece of its second region.
+    fn push_to_new(&self, edges: &mut Vec<RegionEdge>, edge: RegionEdge) -> Result<(), OutOfMemory>
+        requires division { IsDivision self.now }
+        ensures { OnOk result ((e : AnEdge) → IsTrue (is_live edges.new.items e) ↔
+            (IsTrue (is_live edges.old.items e) ⊎ GoesToNew self.now edge e)) }
+    {
+        for to in self.first..self.end_of(edge.to) {
+            edges.push(RegionEdge {
+                edge: edge.edge,
+                from: edge.from,
+                to,
+            })?;
+        }
+        Ok(())
+    }
+
     /// Adds the edge to each piece of its second region.
     fn push_to_pieces(
         &self,
@@ -116,25 +132,19 @@ impl Division {
             (IsTrue (is_live edges.old.items e) ⊎ GoesOn self.now edge e)) }
     {
         self.push_uncut(edges, edge)?;
-        for to in self.first..self.end_of(edge.to) {
-            edges.push(RegionEdge {
-                edge: edge.edge,
-                from: edge.from,
-                to,
-            })?;
-        }
-        Ok(())
+        self.push_to_new(edges, edge)
     }
 
-    /// Adds the edge from each piece of its first region to each of its second one.
+    /// Adds the edge from each piece of its first region to each of its second one, but not the
+    /// edge itself.
     fn push_copies(&self, edges: &mut Vec<RegionEdge>, edge: RegionEdge) -> Result<(), OutOfMemory>
         requires division { IsDivision self.now }
         requires from { edge.from < self.now.first }
         requires to { edge.to < self.now.first }
         ensures { OnOk result ((e : AnEdge) → IsTrue (is_live edges.new.items e) ↔
-            (IsTrue (is_live edges.old.items e) ⊎ IsCopy self.now edge e)) }
+            (IsTrue (is_live edges.old.items e) ⊎ IsNewCopy self.now edge e)) }
     {
-        self.push_to_pieces(edges, edge)?;
+        self.push_to_new(edges, edge)?;
         for from in self.first..self.end_of(edge.from) {
             let piece = RegionEdge {
                 edge: edge.edge,
@@ -146,7 +156,28 @@ impl Division {
         Ok(())
     }
 
-    /// The live edges after the division, of those before it.
+    /// Adds edges as they are, and then an edge with its copies.
+    fn push_run(
+        &self,
+        edges: &mut Vec<RegionEdge>,
+        run: &[RegionEdge],
+        edge: RegionEdge,
+    ) -> Result<(), OutOfMemory>
+        requires division { IsDivision self.now }
+        requires from { edge.from < self.now.first }
+        requires to { edge.to < self.now.first }
+        ensures { OnOk result ((e : AnEdge) → IsTrue (is_live edges.new.items e) ↔
+            (IsTrue (is_live edges.old.items e) ⊎ (IsTrue (is_live run.now e)
+            ⊎ IsCopy self.now edge e))) }
+    {
+        edges.extend_from_slice(run)?;
+        edges.push(edge)?;
+        self.push_copies(edges, edge)?;
+        Ok(())
+    }
+
+    /// The live edges after the division, of those before it: the copies of an edge come right
+    /// behind it.
     pub fn divided(
         &self,
         alloc: Global,
@@ -157,10 +188,15 @@ impl Division {
         ensures { IfOk result (λ v. (e : AnEdge) →
             IsTrue (is_live v.items e) ↔ AnyCopy self.now edges.now e) }
     {
-        let mut copies = Vec::with_capacity(alloc, edges.len())?;
-        for edge in edges {
-            self.push_copies(&mut copies, *edge)?;
+        let mut divided = Vec::with_capacity(alloc, edges.len())?;
+        let mut done = 0;
+        for (place, edge) in edges.iter().enumerate() {
+            if edge.from == self.cut.from || edge.to == self.cut.from {
+                self.push_run(&mut divided, &edges[done..place], *edge)?;
+                done = place + 1;
+            }
         }
-        Ok(copies)
+        divided.extend_from_slice(&edges[done..])?;
+        Ok(divided)
     }
 }

@@ -7,8 +7,8 @@ use Rattle.abstract_path.specs.steps.Layers.{IsLayered}
 pub record IsInLayer (s : Search) : Type 0 where
   pub layered : IsLayered s.network.edges.now s.network.shut.now s.network.regions s.target s.depth
       s.current.items s.far.items s.way.items s.met.items
-  pub chained : AreChains s.network.edges.now s.network.chains.first.items
-      s.network.chains.next.items
+  pub chained : AreChains s.network.edges.now s.network.shut.now s.network.chains.first.items
+      s.network.chains.links.items
 
 -- the same layer of the same network
 pub record KeepsLayer (old new : Search) : Type 0 where

@@ -1,9 +1,9 @@
-use Rattle.std.proofs.Common.{take}
-use Rattle.std.specs.Prelude.{IsTrue, ◌↔◌}
-use Rattle.may_partition.specs.declared.region.RegionEdge.{RegionEdge}
-use Rattle.may_partition.specs.Shown.{is_live}
-use Rattle.may_partition.specs.steps.Copies.{AnyCopy}
+use Rattle.std.proofs.Common.{◌≤◌, take, slice_range}
+use Rattle.may_partition.proofs.Dividing.{AreDivided}
 use Rattle.may_partition.proofs.division.Division.divided.Given as goal
 
-abbrev pub invariant-loop-edge : goal.invariant-loop-edge
-invariant-loop-edge l = (e : RegionEdge) → IsTrue (is_live l.copies.items e) ↔ AnyCopy l.self (take l.edge-index l.edges) e
+abbrev pub invariant-loop-place : goal.invariant-loop-place
+invariant-loop-place l = record {
+  done : l.done ≤ l.place;
+  divided : AreDivided l.self (take l.place l.edges) l.divided.items (slice_range l.edges l.done l.place);
+}
