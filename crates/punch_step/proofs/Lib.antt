@@ -4,6 +4,7 @@ mod Plainly
 mod Turned
 mod ReadOff
 mod Listed
+mod Keys
 mod Turning
 mod Closings
 mod Marks

@@ -1,3 +1,4 @@
+pub mod Keys
 pub mod Reaching
 pub mod Going
 pub mod Holding

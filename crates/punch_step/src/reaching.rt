@@ -11,6 +11,7 @@ ghost use Rattle.query_rules.specs.Paths.{is_awaited, is_marked, is_shut, is_stu
 ghost use Rattle.query_rules.specs.Steps.{Model};
 ghost use Rattle.query_rules.specs.declared.step.Step.{Step as AStep};
 ghost use Rattle.punch_step.specs.steps.Reaching.{AreMarksWithin, AreWithin, HasKind, IfStop, IfTurn, IsGround, IsReachedWithout, Lists, ends_of};
+ghost use Rattle.punch_step.specs.steps.Keys.{HasKeys, key_at};
 
 use abstract_path::frontier::{Route, frontier, is_reached};
 use linear_formula::error::OutOfMemory;
@@ -18,6 +19,7 @@ use may_partition::region::RegionEdge;
 use query_rules::step::{Asked, Mark, News, Step, Why};
 use shadow_elim::limit::LimitKind;
 use std::alloc::Global;
+use std::collections::BTreeSet;
 
 fn no_bits(alloc: Global, count: usize) -> Result<Vec<bool>, OutOfMemory>
     ensures { IfOk result (λ v. v.items ≡ replicate count false) }
@@ -70,11 +72,47 @@ fn has(edges: &[RegionEdge], edge: &RegionEdge) -> bool
     edges.iter().any(|e| *e == *edge)
 }
 
+/// An edge as a key that has an order: its graph edge, and then its regions.
+type Key = (u32, u32, u32);
+
+fn key_of(edge: &RegionEdge) -> Key
+    ensures { result ≡ key_at edge.now }
+{
+    (edge.edge, edge.from, edge.to)
+}
+
+/// A list of edges, and its set for look-ups.
+#[derive(Drop)]
+struct EdgeSet<'a> {
+    edges: &'a [RegionEdge],
+    keys: BTreeSet<Key>,
+    ghost same: { HasKeys keys edges.now },
+}
+
+impl<'a> EdgeSet<'a> {
+    fn has(&self, edge: &RegionEdge) -> bool
+        ensures { result ≡ is_live self.now.edges.now edge.now }
+    {
+        self.keys.contains(&key_of(edge))
+    }
+}
+
+fn set_of(alloc: Global, edges: &[RegionEdge]) -> Result<EdgeSet, OutOfMemory>
+    ensures { IfOk result (λ s. s.edges.now ≡ edges.now) }
+{
+    let mut keys: BTreeSet<Key> = BTreeSet::new(alloc);
+    for edge in edges {
+        keys.insert(key_of(edge))?;
+    }
+    Ok(EdgeSet { edges, keys })
+}
+
 /// Which of the edges are among these.
 fn among(alloc: Global, edges: &[RegionEdge], some: &[RegionEdge]) -> Result<Vec<bool>, OutOfMemory>
     ensures { IfOk result (λ v. v.items ≡ map (is_live some.now) edges.now) }
 {
-    edges.iter().map(|edge| has(some, edge)).collect(alloc)
+    let set = set_of(alloc, some)?;
+    edges.iter().map(|edge| set.has(edge)).collect(alloc)
 }
 
 /// Which of the edges were given up.
