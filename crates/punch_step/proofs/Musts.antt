@@ -1,9 +1,10 @@
 -- What a must says over a call: by the trail that it carries on, by its preimage, and in a table.
-use Rattle.std.proofs.Common.{arith, ◌≡◌, ◌≢◌, ℕ, ◌+◌, ◌<◌, ◌≤◌, List, [], ◌++◌, length, Option, None, Some, refl, sym, ap, subst, ◌∙◌, ◌⊎◌, inl, inr, ℤ, below_more}
+use Rattle.std.proofs.Common.{arith, ◌≡◌, ◌≢◌, ℕ, ◌+◌, ◌<◌, ◌≤◌, List, [], ◌++◌, length, Option, None, Some, refl, sym, ap, subst, ◌∙◌, ◌⊎◌, inl, inr, ℤ, below_more, Bor}
 use Rattle.std.specs.Prelude.{Contains, IsTrue, slice_get}
 use Rattle.std.specs.List.{list_all}
 use Rattle.std.specs.Option.{option_or}
 use Rattle.std.proofs.lemmas.Option.{slice_get_within}
+use Rattle.infeasible_cert.specs.Refutation.{refutation_of}
 use Rattle.infeasible_cert.specs.declared.certificate.Certificate.{Certificate}
 use Rattle.linear_formula.specs.LinearSum.{LinearSum, valuation}
 use Rattle.linear_formula.specs.declared.assignment.Assignment.{Assignment}
@@ -32,7 +33,7 @@ use Rattle.call_bridge.specs.Musts.{NamesNumbers, must_preimage, must_sums, plai
 use Rattle.query_rules.proofs.AppliedSteps.{front_fits}
 use Rattle.query_rules.specs.Questions.{IsMarkQuestion, IsTrailQuestion, sum_question}
 use Rattle.query_rules.specs.Rows.{IsRefutedBy, seen_at}
-use Rattle.punch_step.proofs.Deciding.{contains_earlier, contains_later, contains_wide, wide_behind}
+use Rattle.punch_step.proofs.Deciding.{contains_earlier, contains_later, contains_wide, refuted_copy, wide_behind}
 use Rattle.punch_step.proofs.Plainly.{met_not_never, none_refused, refused_elimination, refused_first, same_pre}
 use Rattle.punch_step.specs.ByMusts.{ComesUnshown, IsAskedOf, IsByTable, IsLedWell, IsLimitedBy, IsMustOf, IsPreBy, IsSaid, IsUnshown, NeitherBy, Parts, PartsNot, PartsUnshown, ServesNeither, UnshownBy, marking, led_sums, of_elimination, of_mark, of_negation, of_pre_sum, of_source, of_trail}
 use Rattle.punch_step.specs.Frontiers.{IfUnnegatable, IsPossible, first_of}
@@ -72,11 +73,11 @@ module _ (q : Query) (t : Trace) (source pre : List Atom) where
   )
 
 module _ (q : Query) (t : Trace) (source pre rows : List Atom) (is : rows ≡ source ++ pre) where
-  pub never_within : (certificate : Certificate) → IsDecision rows (sight.Never certificate) → IsWhole q t source pre
+  pub never_within : (certificate : Bor Certificate) → IsDecision rows (sight.Never certificate) → IsWhole q t source pre
   never_within certificate d = inr (inl (subst IsNever is d.0))
 
-  pub possible_within : (at : List (ℕ × ℤ)) → IsDecision rows (sight.Met at) → IsPossible (source ++ pre)
-  possible_within at d = subst IsPossible is (record { shown = d.0; point = valuation at; values = d.1; holds = d.2 })
+  pub possible_within : (at : Bor (List (ℕ × ℤ))) → IsDecision rows (sight.Met at) → IsPossible (source ++ pre)
+  possible_within at d = subst IsPossible is (record { shown = d.0; point = valuation at.now; values = d.1; holds = d.2 })
 
   pub limited_within : (kept : Kept) → IsDecision rows (sight.Limit kept) → IsDecision (source ++ pre) (sight.Limit kept)
   limited_within kept d = subst (λ (xs : List Atom). IsDecision xs (sight.Limit kept)) is d
@@ -93,19 +94,20 @@ module _ (q : Query) (t : Trace) (source pre rows : List Atom) (is : rows ≡ so
 
   -- whatever else the trail's question came to
   pub not_seen : (s : Sight) → IsSight q t rows s →
-      ((c : Certificate) × (s ≡ sight.Never c)) ⊎ ((k : Kept) × (s ≡ sight.Limit k)) → IsRead t rows → ¬ IsMet (seen_at q t rows)
+      ((c : Bor Certificate) × (s ≡ sight.Never c)) ⊎ ((k : Kept) × (s ≡ sight.Limit k)) → IsRead t rows → ¬ IsMet (seen_at q t rows)
   not_seen s d (inl n) = λ read met. met_not_never (seen_at q t rows) met (subst (IsSight q t rows) n.1 d).1
   not_seen s d (inr l) = (subst (IsSight q t rows) l.1 d).2
 
-  pub unseen : (certificate : Certificate) → IsSight q t rows (sight.Never certificate) →
+  pub unseen : (certificate : Bor Certificate) → IsSight q t rows (sight.Never certificate) →
       IsRead t (source ++ pre) × IsNever (seen_at q t (source ++ pre))
   unseen certificate d = subst (λ (xs : List Atom). IsRead t xs × IsNever (seen_at q t xs)) is (d.0, d.1)
 
-  pub refuted_seen : (certificate : Certificate) → IsSight q t rows (sight.Never certificate) →
-      IsRefutedBy (seen_at q t (source ++ pre)) certificate
-  refuted_seen certificate d = subst (λ (xs : List Atom). IsRefutedBy (seen_at q t xs) certificate) is d.2
+  pub refuted_seen : (certificate : Bor Certificate) (copy : Certificate) → refutation_of copy ≡ refutation_of certificate.now →
+      IsSight q t rows (sight.Never certificate) → IsRefutedBy (seen_at q t (source ++ pre)) copy
+  refuted_seen certificate copy same d =
+      subst (λ (xs : List Atom). IsRefutedBy (seen_at q t xs) copy) is (refuted_copy (seen_at q t rows) certificate.now copy same d.2)
 
-  pub met_seen : (at : List (ℕ × ℤ)) → IsSight q t rows (sight.Met at) → IsWhole q t source pre
+  pub met_seen : (at : Bor (List (ℕ × ℤ))) → IsSight q t rows (sight.Met at) → IsWhole q t source pre
   met_seen at d = inr (inr (subst (λ (xs : List Atom). IsRead t xs × IsMet (seen_at q t xs)) is (d.0, d.1)))
 
   pub limit_seen : (kept : Kept) → pre ≢ [] → IsPossible (source ++ pre) → IsSight q t rows (sight.Limit kept) →

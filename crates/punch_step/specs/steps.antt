@@ -1,4 +1,5 @@
 pub mod Keys
+pub mod Knowing
 pub mod Reaching
 pub mod Going
 pub mod Holding

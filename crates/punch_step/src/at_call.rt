@@ -18,6 +18,7 @@ ghost use Rattle.punch_step.specs.Slices.{SeesAll};
 
 use crate::at_turn::mark_of;
 use crate::by_must::Calling;
+use crate::memo::Memo;
 use crate::over_call::{CallFrontier, step_over_call};
 use call_bridge::musts::are_numbers;
 use flow_graph::graph::Graph;
@@ -68,6 +69,7 @@ fn seen_by_ask(steps: &[Step], at: RegionEdge) -> usize {
 /// The step at a frontier of the state whose edge is a call.
 pub fn call_from(
     alloc: Global,
+    memo: &mut Memo,
     state: &QueryState,
     graph: &Graph,
     table: &[Arc<Summary>],
@@ -110,5 +112,5 @@ pub fn call_from(
         table,
         newer: seen_by_ask(state.steps(), at),
     };
-    step_over_call(alloc, &frontier)
+    step_over_call(alloc, memo, &frontier)
 }

@@ -16,6 +16,7 @@ ghost use Rattle.punch_step.specs.Slices.{SeesAll};
 use crate::at_call::call_from;
 use crate::by_must::number_of;
 use crate::carried::{Carried, carry};
+use crate::memo::Memo;
 use crate::plain::{Frontier, step_over};
 use flow_graph::graph::Graph;
 use linear_formula::assignment::{Assignment, Values};
@@ -29,7 +30,12 @@ use summary_form::summary::Summary;
 
 /// The trail of this number is carried over the edge where it comes into the target; else the edge
 /// is killed, its source split, or it is given up.
-fn step_at(alloc: Global, frontier: &Frontier, number: u32) -> Result<Step, OutOfMemory>
+fn step_at(
+    alloc: Global,
+    memo: &mut Memo,
+    frontier: &Frontier,
+    number: u32,
+) -> Result<Step, OutOfMemory>
     requires can { CanGo frontier.now }
     requires carry { CanCarry frontier.now }
     ensures { IfOk result (MadeAt frontier.now number) }
@@ -42,14 +48,14 @@ fn step_at(alloc: Global, frontier: &Frontier, number: u32) -> Result<Step, OutO
         target,
         ..
     } = frontier;
-    match carry(alloc, query, trail, point, edge, target)? {
+    match carry(alloc, memo, query, trail, point, edge, target)? {
         Carried::Comes(point) => Ok(Step::Extend {
             edge: frontier.at,
             trail: number,
             point,
         }),
-        Carried::Never => step_over(alloc, frontier, None),
-        Carried::Limit(kept) => step_over(alloc, frontier, Some(kept)),
+        Carried::Never => step_over(alloc, memo, frontier, None),
+        Carried::Limit(kept) => step_over(alloc, memo, frontier, Some(kept)),
     }
 }
 
@@ -65,6 +71,7 @@ pub(crate) fn mark_of(marks: &[Mark], region: u32) -> Option<&Mark>
 /// The step at a frontier of the state whose edge is no call.
 fn plain_from(
     alloc: Global,
+    memo: &mut Memo,
     state: &QueryState,
     graph: &Graph,
     table: &[Arc<Summary>],
@@ -98,12 +105,13 @@ fn plain_from(
         at,
         seen,
     };
-    step_at(alloc, &frontier, mark.trail)
+    step_at(alloc, memo, &frontier, mark.trail)
 }
 
 /// The step at a frontier of the state.
 pub fn step_from(
     alloc: Global,
+    memo: &mut Memo,
     state: &QueryState,
     graph: &Graph,
     table: &[Arc<Summary>],
@@ -120,8 +128,8 @@ pub fn step_from(
         × SeesAll (length (map (λ s. s.value) table.now)) s) }
 {
     if graph.edges.as_slice()[at.edge as usize].is_call() {
-        call_from(alloc, state, graph, table, at)
+        call_from(alloc, memo, state, graph, table, at)
     } else {
-        plain_from(alloc, state, graph, table, at)
+        plain_from(alloc, memo, state, graph, table, at)
     }
 }

@@ -13,6 +13,7 @@ ghost use Rattle.punch_step.specs.declared.by_must.ByMust.TheVariants as by;
 ghost use Rattle.punch_step.specs.steps.Musts.{IsBySummary, IsLedBy, IsMissedBy, IsPartedBy, IsPartingOf};
 
 use crate::carried::{Carried, arrive};
+use crate::memo::Memo;
 use crate::plain::first_unnegatable;
 use crate::sight::{Sight, decided, look};
 use c_tree::tree::ProcId;
@@ -89,7 +90,12 @@ enum Parting {
 }
 
 /// Whether the trail, carried over the call by the must, comes into the target.
-fn led(alloc: Global, calling: &Calling, must: &Path) -> Result<Carried, OutOfMemory>
+fn led(
+    alloc: Global,
+    memo: &mut Memo,
+    calling: &Calling,
+    must: &Path,
+) -> Result<Carried, OutOfMemory>
     requires { CanCall calling.now }
     ensures { IfOk result (IsLedBy calling.now must.now) }
 {
@@ -103,7 +109,7 @@ fn led(alloc: Global, calling: &Calling, must: &Path) -> Result<Carried, OutOfMe
         ..
     } = calling;
     match trail.extend_must(alloc, graph, call, must) {
-        Ok(led) => arrive(alloc, query, &led, point, target),
+        Ok(led) => arrive(alloc, memo, query, &led, point, target),
         Err(TrailError::Limit(kept)) => Ok(Carried::Limit(kept)),
         Err(TrailError::Memory) => Err(AllocError),
     }
@@ -132,15 +138,23 @@ fn parted_where_negatable(
 }
 
 /// Whether no point of the trail meets the atoms in the source, which something else in it meets.
-fn parted_from_trail(alloc: Global, calling: &Calling, pre: Cube) -> Result<Parting, OutOfMemory>
+fn parted_from_trail(
+    alloc: Global,
+    memo: &mut Memo,
+    calling: &Calling,
+    pre: Cube,
+) -> Result<Parting, OutOfMemory>
     requires can { CanCall calling.now }
     requires possible { IsPossible (calling.now.source.now.atoms ++ pre.atoms) }
     requires several { pre.atoms ≢ [] }
     ensures { IfOk result (IsPartingOf calling.now pre.atoms) }
 {
     let both = calling.source.and(alloc, &pre)?;
-    match look(alloc, calling.query, calling.trail, &both)? {
-        Sight::Never(proof) => parted_where_negatable(alloc, calling, pre, proof),
+    match look(alloc, memo, calling.query, calling.trail, &both)? {
+        Sight::Never(proof) => {
+            let proof = proof.copy(alloc)?;
+            parted_where_negatable(alloc, calling, pre, proof)
+        }
         Sight::Met(_) => Ok(Parting::Not),
         Sight::Limit(kept) => Ok(Parting::Limit(kept)),
     }
@@ -150,6 +164,7 @@ fn parted_from_trail(alloc: Global, calling: &Calling, pre: Cube) -> Result<Part
 /// whether something does, is needless.
 fn parted_at_limit(
     alloc: Global,
+    memo: &mut Memo,
     calling: &Calling,
     pre: &Cube,
     kept: Kept,
@@ -161,14 +176,19 @@ fn parted_at_limit(
     ensures { IfOk result (IsPartingOf calling.now pre.now.atoms) }
 {
     let both = calling.source.and(alloc, pre)?;
-    match look(alloc, calling.query, calling.trail, &both)? {
+    match look(alloc, memo, calling.query, calling.trail, &both)? {
         Sight::Met(_) => Ok(Parting::Not),
         Sight::Never(_) | Sight::Limit(_) => Ok(Parting::Limit(kept)),
     }
 }
 
 /// Whether the source is split by the atoms of a preimage.
-fn parted_by(alloc: Global, calling: &Calling, pre: Cube) -> Result<Parting, OutOfMemory>
+fn parted_by(
+    alloc: Global,
+    memo: &mut Memo,
+    calling: &Calling,
+    pre: Cube,
+) -> Result<Parting, OutOfMemory>
     requires { CanCall calling.now }
     ensures { IfOk result (IsPartingOf calling.now pre.atoms) }
 {
@@ -176,20 +196,25 @@ fn parted_by(alloc: Global, calling: &Calling, pre: Cube) -> Result<Parting, Out
         return Ok(Parting::Not);
     }
     let both = calling.source.and(alloc, &pre)?;
-    match decided(alloc, both)? {
+    match decided(alloc, memo, both)? {
         Sight::Never(_) => Ok(Parting::Not),
-        Sight::Met(_) => parted_from_trail(alloc, calling, pre),
-        Sight::Limit(kept) => parted_at_limit(alloc, calling, &pre, kept),
+        Sight::Met(_) => parted_from_trail(alloc, memo, calling, pre),
+        Sight::Limit(kept) => parted_at_limit(alloc, memo, calling, &pre, kept),
     }
 }
 
 /// Whether the source is split by the preimage over the must.
-fn parted(alloc: Global, calling: &Calling, must: &Path) -> Result<Parting, OutOfMemory>
+fn parted(
+    alloc: Global,
+    memo: &mut Memo,
+    calling: &Calling,
+    must: &Path,
+) -> Result<Parting, OutOfMemory>
     requires { CanCall calling.now }
     ensures { IfOk result (IsPartedBy calling.now must.now) }
 {
     match preimage_of(alloc, must, calling.call, calling.target) {
-        Ok(pre) => parted_by(alloc, calling, pre.cube),
+        Ok(pre) => parted_by(alloc, memo, calling, pre.cube),
         Err(BridgeError::Limit(kept)) => Ok(Parting::Limit(kept)),
         Err(BridgeError::Memory) => Err(AllocError),
     }
@@ -205,6 +230,7 @@ fn limited(first: Option<Kept>, kept: Kept) -> ByMust
 /// What the must says where the trail doesn't come into the target, or that question met a limit.
 fn behind_trail(
     alloc: Global,
+    memo: &mut Memo,
     calling: &Calling,
     must: &Path,
     first: Option<Kept>,
@@ -213,7 +239,7 @@ fn behind_trail(
     requires first { IsMissedBy calling.now must.now first }
     ensures { IfOk result (IsSaid calling.now must.now) }
 {
-    match (parted(alloc, calling, must)?, first) {
+    match (parted(alloc, memo, calling, must)?, first) {
         (Parting::By(atoms, proof), _) => Ok(ByMust::Parts(atoms, proof)),
         (Parting::Not, None) => Ok(ByMust::Neither),
         (Parting::Not, Some(kept)) => Ok(ByMust::Limit(kept)),
@@ -223,14 +249,19 @@ fn behind_trail(
 
 /// What a must of the called procedure says: the trail is carried over the call, and else the
 /// source is split by its preimage.
-pub fn by_must(alloc: Global, calling: &Calling, must: &Path) -> Result<ByMust, OutOfMemory>
+pub fn by_must(
+    alloc: Global,
+    memo: &mut Memo,
+    calling: &Calling,
+    must: &Path,
+) -> Result<ByMust, OutOfMemory>
     requires { CanCall calling.now }
     ensures { IfOk result (IsSaid calling.now must.now) }
 {
-    match led(alloc, calling, must)? {
+    match led(alloc, memo, calling, must)? {
         Carried::Comes(point) => Ok(ByMust::Comes(point)),
-        Carried::Never => behind_trail(alloc, calling, must, None),
-        Carried::Limit(kept) => behind_trail(alloc, calling, must, Some(kept)),
+        Carried::Never => behind_trail(alloc, memo, calling, must, None),
+        Carried::Limit(kept) => behind_trail(alloc, memo, calling, must, Some(kept)),
     }
 }
 
@@ -256,14 +287,19 @@ pub(crate) fn is_of(calling: &Calling, must: &Path) -> bool
 }
 
 /// What a summary says: neither, where it is no must of the called procedure with this exit.
-fn by_summary(alloc: Global, calling: &Calling, summary: &Summary) -> Result<ByMust, OutOfMemory>
+fn by_summary(
+    alloc: Global,
+    memo: &mut Memo,
+    calling: &Calling,
+    summary: &Summary,
+) -> Result<ByMust, OutOfMemory>
     requires { CanCall calling.now }
     ensures { IfOk result (IsBySummary calling.now summary.now) }
 {
     match summary {
         Summary::Must(must) if is_of(calling, must) => {
             names_numbers(must);
-            by_must(alloc, calling, must)
+            by_must(alloc, memo, calling, must)
         }
         _ => Ok(ByMust::Neither),
     }
@@ -279,6 +315,7 @@ pub(crate) fn number_of(place: usize) -> Result<u32, OutOfMemory>
 /// Asks each must of the called procedure with this exit, in order, until one serves.
 pub fn by_table(
     alloc: Global,
+    memo: &mut Memo,
     calling: &Calling,
     table: &[Arc<Summary>],
 ) -> Result<ByTable, OutOfMemory>
@@ -287,7 +324,7 @@ pub fn by_table(
 {
     let mut first = None;
     for (place, summary) in table.iter().enumerate() {
-        match by_summary(alloc, calling, summary)? {
+        match by_summary(alloc, memo, calling, summary)? {
             ByMust::Comes(point) => {
                 let place = number_of(place)?;
                 return Ok(ByTable::Comes { place, point });

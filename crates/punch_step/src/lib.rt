@@ -8,6 +8,7 @@ pub mod carried;
 pub mod cut;
 pub mod entailing;
 mod guess;
+pub mod memo;
 pub mod outlook;
 pub mod over_call;
 pub mod plain;

@@ -13,6 +13,7 @@ ghost use Rattle.punch_step.specs.steps.Serving.{IfInexact, IfUnkilled, IsRepeat
 
 use crate::by_must::{ByTable, Calling, by_table, is_of, number_of};
 use crate::entailing::{Holder, level_of, not_may_of};
+use crate::memo::Memo;
 use call_bridge::asking::{Asking, ask_of};
 use call_bridge::error::BridgeError;
 use call_bridge::inexact::{inexact_asking, inexact_preimage};
@@ -342,12 +343,17 @@ fn behind_musts(
 }
 
 /// What the musts of the table say, from this place on.
-fn by_musts_from(alloc: Global, frontier: &CallFrontier, from: usize) -> Result<Served, OutOfMemory>
+fn by_musts_from(
+    alloc: Global,
+    memo: &mut Memo,
+    frontier: &CallFrontier,
+    from: usize,
+) -> Result<Served, OutOfMemory>
     requires can { CanCall frontier.now.calling }
     requires from { from ≤ length frontier.now.table.now }
     ensures { IfOk result (AreServedFrom frontier.now from) }
 {
-    match by_table(alloc, &frontier.calling, &frontier.table[from..])? {
+    match by_table(alloc, memo, &frontier.calling, &frontier.table[from..])? {
         ByTable::Comes { place, point } => Ok(Served::By(Step::CallExtend {
             edge: frontier.at,
             trail: frontier.trail,
@@ -373,12 +379,17 @@ fn by_musts_from(alloc: Global, frontier: &CallFrontier, from: usize) -> Result<
 }
 
 /// The step by the musts of the table, or what follows.
-fn by_musts(alloc: Global, frontier: &CallFrontier, told: Option<Told>) -> Result<Step, OutOfMemory>
+fn by_musts(
+    alloc: Global,
+    memo: &mut Memo,
+    frontier: &CallFrontier,
+    told: Option<Told>,
+) -> Result<Step, OutOfMemory>
     requires can { CanStepHere frontier.now }
     requires told { IfUnkilled frontier.now told }
     ensures { IfOk result (IsCallStep frontier.now) }
 {
-    match by_musts_from(alloc, frontier, 0)? {
+    match by_musts_from(alloc, memo, frontier, 0)? {
         Served::By(step) => Ok(step),
         Served::Not => behind_musts(alloc, frontier, told, None),
         Served::Limit(kept) => behind_musts(alloc, frontier, told, Some(kept)),
@@ -419,6 +430,7 @@ fn asked_again(
 /// this place on, and else by what is told of the child.
 fn by_asked(
     alloc: Global,
+    memo: &mut Memo,
     frontier: &CallFrontier,
     told: Told,
     newer: usize,
@@ -429,7 +441,7 @@ fn by_asked(
     ensures { IfOk result (IsCallStep frontier.now) }
 {
     let Some(query) = asked_again(alloc, frontier, told)? else {
-        return by_musts(alloc, frontier, Some(told));
+        return by_musts(alloc, memo, frontier, Some(told));
     };
     match not_may_of(alloc, &query, &frontier.table[newer..])? {
         Holder::At { place, proofs } => Ok(Step::Kill {
@@ -446,6 +458,7 @@ fn by_asked(
 /// The step where the summaries before this place were asked before: first by the newer ones.
 fn by_newer(
     alloc: Global,
+    memo: &mut Memo,
     frontier: &CallFrontier,
     told: Option<Told>,
     newer: usize,
@@ -455,10 +468,10 @@ fn by_newer(
     requires newer { newer ≤ length frontier.now.table.now }
     ensures { IfOk result (IsCallStep frontier.now) }
 {
-    match (by_musts_from(alloc, frontier, newer)?, told) {
+    match (by_musts_from(alloc, memo, frontier, newer)?, told) {
         (Served::By(step), _) => Ok(step),
-        (_, Some(told)) => by_asked(alloc, frontier, told, newer),
-        (_, None) => by_musts(alloc, frontier, None),
+        (_, Some(told)) => by_asked(alloc, memo, frontier, told, newer),
+        (_, None) => by_musts(alloc, memo, frontier, None),
     }
 }
 
@@ -468,7 +481,11 @@ fn by_newer(
 /// its query is asked where no question met a limit, and else the edge is given up at the first.
 /// Where the edge asked before, the summaries that its last Ask didn't see come first, and where
 /// the child still answers what the call asks, it comes before those that the Ask saw.
-pub fn step_over_call(alloc: Global, frontier: &CallFrontier) -> Result<Step, OutOfMemory>
+pub fn step_over_call(
+    alloc: Global,
+    memo: &mut Memo,
+    frontier: &CallFrontier,
+) -> Result<Step, OutOfMemory>
     requires { CanStepHere frontier.now }
     ensures { IfOk result (IsCallStep frontier.now) }
 {
@@ -483,8 +500,8 @@ pub fn step_over_call(alloc: Global, frontier: &CallFrontier) -> Result<Step, Ou
             by: Killer::Child { asked },
         }),
         told => match frontier.newer.min(frontier.table.len()) {
-            0 => by_musts(alloc, frontier, told),
-            newer => by_newer(alloc, frontier, told, newer),
+            0 => by_musts(alloc, memo, frontier, told),
+            newer => by_newer(alloc, memo, frontier, told, newer),
         },
     }
 }

@@ -10,6 +10,7 @@ ghost use Rattle.punch_step.specs.Sliced.{HasSliced, HasStepped};
 ghost use Rattle.punch_step.specs.Slices.{end_of};
 
 use crate::at_turn::step_from;
+use crate::memo::Memo;
 use crate::outlook::{Outlook, look_ahead};
 use flow_graph::graph::Graph;
 use flow_graph::graphs::Graphs;
@@ -59,6 +60,7 @@ fn end_of(step: &Step) -> Option<SliceEnd>
 /// Makes the step at the frontier, and says the end that it makes, if it makes one.
 fn advance(
     alloc: Global,
+    memo: &mut Memo,
     state: &mut QueryState,
     graphs: &Graphs,
     graph: &Graph,
@@ -74,7 +76,7 @@ fn advance(
         IsTurn graph.now m at →
         HasStepped graphs.now.graphs graph.now (map (λ s. s.value) table.now) m state.new end) }
 {
-    let step = step_from(alloc, state, graph, table, at)?;
+    let step = step_from(alloc, memo, state, graph, table, at)?;
     let end = end_of(&step);
     state.apply(alloc, step, graphs, table)?;
     Ok(end)
@@ -83,6 +85,7 @@ fn advance(
 /// Makes legal steps on the graph of the state's query.
 fn slice_on(
     alloc: Global,
+    memo: &mut Memo,
     state: &mut QueryState,
     graphs: &Graphs,
     graph: &Graph,
@@ -123,7 +126,7 @@ fn slice_on(
                     let end = SliceEnd::Goes;
                     return Ok(Sliced { steps, end });
                 }
-                let made = advance(alloc, state, graphs, graph, table, at)?;
+                let made = advance(alloc, memo, state, graphs, graph, table, at)?;
                 steps += 1;
                 if let Some(end) = made {
                     return Ok(Sliced { steps, end });
@@ -161,6 +164,16 @@ pub fn slice(
         IsAnalysed graphs.now.graphs table.now.summaries g state.old m →
         HasSliced graphs.now.graphs g table.now.summaries left at_most m state.new s) }
 {
+    let mut memo = Memo::new(alloc)?;
     let graph = graph_of(state, graphs);
-    slice_on(alloc, state, graphs, graph, table.all(), left, at_most)
+    slice_on(
+        alloc,
+        &mut memo,
+        state,
+        graphs,
+        graph,
+        table.all(),
+        left,
+        at_most,
+    )
 }

@@ -12,6 +12,8 @@ mod learning;
 #[cfg(test)]
 mod made;
 #[cfg(test)]
+mod memos;
+#[cfg(test)]
 mod musts;
 #[cfg(test)]
 mod outlooks;

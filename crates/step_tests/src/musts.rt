@@ -13,6 +13,7 @@ use linear_formula::formula::Cube;
 use linear_formula::question::Question;
 use must_region::trail::Trail;
 use punch_step::by_must::{ByMust, ByTable, Calling, by_must, by_table};
+use punch_step::memo::Memo;
 use shadow_elim::limit::{Kept, Limit};
 use std::alloc::{AllocError, Global};
 use std::sync::Arc;
@@ -170,7 +171,8 @@ fn seen_by_must(said: &ByMust, rows: &[Found]) -> Seen {
 fn said(alloc: Global, case: Case, says: Says, rows: &[Found]) -> Result<Seen, Fail> {
     let scene = scene_of(alloc, case)?;
     let must = must(alloc, says)?;
-    let said = by_must(alloc, &calling(&scene, case.exit), &must)?;
+    let mut memo = Memo::new(alloc)?;
+    let said = by_must(alloc, &mut memo, &calling(&scene, case.exit), &must)?;
     Ok(seen_by_must(&said, rows))
 }
 
@@ -213,7 +215,8 @@ fn told(
 ) -> Result<(Option<u32>, Seen), Fail> {
     let scene = scene_of(alloc, case)?;
     let table = table_of(alloc, says)?;
-    let told = by_table(alloc, &calling(&scene, case.exit), &table)?;
+    let mut memo = Memo::new(alloc)?;
+    let told = by_table(alloc, &mut memo, &calling(&scene, case.exit), &table)?;
     Ok(seen_by_table(&told, rows))
 }
 

@@ -14,6 +14,7 @@ pub parted_where_negatable-requires-clause-refuted : goal.parted_where_negatable
 parted_where_negatable-requires-clause-refuted c =
     let a = c.args.calling.now in let both = c.in_ok-both.both.atoms in
     refuted_seen a.query.now (marking a) a.source.now.atoms c.args.pre.atoms both c.in_ok-both.ensures c.in-Never.proof
+    c.in_ok-proof-in-Never.proof c.in_ok-proof-in-Never.ensures
     (subst (IsSight a.query.now (marking a) both) c.in-Never.is c.in_ok-proof.ensures)
 
 pub returns-in-Met : goal.returns-in-Met

@@ -11,6 +11,7 @@ use Rattle.query_rules.specs.Questions.{IsMarkQuestion}
 use Rattle.punch_step.specs.Sights.{IsRead, IsSight}
 use Rattle.punch_step.specs.declared.sight.Sight.{Sight}
 use Rattle.punch_step.proofs.Choosing.{some_of_all}
+use Rattle.punch_step.proofs.Deciding.{refuted_copy}
 use Rattle.punch_step.proofs.cut.cut_by_all.Goals as goal
 
 pub without_needless-requires-clause-all : goal.without_needless-requires-clause-all
@@ -24,7 +25,8 @@ without_needless-requires-clause-all c =
     record {
       some = subst (λ (xs : List Atom). IsSome xs pre) (sym same) (some_of_all pre);
       several = λ e. c.requires.several (sym same ∙ e);
-      refuted = subst (λ (xs : List Atom). IsRefutedBy (seen_at q t xs) c.in-Never.proof) both s.2;
+      refuted = subst (λ (xs : List Atom). IsRefutedBy (seen_at q t xs) c.in_ok-proof-in-Never.proof) both
+          (refuted_copy (seen_at q t c.in_ok-both.both.atoms) c.in-Never.proof.now c.in_ok-proof-in-Never.proof c.in_ok-proof-in-Never.ensures s.2);
     }
 
 pub returns-in-Met : goal.returns-in-Met
@@ -33,7 +35,7 @@ returns-in-Met c =
     let s = subst (λ (x : Sight). IsSight q t c.in_ok-both.both.atoms x) c.in-Met.is c.in_ok-proof.ensures in
     subst (λ (xs : List Atom). IsRead t xs × IsMet (seen_at q t xs) × ((v : Valuation) × Is64 v × HoldsAll v (seen_at q t xs)))
     c.in_ok-both.ensures
-    (s.0, s.1, (valuation c.in-Met.field-0, s.2, s.3))
+    (s.0, s.1, (valuation c.in-Met.field-0.now, s.2, s.3))
 
 pub returns : goal.returns
 returns c =
