@@ -1,6 +1,6 @@
 //! Questions that were asked, with their answers, so that none is solved again while it is known.
 
-ghost use Rattle.std.specs.Prelude.{◌≡◌, ◌<◌, length, IfOk, IsTrue};
+ghost use Rattle.std.specs.Prelude.{◌≡◌, ◌<◌, length, IsTrue};
 ghost use Rattle.punch_step.specs.Memos.{IsAnswered, Knows};
 ghost use Rattle.punch_step.specs.declared.memo.TheConstants.{SLOTS};
 

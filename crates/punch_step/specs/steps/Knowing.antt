@@ -17,4 +17,5 @@ HasLearned rows slot (Some kept) = IsDecision rows.atoms (sight.Limit kept)
 -- the answer, or the limit at which there is none
 abbrev pub IsSolved : Cube → Result Answer Limit → Type 0
 IsSolved rows (Ok answer) = IsAnswered rows.atoms answer
-IsSolved rows (Err limit) = IsDecision rows.atoms (sight.Limit (record { question = asks.Cube rows; limit = limit }))
+IsSolved rows (Err limit) = IsDecision rows.atoms
+    (sight.Limit (record { question = asks.Cube rows; limit = limit }))
