@@ -1,3 +1,4 @@
+mod Halving
 pub mod Listed
 pub mod ChosenPoints
 pub mod Splitting
@@ -31,3 +32,5 @@ pub mod Gathering
 pub mod Putting
 pub mod Narrowing
 pub mod BranchTable
+pub mod SmallRows
+pub mod Rechaining

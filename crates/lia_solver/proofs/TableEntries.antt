@@ -7,7 +7,7 @@ use Rattle.linear_formula.specs.LinearSum.{LinearSum}
 use Rattle.lia_solver.specs.declared.table.Line.{Line}
 use Rattle.lia_solver.specs.declared.table.Origin.{Origin}
 use Rattle.lia_solver.specs.steps.Entries.{Entry, entry_of, joined, IsAdded}
-use Rattle.lia_solver.specs.steps.Lines.{parts_of_line, entries_of, parts_at, joined_line, AreInChains}
+use Rattle.lia_solver.specs.steps.Lines.{parts_of_line, entries_of, parts_at, joined_line, AreInPool}
 use Rattle.lia_solver.proofs.Chains.{no_line, map-more, range-more, parts-map, IsLastLine, last-parts}
 
 abbrev pub entry_of_line : List (ℕ × ℤ) → Line → Entry
@@ -64,11 +64,11 @@ added-joined pool lines old i t o v h e = inl (record {
   here : parts_of_line pool line ≡ t.parts
   here = sym (parts-map pool lines i no_line h) ∙ e
 
-pub added-new : (pool : List (ℕ × ℤ)) (lines : List Line) (heads : List ℕ) (old : List Entry) (t : LinearSum) (o : Origin) (l : Line) →
-    entries_of pool lines ≡ old → AreInChains pool lines → ((i : ℕ) → i < length lines → parts_at pool lines i ≡ t.parts → ⊥) →
-    IsLastLine pool t.parts heads l → l.constant ≡ t.constant → l.least ≡ t.constant → l.origin ≡ o →
+pub added-new : (chains : ℕ) (pool : List (ℕ × ℤ)) (lines : List Line) (heads : List ℕ) (old : List Entry) (t : LinearSum) (o : Origin)
+    (l : Line) → entries_of pool lines ≡ old → AreInPool pool lines → ((i : ℕ) → i < length lines → parts_at pool lines i ≡ t.parts → ⊥) →
+    IsLastLine chains pool t.parts heads l → l.constant ≡ t.constant → l.least ≡ t.constant → l.origin ≡ o →
     IsAdded t o old (entries_of (pool ++ t.parts) (lines ++ l ∷ []))
-added-new pool lines heads old t o l v c n h e f g = inr (record {
+added-new chains pool lines heads old t o l v c n h e f g = inr (record {
   other = λ i x k d. n i (inside i k) (sym (entry-parts pool lines i x (inside i k)) ∙ ap (λ (es : List Entry). (get_or es i x).sum.parts) v
       ∙ d);
   pushed = map-append (entry_of_line all) lines (l ∷ []) ∙ ap (λ (es : List Entry). es ++ entry_of_line all l ∷ []) (same ∙ v)
@@ -89,7 +89,7 @@ added-new pool lines heads old t o l v c n h e f g = inr (record {
 
   whole : entry_of_line all l ≡ entry_of t o
   whole = λ i. record {
-    sum = record { parts = last-parts pool t.parts heads l h i; constant = e i };
+    sum = record { parts = last-parts chains pool t.parts heads l h i; constant = e i };
     least = f i;
     origin = g i;
   }

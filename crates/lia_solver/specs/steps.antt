@@ -10,5 +10,6 @@ pub mod Implied
 pub mod Lines
 pub mod Numbers
 pub mod Searches
+pub mod SmallRows
 pub mod Solved
 pub mod Tables

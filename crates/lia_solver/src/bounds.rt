@@ -8,6 +8,7 @@ ghost use Rattle.lia_solver.specs.steps.Bounded.{with_row};
 ghost use Rattle.lia_solver.specs.steps.Solved.{high_in, low_in, floor_in};
 ghost use Rattle.lia_solver.specs.steps.Tables.{AreRows};
 
+use crate::division::quotient;
 use crate::eliminate::{bounds_above, bounds_below};
 use crate::pairing::first_size;
 use crate::table::Table;
@@ -52,7 +53,7 @@ fn floor_quotient(number: i128, divisor: u64) -> i128
     if divisor == 1 {
         number
     } else {
-        number.div_euclid(i128::from(divisor))
+        quotient(number, divisor)
     }
 }
 

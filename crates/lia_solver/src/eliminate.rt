@@ -6,9 +6,11 @@ ghost use Rattle.linear_formula.specs.steps.Order.{AllWithin};
 ghost use Rattle.shadow_elim.specs.Elimination.{pair_sum};
 ghost use Rattle.lia_solver.specs.declared.table.Origin.TheVariants as origin;
 ghost use Rattle.lia_solver.specs.steps.Entries.{sum_at, bounds_above, bounds_below, ArePaired};
+ghost use Rattle.lia_solver.specs.steps.SmallRows.{IsSized, AreLimited};
 ghost use Rattle.lia_solver.specs.steps.Tables.{starts_from, passed, AreRows, IsPut, IsGrown, IsSummed, AreLowerPlaces, HasWide, AreNarrow, IsLeft};
 
-use crate::pairing::{Made, combine};
+use crate::pairing::{Made, combine, measure};
+use crate::slight::{Sizes, do_fit, sizes_at, sizes_of_all};
 use crate::table::{Origin, Table};
 use linear_formula::error::{LinError, OutOfMemory};
 use shadow_elim::limit::MAX_ROWS;
@@ -154,24 +156,31 @@ fn add_sums_of(
     }
 }
 
-/// Whether the sums of an upper row with the lower ones are within the limits.
+/// Whether the sums of an upper row with the lower ones, which have these sizes at most, are within
+/// the limits. They are measured only where the sizes don't tell it.
 fn are_narrow(
     parts: &mut Vec<(u32, i128)>,
     column: u32,
     table: &Table,
     upper: usize,
     lowers: &[usize],
+    sizes: Sizes,
 ) -> Result<bool, OutOfMemory>
     requires rows { AreRows table.now }
     requires upper { (upper < length table.now)
         × IsTrue (bounds_above column (sum_at table.now upper).parts) }
     requires lowers { AreLowerPlaces column table.now lowers.now }
+    requires sized { (i : ℕ) → Contains lowers.now i → IsSized (sum_at table.now i) sizes }
+    requires limited { AreLimited sizes }
     ensures sums { IfOk result (λ b. b ≡ true → (lower : ℕ) → Contains lowers.now lower →
         IsTrue (is_within (pair_sum column (sum_at table.now upper, sum_at table.now lower)))) }
     ensures wide { IfOk result (λ b. b ≡ false → HasWide column table.now) }
 {
+    if do_fit(sizes_at(table, upper), sizes) {
+        return Ok(true);
+    }
     for lower in lowers {
-        match combine(parts, column, table, upper, *lower) {
+        match measure(parts, column, table, upper, *lower) {
             Ok(_) => {}
             Err(LinError::Wide) => return Ok(false),
             Err(LinError::Memory) => return Err(AllocError),
@@ -192,9 +201,10 @@ fn are_all_narrow(
     ensures narrow { IfOk result (λ b. b ≡ true → AreNarrow column table.now) }
     ensures wide { IfOk result (λ b. b ≡ false → HasWide column table.now) }
 {
+    let sizes = sizes_of_all(table, lowers);
     for upper in 0..table.len() {
         if bounds_above(column, table.parts(upper))
-            && !are_narrow(parts, column, table, upper, lowers)?
+            && !are_narrow(parts, column, table, upper, lowers, sizes)?
         {
             return Ok(false);
         }

@@ -15,6 +15,7 @@ mod merge;
 mod narrow;
 mod pairing;
 mod search;
+mod slight;
 pub mod solve;
 pub mod solved;
 mod table;

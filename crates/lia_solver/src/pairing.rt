@@ -31,7 +31,13 @@ fn multiples(upper: u64, lower: u64) -> (i64, i64)
     ensures upper_bound { unsigned_abs result.0 ≤ 2 ^ 40 }
     ensures lower_bound { unsigned_abs result.1 ≤ 2 ^ 40 }
 {
+    if upper == lower {
+        return (1, 1);
+    }
     let divisor = common_divisor(upper, lower);
+    if divisor == 1 {
+        return (lower as i64, upper as i64);
+    }
     ((lower / divisor) as i64, (upper / divisor) as i64)
 }
 
@@ -139,6 +145,33 @@ pub fn is_least_narrow(column: u32, table: &Table, upper: usize, lower: usize) -
 {
     let (first, second) = multiples_of(column, table, upper, lower);
     sum_of(first, table.least(upper), second, table.least(lower)).is_some()
+}
+
+/// Measures the sum of an upper and a lower row of a column: the error says that it is too wide.
+pub fn measure(
+    out: &mut Vec<(u32, i128)>,
+    column: u32,
+    table: &Table,
+    upper: usize,
+    lower: usize,
+) -> Result<(), LinError>
+    requires { ArePaired column table.now upper lower }
+    ensures within { IfOk result (λ _. IsTrue
+        (is_within (pair_sum column (sum_at table.now upper, sum_at table.now lower)))) }
+    ensures wide { IsErrOf result LinError.Wide → ¬ IsTrue
+        (is_within (pair_sum column (sum_at table.now upper, sum_at table.now lower))) }
+{
+    let (first, second) = multiples_of(column, table, upper, lower);
+    let _sum = sum_into(
+        out,
+        first,
+        table.parts(upper),
+        table.constant(upper),
+        second,
+        table.parts(lower),
+        table.constant(lower),
+    )?;
+    Ok(())
 }
 
 /// The sum of an upper and a lower row of a column without the column, measured and then tightened.

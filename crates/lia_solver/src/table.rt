@@ -1,17 +1,22 @@
 //! Rows of which each list of coefficients stands once, with its greatest constant.
 
-ghost use Rattle.std.specs.Prelude.{◌≡◌, ◌<◌, ◌≤◌, ℕ, List, [], length, slice_index_or, replicate, IfOk, OnOk, MatchOption};
+ghost use Rattle.std.specs.Prelude.{◌≡◌, ◌<◌, ◌≤◌, ◌^◌, ℕ, ℤ, List, [], length, slice_index_or, replicate, IfOk, OnOk, MatchOption};
 ghost use Rattle.linear_formula.specs.steps.Order.{AllWithin};
 ghost use Rattle.lia_solver.specs.steps.Entries.{Entry, IsAdded};
-ghost use Rattle.lia_solver.specs.steps.Buckets.{sign_code, bucket_of};
-ghost use Rattle.lia_solver.specs.steps.Lines.{IsChained, parts_at, joined_line};
+ghost use Rattle.lia_solver.specs.steps.Buckets.{sign_code, hash_of, chain_of};
+ghost use Rattle.lia_solver.specs.steps.Lines.{IsChained, AreInPool, IsChainedAnew, parts_at, joined_line};
 
 use linear_formula::error::OutOfMemory;
-use std::alloc::Global;
+use std::alloc::{AllocError, Global};
 use std::marker::Model;
 
-/// How many chains the rows are in, by their coefficients: a prime, few enough to clear at once.
-const BUCKETS: usize = 233;
+/// How many chains the rows are in, by their coefficients: few enough to clear at once, and many
+/// from so many rows on.
+const FEW: usize = 64;
+
+const MANY: usize = 4096;
+
+const GROWN: usize = 256;
 
 /// How a row follows.
 #[derive(Clone, Copy, Debug)]
@@ -40,7 +45,9 @@ struct Line {
     least: i128,
     origin: Origin,
     /// One more than the place of the row before it in its chain, 0 where there is none.
-    before: usize,
+    before: u32,
+    /// Of the coefficients.
+    hash: u32,
 }
 
 /// Rows by their coefficients. With each of them the greatest constant stands, and the least one
@@ -50,7 +57,7 @@ pub struct Table {
     parts: Vec<(u32, i128)>,
     lines: Vec<Line>,
     /// One more than the place of the last row of each chain, 0 where there is none.
-    heads: [usize; BUCKETS],
+    heads: Vec<u32>,
 }
 
 impl Model for Table {
@@ -62,54 +69,84 @@ impl Model for Table {
 
     ghost view = { λ t. entries_of t.parts.items t.lines.items };
 
-    ghost invariant = { λ t. AreLines t.parts.items t.lines.items t.heads };
+    ghost invariant = { λ t. AreLines t.parts.items t.lines.items t.heads.items };
 }
 
-fn sign_code(coefficient: i128) -> usize
+fn sign_code(coefficient: i128) -> u64
     ensures code { result ≡ sign_code coefficient }
     ensures bound { result ≤ 131 }
 {
     if coefficient < 0 { 131 } else { 0 }
 }
 
-/// The chain of these coefficients.
-fn bucket_of(parts: &[(u32, i128)]) -> usize
+/// A number of these coefficients. Other ones have mostly another one.
+fn hash_of(parts: &[(u32, i128)]) -> u32
     requires { AllWithin parts.now }
-    ensures value { result ≡ bucket_of parts.now }
-    ensures bound { result < 233 }
+    ensures { result ≡ hash_of parts.now }
 {
-    let mut bucket: usize = 0;
+    let mut hash: u64 = 0;
     for (column, coefficient) in parts {
-        let size = coefficient.unsigned_abs() as usize;
-        let code = 101 * *column as usize + 7 * size + sign_code(*coefficient);
-        bucket = (37 * bucket + code) % BUCKETS;
+        let size = coefficient.unsigned_abs() as u64;
+        let code = 101 * u64::from(*column) + 7 * size + sign_code(*coefficient);
+        hash = (hash + code) % 4_294_967_296 * 2_654_435_761 % 4_294_967_296;
     }
-    bucket
+    hash as u32
 }
 
-/// The place of the row with these coefficients in its chain, of which `past` is the head.
-fn find(pool: &[(u32, i128)], lines: &[Line], past: usize, parts: &[(u32, i128)]) -> Option<usize>
-    requires { IsChained pool.now lines.now past parts.now }
+/// The chain of a number, by its leading bits.
+fn chain_of(hash: u32, chains: usize) -> usize
+    requires some { 0 < chains }
+    requires limit { chains ≤ 65536 }
+    ensures value { result ≡ chain_of chains hash }
+    ensures bound { result < chains }
+{
+    hash as usize * chains / 4_294_967_296
+}
+
+/// The place of the row with these coefficients in its chain, one of so many, of which `head` is
+/// the head.
+fn find(
+    pool: &[(u32, i128)],
+    lines: &[Line],
+    chains: usize,
+    head: u32,
+    hash: u32,
+    parts: &[(u32, i128)],
+) -> Option<usize>
+    requires chained { IsChained chains pool.now lines.now head parts.now }
+    requires hash { hash ≡ hash_of parts.now }
     ensures { MatchOption result
         ((i : ℕ) → i < length lines.now → parts_at pool.now lines.now i ≡ parts.now → ⊥)
         (λ i. (i < length lines.now) × (parts_at pool.now lines.now i ≡ parts.now)) }
 {
-    let mut past = past;
+    let _ = chains;
+    let mut past = head as usize;
     while past > 0 {
         let line = &lines[past - 1];
-        if &pool[line.start..line.end] == parts {
+        if line.hash == hash && &pool[line.start..line.end] == parts {
             return Some(past - 1);
         }
-        past = line.before;
+        past = line.before as usize;
     }
     None
 }
 
-/// Chains without rows.
-fn no_heads() -> [usize; BUCKETS]
-    ensures { result ≡ replicate 233 0 }
+/// Puts lines into chains that have no line yet.
+fn chain(lines: &mut [Line], heads: &mut [u32])
+    requires some { 0 < length heads.old }
+    requires limit { length heads.old ≤ 65536 }
+    requires numbers { length lines.old < 2 ^ 32 }
+    requires none { heads.old ≡ replicate (length heads.old) 0 }
+    ensures count { length heads.new ≡ length heads.old }
+    ensures chained { (pool : List (ℕ × ℤ)) → AreInPool pool lines.old →
+        IsChainedAnew pool lines.old lines.new heads.new }
 {
-    [0; BUCKETS]
+    for place in 0..lines.len() {
+        let line = &mut lines[place];
+        let chain = chain_of(line.hash, heads.len());
+        line.before = heads[chain];
+        heads[chain] = place as u32 + 1;
+    }
 }
 
 /// Joins one more row of its coefficients to the line: the stronger one of both stands.
@@ -129,7 +166,7 @@ impl Table {
     {
         let parts = Vec::with_capacity(alloc, parts)?;
         let lines = Vec::with_capacity(alloc, lines)?;
-        let heads = no_heads();
+        let heads = vec![in alloc; 0; FEW]?;
         Ok(Table {
             parts,
             lines,
@@ -146,7 +183,7 @@ impl Table {
         }
         self.parts.clear();
         self.lines.clear();
-        self.heads = no_heads();
+        self.heads.fill(0);
     }
 
     pub fn len(&self) -> usize
@@ -194,7 +231,22 @@ impl Table {
             (λ i. (i < length self.now)
             × ((e : Entry) → (slice_index_or self.now i e).sum.parts ≡ [])) }
     {
-        find(&self.parts, &self.lines, self.heads[0], &[])
+        let chains = self.heads.len();
+        let head = self.heads[chain_of(0, chains)];
+        find(&self.parts, &self.lines, chains, head, 0, &[])
+    }
+
+    /// Puts the rows into more chains.
+    fn grow(&mut self) -> Result<(), OutOfMemory>
+        ensures { self.new ≡ self.old }
+    {
+        if u32::try_from(self.lines.len()).is_err() {
+            return Err(AllocError);
+        }
+        self.heads.resize(MANY, 0)?;
+        self.heads.fill(0);
+        chain(&mut self.lines, &mut self.heads);
+        Ok(())
     }
 
     /// Adds a row.
@@ -208,14 +260,36 @@ impl Table {
         ensures { OnOk result (IsAdded (record { parts = parts.now; constant = constant }) origin
             self.old self.new) }
     {
-        let bucket = bucket_of(parts);
-        let before = self.heads[bucket];
-        match find(&self.parts, &self.lines, before, parts) {
+        if self.lines.len() >= GROWN && self.heads.len() < MANY {
+            self.grow()?;
+        }
+        self.put(parts, constant, origin)
+    }
+
+    /// Joins a row with the one of the same coefficients, or puts it behind the others.
+    fn put(
+        &mut self,
+        parts: &[(u32, i128)],
+        constant: i128,
+        origin: Origin,
+    ) -> Result<(), OutOfMemory>
+        requires { AllWithin parts.now }
+        ensures { OnOk result (IsAdded (record { parts = parts.now; constant = constant }) origin
+            self.old self.new) }
+    {
+        let hash = hash_of(parts);
+        let chains = self.heads.len();
+        let chain = chain_of(hash, chains);
+        let before = self.heads[chain];
+        match find(&self.parts, &self.lines, chains, before, hash, parts) {
             Some(place) => {
                 join(&mut self.lines[place], constant, origin);
                 Ok(())
             }
             None => {
+                let Ok(number) = u32::try_from(self.lines.len() + 1) else {
+                    return Err(AllocError);
+                };
                 let start = self.parts.len();
                 self.parts.extend_from_slice(parts)?;
                 let end = self.parts.len();
@@ -226,8 +300,9 @@ impl Table {
                     least: constant,
                     origin,
                     before,
+                    hash,
                 })?;
-                self.heads[bucket] = self.lines.len();
+                self.heads[chain] = number;
                 Ok(())
             }
         }

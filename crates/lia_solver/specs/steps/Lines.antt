@@ -4,7 +4,7 @@ use Rattle.std.specs.Int.{int_min}
 use Rattle.std.specs.List.{slice_range}
 use Rattle.lia_solver.specs.declared.table.Line.{Line}
 use Rattle.lia_solver.specs.declared.table.Origin.{Origin}
-use Rattle.lia_solver.specs.steps.Buckets.{bucket_of}
+use Rattle.lia_solver.specs.steps.Buckets.{hash_of, bucket_of}
 use Rattle.lia_solver.specs.steps.Entries.{Entry}
 
 abbrev pub parts_of_line : List (ℕ × ℤ) → Line → List (ℕ × ℤ)
@@ -22,33 +22,54 @@ entries_of pool lines =
 abbrev pub parts_at : List (ℕ × ℤ) → List Line → ℕ → List (ℕ × ℤ)
 parts_at pool lines i = slice_index_or (map (parts_of_line pool) lines) i []
 
-abbrev pub bucket_at : List (ℕ × ℤ) → List Line → ℕ → ℕ
-bucket_at pool lines i = bucket_of (parts_at pool lines i)
+-- the chain of the line at a place, of so many chains
+abbrev pub bucket_at : (chains : ℕ) → List (ℕ × ℤ) → List Line → ℕ → ℕ
+bucket_at chains pool lines i = bucket_of chains (parts_at pool lines i)
 
 -- one more than the last place below n of a line in the chain b, or 0
-pub record IsPast (pool : List (ℕ × ℤ)) (lines : List Line) (n b past : ℕ) : Type 0 where
-  pub limit : past ≤ n
-  pub none : (j : ℕ) → past ≤ j → j < n → bucket_at pool lines j ≡ b → ⊥
-  pub last : (j : ℕ) → past ≡ suc j → bucket_at pool lines j ≡ b
+pub record IsPast (chains : ℕ) (pool : List (ℕ × ℤ)) (lines : List Line) (n b past : ℕ) : Type 0
+  where
+    pub limit : past ≤ n
+    pub none : (j : ℕ) → past ≤ j → j < n → bucket_at chains pool lines j ≡ b → ⊥
+    pub last : (j : ℕ) → past ≡ suc j → bucket_at chains pool lines j ≡ b
 
--- the lines lie within the pool, and each knows the one before it in its chain
-pub record AreInChains (pool : List (ℕ × ℤ)) (lines : List Line) : Type 0 where
+-- the lines lie within the pool
+pub record AreInPool (pool : List (ℕ × ℤ)) (lines : List Line) : Type 0 where
   pub inside : (i : ℕ) (d : Line) → i < length lines → ((slice_index_or lines i d).start
       ≤ (slice_index_or lines i d).end)
       × ((slice_index_or lines i d).end ≤ length pool)
-  pub before : (i : ℕ) (d : Line) → i < length lines →
-      IsPast pool lines i (bucket_at pool lines i) (slice_index_or lines i d).before
+  pub hash : (i : ℕ) (d : Line) → i < length lines →
+      (slice_index_or lines i d).hash ≡ hash_of (parts_at pool lines i)
 
-pub record AreLines (pool : List (ℕ × ℤ)) (lines : List Line) (heads : List ℕ) : Type 0 where
-  pub chains : AreInChains pool lines
-  pub count : length heads ≡ 233
-  pub last : (b : ℕ) → b < 233 → IsPast pool lines (length lines) b (slice_index heads b)
+-- each of them knows the one before it in its chain
+pub record AreInChains (chains : ℕ) (pool : List (ℕ × ℤ)) (lines : List Line) : Type 0 where
+  pub lying : AreInPool pool lines
+  pub before : (i : ℕ) (d : Line) → i < length lines →
+      IsPast chains pool lines i (bucket_at chains pool lines i) (slice_index_or lines i d).before
+
+-- and each chain has its head
+pub record AreHeaded (chains : ℕ) (pool : List (ℕ × ℤ)) (lines : List Line) (heads : List ℕ) :
+    Type 0 where
+  pub chained : AreInChains chains pool lines
+  pub some : 0 < chains
+  pub limit : chains ≤ 65536
+  pub last : (b : ℕ) → b < chains →
+      IsPast chains pool lines (length lines) b (slice_index heads b)
+
+abbrev pub AreLines : List (ℕ × ℤ) → List Line → List ℕ → Type 0
+AreLines pool lines heads = AreHeaded (length heads) pool lines heads
+
+-- the lines are those that were there, in chains of their own
+pub record IsChainedAnew (pool : List (ℕ × ℤ)) (old new : List Line) (heads : List ℕ) : Type 0
+  where
+    pub lines : AreLines pool new heads
+    pub entries : entries_of pool new ≡ entries_of pool old
 
 -- the head of the chain of these coefficients
-pub record IsChained (pool : List (ℕ × ℤ)) (lines : List Line) (past : ℕ) (parts : List (ℕ × ℤ)) :
-    Type 0 where
-  pub chains : AreInChains pool lines
-  pub head : IsPast pool lines (length lines) (bucket_of parts) past
+pub record IsChained (chains : ℕ) (pool : List (ℕ × ℤ)) (lines : List Line) (past : ℕ)
+    (parts : List (ℕ × ℤ)) : Type 0 where
+  pub chained : AreInChains chains pool lines
+  pub head : IsPast chains pool lines (length lines) (bucket_of chains parts) past
 
 -- the line with one more row of its coefficients
 abbrev pub joined_line : Line → ℤ → Origin → Line

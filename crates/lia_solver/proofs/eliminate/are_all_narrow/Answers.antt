@@ -15,3 +15,6 @@ loop-upper-preserved c =
           c.loop-upper.invariant (λ l p. not-upper c.args.column c.args.table.now c.loop-upper.upper l (sym test ∙ w.if-bounds_above.false)
           p)
     ]
+
+pub sizes_of_all-sizes-requires-clause-places : goal.sizes_of_all-sizes-requires-clause-places
+sizes_of_all-sizes-requires-clause-places c = λ i k. (c.requires.lowers.right i k).0

@@ -1,9 +1,10 @@
 use Rattle.std.proofs.Common.{get_or, Err, ap}
+use Rattle.lia_solver.proofs.SmallRows.{fit-within}
 use Rattle.lia_solver.proofs.Summing.{listed-there, paired-of, narrow-more}
 use Rattle.lia_solver.proofs.eliminate.are_narrow.Goals as goal
 
-pub combine-requires : goal.combine-requires
-combine-requires c =
+pub measure-requires : goal.measure-requires
+measure-requires c =
     paired-of c.args.column c.args.table.now c.args.upper (get_or c.args.lowers.now c.loop-lower.lower-index 0) c.args.lowers.now
     c.requires.rows c.requires.upper c.requires.lowers (listed-there c.args.lowers.now c.loop-lower.lower-index 0 c.loop-lower-test.true)
 
@@ -22,3 +23,9 @@ pub loop-lower-preserved : goal.loop-lower-preserved
 loop-lower-preserved c =
     narrow-more c.args.column c.args.table.now c.args.upper c.args.lowers.now c.loop-lower.lower-index c.loop-lower-test.true
     c.loop-lower.invariant c.in-Ok.ensures.within
+
+pub returns-then-do_fit-clause-sums : goal.returns-then-do_fit-clause-sums
+returns-then-do_fit-clause-sums c = λ _ l k.
+    fit-within c.args.column c.args.table.now c.args.upper l c.sizes_at.result c.args.sizes
+    (paired-of c.args.column c.args.table.now c.args.upper l c.args.lowers.now c.requires.rows c.requires.upper c.requires.lowers k)
+    c.sizes_at.ensures.sized (c.requires.sized l k) (c.do_fit.ensures c.if-do_fit.true)

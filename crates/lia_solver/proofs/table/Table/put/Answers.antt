@@ -1,15 +1,15 @@
 use Rattle.std.proofs.Common.{◌≡◌, ◌<◌, ◌+◌, ◌∷◌, ◌++◌, [], List, ℕ, ℤ, length, get_or, set, to_z, of_z, FitsSigned, to_z-of_z, arith, rules, refl, sym, ap, subst, ◌∙◌}
 use Rattle.std.specs.Int.{w128}
-use Rattle.std.proofs.lemmas.List.{get_or_default, length-append}
+use Rattle.std.proofs.lemmas.List.{get_or_default}
 use Rattle.linear_formula.specs.LinearSum.{LinearSum}
 use Rattle.lia_solver.specs.declared.table.Line.{Line}
 use Rattle.lia_solver.specs.declared.table.Origin.{Origin}
-use Rattle.lia_solver.specs.steps.Buckets.{bucket_of}
+use Rattle.lia_solver.specs.steps.Buckets.{hash_of, chain_of}
 use Rattle.lia_solver.specs.steps.Entries.{IsAdded}
 use Rattle.lia_solver.specs.steps.Lines.{AreLines, entries_of, parts_at, joined_line}
-use Rattle.lia_solver.proofs.Chains.{no_line, lines-joined, lines-grown, lines-pushed, IsLastLine}
+use Rattle.lia_solver.proofs.Chains.{no_line, lines-joined, lines-grown, lines-added, IsLastLine}
 use Rattle.lia_solver.proofs.TableEntries.{added-joined, added-new}
-use Rattle.lia_solver.proofs.table.Table.add.Goals as goal
+use Rattle.lia_solver.proofs.table.Table.put.Goals as goal
 
 -- the line that is joined, as it stood
 joined-is : (lines : List Line) (place : ℕ) (line result : Line) (constant : ℤ) (o : Origin) → place < length lines →
@@ -26,9 +26,10 @@ invariant_of-self c =
     let h : c.in-Some.place < length lines = omega (arith, c.in-Some.ensures.0, ap (λ (ls : List Line). length ls) c.deref-2.ensures.value)
     in
     let f : FitsSigned w128 c.args.constant = search rules in
-    subst (λ (l : Line). AreLines pool (set lines c.in-Some.place l) c.self.inside.heads)
+    subst (λ (l : Line). AreLines pool (set lines c.in-Some.place l) c.self.inside.heads.items)
     (sym (joined-is lines c.in-Some.place c.index_mut.result.now c.join.new.line c.args.constant c.args.origin h c.index_mut.ensures.value f
-    c.join.ensures)) (lines-joined pool lines c.self.inside.heads c.in-Some.place c.args.constant c.args.origin c.self.invariant h)
+    c.join.ensures)) (lines-joined (length c.self.inside.heads.items) pool lines c.self.inside.heads.items c.in-Some.place c.args.constant
+    c.args.origin c.self.invariant h)
 
 pub returns-in-Some : goal.returns-in-Some
 returns-in-Some c =
@@ -46,72 +47,87 @@ returns-in-Some c =
 
 pub invariant_of-self-in_err-push-in-None : goal.invariant_of-self-in_err-push-in-None
 invariant_of-self-in_err-push-in-None c =
-    subst (λ (ps : List (ℕ × ℤ)). AreLines ps c.push.new.self.items c.self.inside.heads)
+    subst (λ (ps : List (ℕ × ℤ)). AreLines ps c.push.new.self.items c.self.inside.heads.items)
     (sym c.in_ok-extend_from_slice-in-None.ensures.items)
-    (subst (λ (ls : List Line). AreLines (c.self.inside.parts.items ++ c.args.parts.now) ls c.self.inside.heads)
+    (subst (λ (ls : List Line). AreLines (c.self.inside.parts.items ++ c.args.parts.now) ls c.self.inside.heads.items)
     (sym c.in_err-push-in-None.ensures.items)
-    (lines-grown c.self.inside.parts.items c.args.parts.now c.self.inside.lines.items c.self.inside.heads c.self.invariant))
+    (lines-grown (length c.self.inside.heads.items) c.self.inside.parts.items c.args.parts.now c.self.inside.lines.items
+    c.self.inside.heads.items c.self.invariant))
 
 -- the line that is pushed
-abbrev line_of : (start end before : ℕ) → ℤ → Origin → Line
-line_of start end before c o =
-    record { start = start; end = end; constant = c; least = c; origin = o; before = before }
+abbrev line_of : (start end before hash : ℕ) → ℤ → Origin → Line
+line_of start end before hash c o = record {
+  start = start;
+  end = end;
+  constant = c;
+  least = c;
+  origin = o;
+  before = before;
+  hash = hash;
+}
 
-pushed-line : (pool parts more : List (ℕ × ℤ)) (heads : List ℕ) (start end bucket : ℕ) (c : ℤ) (o : Origin) → start ≡ length pool →
-    end ≡ length more → more ≡ pool ++ parts → bucket ≡ bucket_of parts → IsLastLine pool parts heads
-    (line_of start end (get_or heads bucket 0) c o)
-pushed-line pool parts more heads start end bucket c o e f g b = record {
+pushed-line : (chains : ℕ) (pool parts more : List (ℕ × ℤ)) (heads : List ℕ) (start end chain hash before : ℕ) (c : ℤ) (o : Origin) →
+    start ≡ length pool → end ≡ length more → more ≡ pool ++ parts → hash ≡ hash_of parts → chain ≡ chain_of chains hash →
+    before ≡ get_or heads chain 0 → IsLastLine chains pool parts heads (line_of start end before hash c o)
+pushed-line chains pool parts more heads start end chain hash before c o e f g h b k = record {
   start = e;
   end = f ∙ ap (λ (ps : List (ℕ × ℤ)). length ps) g;
-  before = ap (λ (k : ℕ). get_or heads k 0) b;
+  before = k ∙ ap (λ (m : ℕ). get_or heads m 0) (b ∙ ap (chain_of chains) h);
+  hash = h;
 }
 
 pub invariant_of-self-in-None : goal.invariant_of-self-in-None
 invariant_of-self-in-None c =
     let pool = c.self.inside.parts.items in
     let lines = c.self.inside.lines.items in
-    let heads = c.self.inside.heads in
+    let heads = c.self.inside.heads.items in
     let parts = c.args.parts.now in
-    let bucket = c.bucket_of-bucket.result in
-    let l = line_of c.len-start.result c.len-end.result (get_or heads bucket 0) (to_z w128 (of_z w128 c.args.constant)) c.args.origin in
+    let hash = c.hash_of-hash.result in
+    let before = c.index-before.result.now in
+    let l = line_of c.len-start.result c.len-end.result before hash (to_z w128 (of_z w128 c.args.constant)) c.args.origin in
     let more : c.extend_from_slice.new.self.items ≡ pool ++ parts = c.in_ok-extend_from_slice-in-None.ensures.items in
     let items : c.push.new.self.items ≡ lines ++ l ∷ [] = c.in_ok-push-in-None.ensures.items in
-    let last = pushed-line pool parts c.extend_from_slice.new.self.items heads c.len-start.result c.len-end.result bucket
-    (to_z w128 (of_z w128 c.args.constant)) c.args.origin (c.len-start.ensures ∙ c.self.inside.parts.ok.0)
-    (c.len-end.ensures ∙ c.extend_from_slice.new.self.ok.0) more c.bucket_of-bucket.ensures.value in
-    let count : c.len.result ≡ length lines + 1 = omega (
-      arith,
-      c.len.ensures,
-      c.push.new.self.ok.0,
-      ap (λ (ls : List Line). length ls)
-          items,
-      length-append lines (l ∷ []),
-    ) in
-    subst (λ (ps : List (ℕ × ℤ)). AreLines ps c.push.new.self.items (set heads bucket c.len.result)) (sym more)
-    (subst (λ (ls : List Line). AreLines (pool ++ parts) ls (set heads bucket c.len.result)) (sym items)
-    (subst (λ (n : ℕ). AreLines (pool ++ parts) (lines ++ l ∷ []) (set heads bucket n)) (sym count)
-    (subst (λ (b : ℕ). AreLines (pool ++ parts) (lines ++ l ∷ []) (set heads b (length lines + 1))) (sym c.bucket_of-bucket.ensures.value)
-    (lines-pushed pool parts lines heads l c.self.invariant last))))
+    let chains : c.len-chains.result ≡ length heads = c.len-chains.ensures ∙ c.self.inside.heads.ok.0 in
+    let chain : c.chain_of-chain.result ≡ chain_of (length heads) hash = c.chain_of-chain.ensures.value
+    ∙ ap (λ (n : ℕ). chain_of n hash) chains in
+    let place : c.chain_of-chain.result < length heads = omega (arith, c.chain_of-chain.ensures.bound, chains) in
+    let head : before ≡ get_or heads c.chain_of-chain.result 0 = c.index-before.ensures ∙ get_or_default heads c.chain_of-chain.result
+    before 0 place in
+    let last = pushed-line (length heads) pool parts c.extend_from_slice.new.self.items heads c.len-start.result c.len-end.result
+    c.chain_of-chain.result hash before (to_z w128 (of_z w128 c.args.constant)) c.args.origin
+    (c.len-start.ensures ∙ c.self.inside.parts.ok.0) (c.len-end.ensures ∙ c.extend_from_slice.new.self.ok.0) more c.hash_of-hash.ensures
+    chain head in
+    let number : c.in-Ok.number ≡ length lines + 1 = omega (arith, c.in-Ok.ensures, c.len.ensures, c.self.inside.lines.ok.0) in
+    lines-added pool parts c.extend_from_slice.new.self.items lines c.push.new.self.items heads l c.chain_of-chain.result c.in-Ok.number
+    c.self.invariant last more items (chain ∙ ap (chain_of (length heads)) c.hash_of-hash.ensures) number
 
 pub returns-in_ok-push-in-None : goal.returns-in_ok-push-in-None
 returns-in_ok-push-in-None c =
     let pool = c.self.inside.parts.items in
     let lines = c.self.inside.lines.items in
-    let heads = c.self.inside.heads in
+    let heads = c.self.inside.heads.items in
     let parts = c.args.parts.now in
-    let bucket = c.bucket_of-bucket.result in
+    let hash = c.hash_of-hash.result in
+    let before = c.index-before.result.now in
     let f : FitsSigned w128 c.args.constant = search rules in
     let t : LinearSum = record { parts = parts; constant = c.args.constant } in
-    let l = line_of c.len-start.result c.len-end.result (get_or heads bucket 0) (to_z w128 (of_z w128 c.args.constant)) c.args.origin in
+    let l = line_of c.len-start.result c.len-end.result before hash (to_z w128 (of_z w128 c.args.constant)) c.args.origin in
     let more : c.extend_from_slice.new.self.items ≡ pool ++ parts = c.in_ok-extend_from_slice-in-None.ensures.items in
     let items : c.push.new.self.items ≡ lines ++ l ∷ [] = c.in_ok-push-in-None.ensures.items in
-    let last = pushed-line pool parts c.extend_from_slice.new.self.items heads c.len-start.result c.len-end.result bucket
-    (to_z w128 (of_z w128 c.args.constant)) c.args.origin (c.len-start.ensures ∙ c.self.inside.parts.ok.0)
-    (c.len-end.ensures ∙ c.extend_from_slice.new.self.ok.0) more c.bucket_of-bucket.ensures.value in
+    let chains : c.len-chains.result ≡ length heads = c.len-chains.ensures ∙ c.self.inside.heads.ok.0 in
+    let chain : c.chain_of-chain.result ≡ chain_of (length heads) hash = c.chain_of-chain.ensures.value
+    ∙ ap (λ (n : ℕ). chain_of n hash) chains in
+    let place : c.chain_of-chain.result < length heads = omega (arith, c.chain_of-chain.ensures.bound, chains) in
+    let head : before ≡ get_or heads c.chain_of-chain.result 0 = c.index-before.ensures ∙ get_or_default heads c.chain_of-chain.result
+    before 0 place in
+    let last = pushed-line (length heads) pool parts c.extend_from_slice.new.self.items heads c.len-start.result c.len-end.result
+    c.chain_of-chain.result hash before (to_z w128 (of_z w128 c.args.constant)) c.args.origin
+    (c.len-start.ensures ∙ c.self.inside.parts.ok.0) (c.len-end.ensures ∙ c.extend_from_slice.new.self.ok.0) more c.hash_of-hash.ensures
+    chain head in
     let other : (i : ℕ) → i < length lines → parts_at pool lines i ≡ parts → ⊥ =
     λ i k e. c.in-None.ensures i (subst (λ (ls : List Line). i < length ls) (sym c.deref-2.ensures.value) k)
     (ap (λ ls. parts_at c.deref.result.now ls i) c.deref-2.ensures.value ∙ ap (λ ps. parts_at ps lines i) c.deref.ensures.value ∙ e) in
     subst (λ (ps : List (ℕ × ℤ)). IsAdded t c.args.origin c.args.self.now (entries_of ps c.push.new.self.items)) (sym more)
     (subst (λ (ls : List Line). IsAdded t c.args.origin c.args.self.now (entries_of (pool ++ parts) ls)) (sym items)
-    (added-new pool lines heads c.args.self.now t c.args.origin l c.self.view_is c.self.invariant.chains other last (to_z-of_z f)
-    (to_z-of_z f) refl))
+    (added-new (length heads) pool lines heads c.args.self.now t c.args.origin l c.self.view_is c.self.invariant.chained.lying other last
+    (to_z-of_z f) (to_z-of_z f) refl))
