@@ -12,6 +12,7 @@ use bolt_core::board::Board;
 use bolt_core::job::{Gone, Job, Parked, Taken};
 use bolt_rounds::moves::{Move, Worked, hand_in, spare_of, work_on};
 use linear_formula::error::OutOfMemory;
+use punch_step::memo::Memos;
 use query_rules::step::Closing;
 use std::alloc::Global;
 use std::sync::Arc;
@@ -61,6 +62,7 @@ pub struct Play {
     pub board: Board,
     pub asserts: u32,
     pub known: Table,
+    pub memos: Memos,
     pub jobs: Vec<Option<Worked>>,
 }
 
@@ -82,6 +84,7 @@ fn how_of(next: &Move) -> How {
 /// Makes the slice of a job that was just taken.
 fn worked_of(
     alloc: Global,
+    memos: &mut Memos,
     board: &Board,
     known: &Table,
     job: Job,
@@ -97,7 +100,7 @@ fn worked_of(
         return Err(Fail::new("no step"));
     }
     board.reached();
-    Ok(work_on(alloc, board.graphs(), known, job, at_most)?)
+    Ok(work_on(alloc, memos, board.graphs(), known, job, at_most)?)
 }
 
 /// What may be published of a job whose slice was made, if it is gone.
@@ -130,11 +133,13 @@ impl Play {
     {
         let (board, asserts) = board_of(alloc, text, budget)?;
         let known = Table::with_room(alloc, board.room())?;
+        let memos = Memos::new(alloc)?;
         let jobs = vec![in alloc; None, None, None, None]?;
         Ok(Play {
             board,
             asserts,
             known,
+            memos,
             jobs,
         })
     }
@@ -195,7 +200,14 @@ impl Play {
             Taken::Idle => Ok(Took::Idle),
             Taken::Job(job) => {
                 let left = job.left;
-                let worked = worked_of(alloc, &self.board, &self.known, job, at_most)?;
+                let worked = worked_of(
+                    alloc,
+                    &mut self.memos,
+                    &self.board,
+                    &self.known,
+                    job,
+                    at_most,
+                )?;
                 let took = Took::Job {
                     id: worked.job.id,
                     left,

@@ -13,6 +13,7 @@ use crate::moves::{fetch, hand_in, work_on};
 use bolt_core::board::Board;
 use bolt_core::job::{Job, Taken};
 use linear_formula::error::OutOfMemory;
+use punch_step::memo::Memos;
 use std::alloc::Global;
 use summary_table::table::Table;
 
@@ -21,7 +22,13 @@ const WORKER: u32 = 0;
 
 /// Makes the slice of a job that was just taken, and gives it back. Nobody else works at the board,
 /// so it isn't gone.
-fn do_job(alloc: Global, board: &mut Board, known: &Table, job: Job) -> Result<(), OutOfMemory>
+fn do_job(
+    alloc: Global,
+    memos: &mut Memos,
+    board: &mut Board,
+    known: &Table,
+    job: Job,
+) -> Result<(), OutOfMemory>
     ghost shown: { Shown }
     requires shown { board.old ≡ shown }
     requires known { known.now.summaries ≡ board.old.core.table }
@@ -31,7 +38,7 @@ fn do_job(alloc: Global, board: &mut Board, known: &Table, job: Job) -> Result<(
     ensures back { OnOk result (GivesBack board.old job.id board.new) }
 {
     board.reached();
-    let worked = work_on(alloc, board.graphs(), known, job, u32::MAX)?;
+    let worked = work_on(alloc, memos, board.graphs(), known, job, u32::MAX)?;
     let Ok(()) = hand_in(board, WORKER, worked) else {
         unreachable!();
     };
@@ -40,7 +47,12 @@ fn do_job(alloc: Global, board: &mut Board, known: &Table, job: Job) -> Result<(
 
 /// Takes a query, makes its slice and gives it back: two events. Whether there was one; else the
 /// board is over.
-fn turn(alloc: Global, board: &mut Board, known: &mut Table) -> Result<bool, OutOfMemory>
+fn turn(
+    alloc: Global,
+    memos: &mut Memos,
+    board: &mut Board,
+    known: &mut Table,
+) -> Result<bool, OutOfMemory>
     requires back { AreBack board.old.core }
     requires going { board.old.core.is_stopped ≡ false }
     requires room { known.old.room ≡ most_queries board.old }
@@ -54,7 +66,7 @@ fn turn(alloc: Global, board: &mut Board, known: &mut Table) -> Result<bool, Out
         Taken::Over => Ok(false),
         Taken::Idle => unreachable!(),
         Taken::Job(job) => {
-            do_job(alloc, board, known, job)?;
+            do_job(alloc, memos, board, known, job)?;
             Ok(true)
         }
     }
@@ -70,8 +82,9 @@ pub fn alone(alloc: Global, mut board: Board) -> Result<Board, OutOfMemory>
 {
     board.reached();
     let mut known = Table::with_room(alloc, board.room())?;
+    let mut memos = Memos::new(alloc)?;
     loop {
-        match turn(alloc, &mut board, &mut known) {
+        match turn(alloc, &mut memos, &mut board, &mut known) {
             Ok(true) => {}
             Ok(false) => return Ok(board),
             Err(error) => {

@@ -11,6 +11,7 @@ use bolt_core::board::Board;
 use bolt_core::job::{Gone, Job, Taken};
 use flow_graph::graphs::Graphs;
 use linear_formula::error::OutOfMemory;
+use punch_step::memo::Memos;
 use punch_step::slice::{SliceEnd, Sliced, slice};
 use query_rules::state::{QueryState, begin_state};
 use query_rules::step::Closing;
@@ -139,6 +140,7 @@ fn move_of(
 /// Makes a slice of a job that was just taken of some board, of at most so many steps.
 fn worked_by(
     alloc: Global,
+    memos: &mut Memos,
     graphs: &Graphs,
     known: &Table,
     job: Job,
@@ -157,7 +159,7 @@ fn worked_by(
         mut state,
         ..
     } = job;
-    let Sliced { steps, end } = slice(alloc, &mut state, graphs, known, left, at_most)?;
+    let Sliced { steps, end } = slice(alloc, memos, &mut state, graphs, known, left, at_most)?;
     let next = move_of(alloc, graphs, &state, end)?;
     let job = Job {
         id,
@@ -174,6 +176,7 @@ fn worked_by(
 /// memory.
 pub fn work_on(
     alloc: Global,
+    memos: &mut Memos,
     graphs: &Graphs,
     known: &Table,
     job: Job,
@@ -188,7 +191,7 @@ pub fn work_on(
     ensures same { IfOk result (λ w. (w.job.id ≡ job.id) × (w.job.taken ≡ job.taken)) }
     ensures may { IfOk result (λ w. MayMove board w.job w.next) }
 {
-    worked_by(alloc, graphs, known, job, at_most)
+    worked_by(alloc, memos, graphs, known, job, at_most)
 }
 
 /// Gives the job back to the board: one event, or none where the job is gone.
@@ -242,11 +245,17 @@ pub fn spare_of(worked: &Worked) -> Result<Option<Arc<Summary>>, OutOfMemory>
 
 /// Makes a slice of a job that was just taken of some board, as `work_on` and `spare_of` do. It is
 /// for callers who have no board at hand.
-pub fn make(alloc: Global, graphs: &Graphs, known: &Table, job: Job) -> Result<Made, OutOfMemory>
+pub fn make(
+    alloc: Global,
+    memos: &mut Memos,
+    graphs: &Graphs,
+    known: &Table,
+    job: Job,
+) -> Result<Made, OutOfMemory>
     requires { WasJustTaken graphs.now.graphs known.now.summaries job }
     ensures { IfOk result (IsMade graphs.now.graphs known.now.summaries job) }
 {
-    let worked = worked_by(alloc, graphs, known, job, u32::MAX)?;
+    let worked = worked_by(alloc, memos, graphs, known, job, u32::MAX)?;
     let spare = spare_by(&worked)?;
     Ok(Made { worked, spare })
 }

@@ -7,17 +7,18 @@ ghost use Rattle.board_lock.specs.Views.{StartsWith};
 ghost use Rattle.bolt_core.specs.Boards.{SameProgram, Stops};
 ghost use Rattle.bolt_core.specs.Machine.{is_over};
 ghost use Rattle.bolt_core.specs.States.{reads};
-ghost use Rattle.bolt_rounds.specs.Moves.{MayBeShown};
+ghost use Rattle.bolt_rounds.specs.Moves.{IsMade, MayBeShown, WasJustTaken};
 ghost use Rattle.bolt_rounds.specs.steps.Places.{AreMade, HasGiven, HasTaken, IsAtRest, IsRoundOf, IsToGive, MayBeMade, MayGive, MayHaveSaid, WasMade};
 
 use crate::apart::each_apart;
 use crate::crew::{Calls, Crew, Place, Stage};
 use crate::moves::{Made, fetch, hand_in, make};
 use bolt_core::board::Board;
-use bolt_core::job::{Gone, Taken};
+use bolt_core::job::{Gone, Job, Taken};
 use flow_graph::graphs::Graphs;
 use linear_formula::error::OutOfMemory;
 use outer_io::Gate;
+use punch_step::memo::Memos;
 use std::alloc::{AllocError, Global};
 use std::mem;
 use std::sync::Arc;
@@ -75,6 +76,15 @@ fn take_all<G: Gate>(
     Ok(())
 }
 
+/// Makes the slice of a job, with memos of its own.
+fn made_of(alloc: Global, graphs: &Graphs, known: &Table, job: Job) -> Result<Made, OutOfMemory>
+    requires { WasJustTaken graphs.now.graphs known.now.summaries job }
+    ensures { IfOk result (IsMade graphs.now.graphs known.now.summaries job) }
+{
+    let mut memos = Memos::new(alloc)?;
+    make(alloc, &mut memos, graphs, known, job)
+}
+
 /// Makes the slice of a job, on the worker's thread.
 fn slice_one<G: Gate>(alloc: Global, graphs: &Graphs, known: &Table, gate: &G, place: &mut Place)
     requires { MayBeMade graphs.now.graphs known.now.summaries place.old.stage }
@@ -84,7 +94,7 @@ fn slice_one<G: Gate>(alloc: Global, graphs: &Graphs, known: &Table, gate: &G, p
     let Stage::Taken(job) = mem::replace(&mut place.stage, Stage::Failed) else {
         unreachable!();
     };
-    if let Ok(made) = make(alloc, graphs, known, job) {
+    if let Ok(made) = made_of(alloc, graphs, known, job) {
         place.stage = Stage::Made(made);
     }
 }

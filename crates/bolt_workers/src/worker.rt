@@ -14,6 +14,7 @@ use bolt_rounds::moves::{Made, Worked, hand_in, make};
 use crossbeam_utils::sync::Unparker;
 use linear_formula::error::OutOfMemory;
 use outer_io::Gate;
+use punch_step::memo::Memos;
 use std::alloc::Global;
 use std::sync::{Arc, Wait};
 use summary_form::summary::Summary;
@@ -205,6 +206,7 @@ fn give<R: Wait, G: Gate>(
 fn do_job<R: Wait, G: Gate>(
     rt: &R,
     alloc: Global,
+    memos: &mut Memos,
     lock: &BoardLock<Board>,
     desk: &mut Desk,
     job: Job,
@@ -220,7 +222,7 @@ fn do_job<R: Wait, G: Gate>(
     ensures back { OnOk result (IsBack desk.new job) }
     ensures ended { IfErr result (λ _. HasEnded desk.new) }
 {
-    match make(alloc, &desk.graphs, &desk.known, job) {
+    match make(alloc, memos, &desk.graphs, &desk.known, job) {
         Ok(made) => {
             give(rt, lock, desk, made, all, gate);
             Ok(())
@@ -233,9 +235,10 @@ fn do_job<R: Wait, G: Gate>(
 }
 
 /// Works until the board is over or stopped.
-pub(crate) fn run_worker<R: Wait, G: Gate>(
+fn work_with<R: Wait, G: Gate>(
     rt: &R,
     alloc: Global,
+    memos: &mut Memos,
     lock: &BoardLock<Board>,
     desk: &mut Desk,
     all: &[Unparker],
@@ -250,7 +253,7 @@ pub(crate) fn run_worker<R: Wait, G: Gate>(
     for _ in rt.forever() {
         match take_once(rt, lock, desk, all, gate) {
             Ok(Taken::Job(job)) => {
-                if do_job(rt, alloc, lock, desk, job, all, gate).is_err() {
+                if do_job(rt, alloc, memos, lock, desk, job, all, gate).is_err() {
                     return;
                 }
             }
@@ -260,4 +263,26 @@ pub(crate) fn run_worker<R: Wait, G: Gate>(
         }
     }
     unreachable!()
+}
+
+/// Works until the board is over or stopped, and remembers what its slices asked. Where there is no
+/// memory for that, the board is stopped.
+pub(crate) fn run_worker<R: Wait, G: Gate>(
+    rt: &R,
+    alloc: Global,
+    lock: &BoardLock<Board>,
+    desk: &mut Desk,
+    all: &[Unparker],
+    gate: &G,
+)
+    requires lock { desk.old.seat.lock ≡ lock.now }
+    requires sits { Sits desk.old }
+    ensures lock { desk.new.seat.lock ≡ desk.old.seat.lock }
+    ensures program { desk.new.seat.view.program ≡ desk.old.seat.view.program }
+    ensures ended { HasEnded desk.new }
+{
+    match Memos::new(alloc) {
+        Ok(mut memos) => work_with(rt, alloc, &mut memos, lock, desk, all, gate),
+        Err(_) => stop_once(rt, lock, desk, all, gate),
+    }
 }

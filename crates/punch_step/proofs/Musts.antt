@@ -4,7 +4,6 @@ use Rattle.std.specs.Prelude.{Contains, IsTrue, slice_get}
 use Rattle.std.specs.List.{list_all}
 use Rattle.std.specs.Option.{option_or}
 use Rattle.std.proofs.lemmas.Option.{slice_get_within}
-use Rattle.infeasible_cert.specs.Refutation.{refutation_of}
 use Rattle.infeasible_cert.specs.declared.certificate.Certificate.{Certificate}
 use Rattle.linear_formula.specs.LinearSum.{LinearSum, valuation}
 use Rattle.linear_formula.specs.declared.assignment.Assignment.{Assignment}
@@ -33,7 +32,7 @@ use Rattle.call_bridge.specs.Musts.{NamesNumbers, must_preimage, must_sums, plai
 use Rattle.query_rules.proofs.AppliedSteps.{front_fits}
 use Rattle.query_rules.specs.Questions.{IsMarkQuestion, IsTrailQuestion, sum_question}
 use Rattle.query_rules.specs.Rows.{IsRefutedBy, seen_at}
-use Rattle.punch_step.proofs.Deciding.{contains_earlier, contains_later, contains_wide, refuted_copy, wide_behind}
+use Rattle.punch_step.proofs.Deciding.{contains_earlier, contains_later, contains_wide, wide_behind}
 use Rattle.punch_step.proofs.Plainly.{met_not_never, none_refused, refused_elimination, refused_first, same_pre}
 use Rattle.punch_step.specs.ByMusts.{ComesUnshown, IsAskedOf, IsByTable, IsLedWell, IsLimitedBy, IsMustOf, IsPreBy, IsSaid, IsUnshown, NeitherBy, Parts, PartsNot, PartsUnshown, ServesNeither, UnshownBy, marking, led_sums, of_elimination, of_mark, of_negation, of_pre_sum, of_source, of_trail}
 use Rattle.punch_step.specs.Frontiers.{IfUnnegatable, IsPossible, first_of}
@@ -102,10 +101,9 @@ module _ (q : Query) (t : Trace) (source pre rows : List Atom) (is : rows ≡ so
       IsRead t (source ++ pre) × IsNever (seen_at q t (source ++ pre))
   unseen certificate d = subst (λ (xs : List Atom). IsRead t xs × IsNever (seen_at q t xs)) is (d.0, d.1)
 
-  pub refuted_seen : (certificate : Bor Certificate) (copy : Certificate) → refutation_of copy ≡ refutation_of certificate.now →
-      IsSight q t rows (sight.Never certificate) → IsRefutedBy (seen_at q t (source ++ pre)) copy
-  refuted_seen certificate copy same d =
-      subst (λ (xs : List Atom). IsRefutedBy (seen_at q t xs) copy) is (refuted_copy (seen_at q t rows) certificate.now copy same d.2)
+  pub refuted_seen : (certificate : Bor Certificate) → IsSight q t rows (sight.Never certificate) →
+      IsRefutedBy (seen_at q t (source ++ pre)) certificate.now
+  refuted_seen certificate d = subst (λ (xs : List Atom). IsRefutedBy (seen_at q t xs) certificate.now) is d.2
 
   pub met_seen : (at : Bor (List (ℕ × ℤ))) → IsSight q t rows (sight.Met at) → IsWhole q t source pre
   met_seen at d = inr (inr (subst (λ (xs : List Atom). IsRead t xs × IsMet (seen_at q t xs)) is (d.0, d.1)))

@@ -1,10 +1,20 @@
--- What is known of questions.
+-- What is known of questions and of preimages.
 use Rattle.std.specs.Prelude.{◌≡◌, List, Option, Some}
 use Rattle.linear_formula.specs.declared.formula.Atom.{Atom}
 use Rattle.linear_formula.specs.declared.formula.Cube.{Cube}
+use Rattle.shadow_elim.specs.Projection.{refuses}
+use Rattle.shadow_elim.specs.RightLimit.{IsRight}
+use Rattle.shadow_elim.specs.declared.limit.Kept.{Kept}
+use Rattle.flow_graph.specs.declared.graph.Edge.{Edge}
+use Rattle.summary_form.specs.declared.path.Path.{Path}
+use Rattle.call_bridge.specs.Calls.{arguments, result_slot}
+use Rattle.call_bridge.specs.Musts.{must_preimage}
+use Rattle.query_rules.specs.Rows.{IsMustPreimage}
 use Rattle.punch_step.specs.Sights.{IsMetAt, IsNeverBy}
 use Rattle.punch_step.specs.declared.memo.Answer.{Answer}
 use Rattle.punch_step.specs.declared.memo.Answer.TheVariants as answer
+use Rattle.punch_step.specs.declared.preimages.Preimage.{Preimage}
+use Rattle.punch_step.specs.declared.preimages.Preimage.TheVariants as preimage
 
 -- the answer is right of the rows, and what the plan decides
 abbrev pub IsAnswered : List Atom → Answer → Type 0
@@ -14,3 +24,21 @@ IsAnswered rows (answer.Never certificate) = IsNeverBy rows certificate
 -- a slot knows an answer of these rows
 abbrev pub Knows : Option (Cube × Answer) → Cube → Type 0
 Knows slot rows = (a : Answer) × (slot ≡ Some (rows, a))
+
+-- musts that differ in nothing that a preimage reads
+pub record AreAlike (a b : Path) : Type 0 where
+  pub exit : a.exit ≡ b.exit
+  pub guard : a.guard ≡ b.guard
+  pub entry : a.entry ≡ b.entry
+  pub outcome : a.outcome ≡ b.outcome
+
+-- there is no preimage of the target over the call by the must, at this limit
+abbrev pub IsRefused : Path → Edge → List Atom → Kept → Type 0
+IsRefused must call target kept =
+    IsRight kept × (must_preimage must (arguments call) (result_slot call) target ≡ refuses kept)
+
+-- the preimage of the target over the call by the must
+abbrev pub IsPreimage : Path → Edge → List Atom → Preimage → Type 0
+IsPreimage must call target (preimage.Rows rows) =
+    IsMustPreimage must (arguments call) (result_slot call) target rows.now.atoms
+IsPreimage must call target (preimage.Limit kept) = IsRefused must call target kept

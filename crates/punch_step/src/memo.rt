@@ -4,6 +4,7 @@ ghost use Rattle.std.specs.Prelude.{◌≡◌, ◌<◌, length, IsTrue};
 ghost use Rattle.punch_step.specs.Memos.{IsAnswered, Knows};
 ghost use Rattle.punch_step.specs.declared.memo.TheConstants.{SLOTS};
 
+use crate::preimages::Preimages;
 use infeasible_cert::certificate::Certificate;
 use linear_formula::assignment::Assignment;
 use linear_formula::error::OutOfMemory;
@@ -12,8 +13,8 @@ use linear_formula::term::Term;
 use std::alloc::Global;
 use std::marker::Model;
 
-/// How many slots a memo has: a power of two.
-pub const SLOTS: usize = 1 << 8;
+/// How many slots there are for questions, and for preimages: a power of two.
+pub const SLOTS: usize = 1 << 12;
 
 /// An odd number whose bits are spread (2 to the 64th, divided by the golden ratio).
 const SPREAD: u64 = 0x9e37_79b9_7f4a_7c15;
@@ -60,7 +61,7 @@ pub struct Memo {
 }
 
 /// Mixes a number into a hash.
-fn mixed(hash: u64, number: u64) -> u64 {
+pub(crate) fn mixed(hash: u64, number: u64) -> u64 {
     (hash.rotate_left(5) ^ number).wrapping_mul(SPREAD)
 }
 
@@ -79,15 +80,29 @@ fn mixed_term(hash: u64, term: &Term) -> u64 {
     hash
 }
 
-/// The place of the rows' slot, by a hash of all constants, columns and coefficients.
-fn place_of(rows: &Cube) -> usize
-    ensures { result < SLOTS }
-{
-    let mut hash = 0;
+/// Mixes the terms into a hash.
+pub(crate) fn mixed_terms(hash: u64, terms: &[Term]) -> u64 {
+    let mut hash = hash;
+    for term in terms {
+        hash = mixed_term(hash, term);
+    }
+    hash
+}
+
+/// Mixes all constants, columns and coefficients of the rows into a hash.
+pub(crate) fn mixed_rows(hash: u64, rows: &Cube) -> u64 {
+    let mut hash = hash;
     for atom in rows.atoms.as_slice() {
         hash = mixed_term(hash, &atom.term);
     }
-    (hash >> 56) as usize
+    hash
+}
+
+/// The place of the slot, by a hash.
+pub(crate) fn place_by(hash: u64) -> usize
+    ensures { result < SLOTS }
+{
+    (hash >> 52) as usize
 }
 
 impl Known {
@@ -129,7 +144,26 @@ impl Memo {
 
     /// The slot of these rows.
     pub(crate) fn slot(&mut self, rows: &Cube) -> &mut Option<Known> {
-        let place = place_of(rows);
+        let place = place_by(mixed_rows(0, rows));
         &mut self.slots[place]
+    }
+}
+
+/// What is remembered of questions and of preimages.
+#[derive(Drop)]
+pub struct Memos {
+    pub questions: Memo,
+    pub preimages: Preimages,
+}
+
+impl Memos {
+    /// Nothing is known.
+    pub fn new(alloc: Global) -> Result<Memos, OutOfMemory> {
+        let questions = Memo::new(alloc)?;
+        let preimages = Preimages::new(alloc)?;
+        Ok(Memos {
+            questions,
+            preimages,
+        })
     }
 }

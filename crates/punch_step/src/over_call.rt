@@ -13,7 +13,7 @@ ghost use Rattle.punch_step.specs.steps.Serving.{IfInexact, IfUnkilled, IsRepeat
 
 use crate::by_must::{ByTable, Calling, by_table, is_of, number_of};
 use crate::entailing::{Holder, level_of, not_may_of};
-use crate::memo::Memo;
+use crate::memo::Memos;
 use call_bridge::asking::{Asking, ask_of};
 use call_bridge::error::BridgeError;
 use call_bridge::inexact::{inexact_asking, inexact_preimage};
@@ -345,7 +345,7 @@ fn behind_musts(
 /// What the musts of the table say, from this place on.
 fn by_musts_from(
     alloc: Global,
-    memo: &mut Memo,
+    memos: &mut Memos,
     frontier: &CallFrontier,
     from: usize,
 ) -> Result<Served, OutOfMemory>
@@ -353,7 +353,7 @@ fn by_musts_from(
     requires from { from ≤ length frontier.now.table.now }
     ensures { IfOk result (AreServedFrom frontier.now from) }
 {
-    match by_table(alloc, memo, &frontier.calling, &frontier.table[from..])? {
+    match by_table(alloc, memos, &frontier.calling, &frontier.table[from..])? {
         ByTable::Comes { place, point } => Ok(Served::By(Step::CallExtend {
             edge: frontier.at,
             trail: frontier.trail,
@@ -381,7 +381,7 @@ fn by_musts_from(
 /// The step by the musts of the table, or what follows.
 fn by_musts(
     alloc: Global,
-    memo: &mut Memo,
+    memos: &mut Memos,
     frontier: &CallFrontier,
     told: Option<Told>,
 ) -> Result<Step, OutOfMemory>
@@ -389,7 +389,7 @@ fn by_musts(
     requires told { IfUnkilled frontier.now told }
     ensures { IfOk result (IsCallStep frontier.now) }
 {
-    match by_musts_from(alloc, memo, frontier, 0)? {
+    match by_musts_from(alloc, memos, frontier, 0)? {
         Served::By(step) => Ok(step),
         Served::Not => behind_musts(alloc, frontier, told, None),
         Served::Limit(kept) => behind_musts(alloc, frontier, told, Some(kept)),
@@ -430,7 +430,7 @@ fn asked_again(
 /// this place on, and else by what is told of the child.
 fn by_asked(
     alloc: Global,
-    memo: &mut Memo,
+    memos: &mut Memos,
     frontier: &CallFrontier,
     told: Told,
     newer: usize,
@@ -441,7 +441,7 @@ fn by_asked(
     ensures { IfOk result (IsCallStep frontier.now) }
 {
     let Some(query) = asked_again(alloc, frontier, told)? else {
-        return by_musts(alloc, memo, frontier, Some(told));
+        return by_musts(alloc, memos, frontier, Some(told));
     };
     match not_may_of(alloc, &query, &frontier.table[newer..])? {
         Holder::At { place, proofs } => Ok(Step::Kill {
@@ -458,7 +458,7 @@ fn by_asked(
 /// The step where the summaries before this place were asked before: first by the newer ones.
 fn by_newer(
     alloc: Global,
-    memo: &mut Memo,
+    memos: &mut Memos,
     frontier: &CallFrontier,
     told: Option<Told>,
     newer: usize,
@@ -468,10 +468,10 @@ fn by_newer(
     requires newer { newer ≤ length frontier.now.table.now }
     ensures { IfOk result (IsCallStep frontier.now) }
 {
-    match (by_musts_from(alloc, memo, frontier, newer)?, told) {
+    match (by_musts_from(alloc, memos, frontier, newer)?, told) {
         (Served::By(step), _) => Ok(step),
-        (_, Some(told)) => by_asked(alloc, memo, frontier, told, newer),
-        (_, None) => by_musts(alloc, memo, frontier, None),
+        (_, Some(told)) => by_asked(alloc, memos, frontier, told, newer),
+        (_, None) => by_musts(alloc, memos, frontier, None),
     }
 }
 
@@ -483,7 +483,7 @@ fn by_newer(
 /// the child still answers what the call asks, it comes before those that the Ask saw.
 pub fn step_over_call(
     alloc: Global,
-    memo: &mut Memo,
+    memos: &mut Memos,
     frontier: &CallFrontier,
 ) -> Result<Step, OutOfMemory>
     requires { CanStepHere frontier.now }
@@ -500,8 +500,8 @@ pub fn step_over_call(
             by: Killer::Child { asked },
         }),
         told => match frontier.newer.min(frontier.table.len()) {
-            0 => by_musts(alloc, memo, frontier, told),
-            newer => by_newer(alloc, memo, frontier, told, newer),
+            0 => by_musts(alloc, memos, frontier, told),
+            newer => by_newer(alloc, memos, frontier, told, newer),
         },
     }
 }

@@ -111,6 +111,9 @@ fn set_of(alloc: Global, edges: &[RegionEdge]) -> Result<EdgeSet, OutOfMemory>
 fn among(alloc: Global, edges: &[RegionEdge], some: &[RegionEdge]) -> Result<Vec<bool>, OutOfMemory>
     ensures { IfOk result (λ v. v.items ≡ map (is_live some.now) edges.now) }
 {
+    if some.is_empty() {
+        return no_edges(alloc, edges);
+    }
     let set = set_of(alloc, some)?;
     edges.iter().map(|edge| set.has(edge)).collect(alloc)
 }

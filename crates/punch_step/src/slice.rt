@@ -10,7 +10,7 @@ ghost use Rattle.punch_step.specs.Sliced.{HasSliced, HasStepped};
 ghost use Rattle.punch_step.specs.Slices.{end_of};
 
 use crate::at_turn::step_from;
-use crate::memo::Memo;
+use crate::memo::Memos;
 use crate::outlook::{Outlook, look_ahead};
 use flow_graph::graph::Graph;
 use flow_graph::graphs::Graphs;
@@ -60,7 +60,7 @@ fn end_of(step: &Step) -> Option<SliceEnd>
 /// Makes the step at the frontier, and says the end that it makes, if it makes one.
 fn advance(
     alloc: Global,
-    memo: &mut Memo,
+    memos: &mut Memos,
     state: &mut QueryState,
     graphs: &Graphs,
     graph: &Graph,
@@ -76,7 +76,7 @@ fn advance(
         IsTurn graph.now m at →
         HasStepped graphs.now.graphs graph.now (map (λ s. s.value) table.now) m state.new end) }
 {
-    let step = step_from(alloc, memo, state, graph, table, at)?;
+    let step = step_from(alloc, memos, state, graph, table, at)?;
     let end = end_of(&step);
     state.apply(alloc, step, graphs, table)?;
     Ok(end)
@@ -85,7 +85,7 @@ fn advance(
 /// Makes legal steps on the graph of the state's query.
 fn slice_on(
     alloc: Global,
-    memo: &mut Memo,
+    memos: &mut Memos,
     state: &mut QueryState,
     graphs: &Graphs,
     graph: &Graph,
@@ -126,7 +126,7 @@ fn slice_on(
                     let end = SliceEnd::Goes;
                     return Ok(Sliced { steps, end });
                 }
-                let made = advance(alloc, memo, state, graphs, graph, table, at)?;
+                let made = advance(alloc, memos, state, graphs, graph, table, at)?;
                 steps += 1;
                 if let Some(end) = made {
                     return Ok(Sliced { steps, end });
@@ -146,10 +146,11 @@ fn graph_of<'a>(state: &QueryState, graphs: &'a Graphs) -> &'a Graph
 
 /// Makes legal steps at frontiers, at most `left` and at most `at_most`, until the state is closed
 /// or waits, or until a step asks or feeds a query. The table's summaries hold, and for each asked
-/// query that is told to have a must the table has one that answers it. After want of memory the
-/// state is spent.
+/// query that is told to have a must the table has one that answers it. What the memos know, of
+/// this state or any other, isn't asked again. After want of memory the state is spent.
 pub fn slice(
     alloc: Global,
+    memos: &mut Memos,
     state: &mut QueryState,
     graphs: &Graphs,
     table: &Table,
@@ -164,11 +165,10 @@ pub fn slice(
         IsAnalysed graphs.now.graphs table.now.summaries g state.old m →
         HasSliced graphs.now.graphs g table.now.summaries left at_most m state.new s) }
 {
-    let mut memo = Memo::new(alloc)?;
     let graph = graph_of(state, graphs);
     slice_on(
         alloc,
-        &mut memo,
+        memos,
         state,
         graphs,
         graph,

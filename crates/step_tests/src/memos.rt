@@ -1,7 +1,7 @@
-//! Questions that come again, and more questions than a memo has slots.
+//! Questions that come again, and questions that share a slot.
 
 use crate::made::{Row, cube_of};
-use punch_step::memo::{Memo, SLOTS};
+use punch_step::memo::Memo;
 use punch_step::sight::{Sight, decided};
 use std::alloc::Global;
 use std::test::Fail;
@@ -60,11 +60,11 @@ fn right_of(alloc: Global, count: i64) -> Result<i64, Fail> {
     Ok(right)
 }
 
-/// One more than the memo's slots, so that two questions at least share one.
-const MORE: i64 = SLOTS as i64 + 1;
+/// Of so many 75 share a slot with another one.
+const MANY: i64 = 500;
 
 #[test]
 fn questions_that_share_a_slot_have_their_own_answers(rt: HostRuntime) -> Result<(), Fail> {
-    assert_eq!(rt; right_of(rt.alloc(), MORE)?, 2 * MORE);
+    assert_eq!(rt; right_of(rt.alloc(), MANY)?, 2 * MANY);
     Ok(())
 }

@@ -13,7 +13,7 @@ use linear_formula::formula::Cube;
 use linear_formula::question::Question;
 use must_region::trail::Trail;
 use punch_step::by_must::{ByMust, ByTable, Calling, by_must, by_table};
-use punch_step::memo::Memo;
+use punch_step::memo::Memos;
 use shadow_elim::limit::{Kept, Limit};
 use std::alloc::{AllocError, Global};
 use std::sync::Arc;
@@ -167,13 +167,24 @@ fn seen_by_must(said: &ByMust, rows: &[Found]) -> Seen {
     }
 }
 
-/// What one must says; where the source is split, by these rows.
-fn said(alloc: Global, case: Case, says: Says, rows: &[Found]) -> Result<Seen, Fail> {
+/// What one must says, with what is remembered; where the source is split, by these rows.
+fn said_with(
+    alloc: Global,
+    memos: &mut Memos,
+    case: Case,
+    says: Says,
+    rows: &[Found],
+) -> Result<Seen, Fail> {
     let scene = scene_of(alloc, case)?;
     let must = must(alloc, says)?;
-    let mut memo = Memo::new(alloc)?;
-    let said = by_must(alloc, &mut memo, &calling(&scene, case.exit), &must)?;
+    let said = by_must(alloc, memos, &calling(&scene, case.exit), &must)?;
     Ok(seen_by_must(&said, rows))
+}
+
+/// What one must says where nothing is remembered.
+fn said(alloc: Global, case: Case, says: Says, rows: &[Found]) -> Result<Seen, Fail> {
+    let mut memos = Memos::new(alloc)?;
+    said_with(alloc, &mut memos, case, says, rows)
 }
 
 /// No run of procedure 4 with an argument of at least 0 returns at most -1.
@@ -215,8 +226,8 @@ fn told(
 ) -> Result<(Option<u32>, Seen), Fail> {
     let scene = scene_of(alloc, case)?;
     let table = table_of(alloc, says)?;
-    let mut memo = Memo::new(alloc)?;
-    let told = by_table(alloc, &mut memo, &calling(&scene, case.exit), &table)?;
+    let mut memos = Memos::new(alloc)?;
+    let told = by_table(alloc, &mut memos, &calling(&scene, case.exit), &table)?;
     Ok(seen_by_table(&told, rows))
 }
 
@@ -315,6 +326,39 @@ fn the_source_is_split(rt: HostRuntime) -> Result<(), Fail> {
         said(rt.alloc(), PARTS, returning(2), &BEFORE_SEVEN)?,
         Seen::Parts
     );
+    Ok(())
+}
+
+/// The argument is at most 9 and 6.
+const BEFORE_SEVEN_ONCE: [Found; 3] = [(0, 1, -9), (0, 1, -6), (0, -1, 6)];
+
+/// Calls and musts, by how many times its argument each returns, with what they say. The first two
+/// differ in the must alone.
+const TURNS: [(Case, u8, &[Found], Seen); 4] = [
+    (PARTS, 2, &BEFORE_SEVEN, Seen::Parts),
+    (PARTS, 1, &BEFORE_SEVEN_ONCE, Seen::Parts),
+    (COMES, 2, &[], Seen::Comes(3, 3)),
+    (NEITHER, 2, &[], Seen::Neither),
+];
+
+/// How many of the musts say what they are to, where all are asked in turn with the same memory of
+/// what was asked before, and then all again.
+fn right_turns(alloc: Global) -> Result<u32, Fail> {
+    let mut memos = Memos::new(alloc)?;
+    let mut right: u32 = 0;
+    for _ in 0..2 {
+        for (case, times, rows, seen) in TURNS {
+            if said_with(alloc, &mut memos, case, returning(times), rows)? == seen {
+                right = right.wrapping_add(1);
+            }
+        }
+    }
+    Ok(right)
+}
+
+#[test]
+fn what_is_remembered_says_the_same(rt: HostRuntime) -> Result<(), Fail> {
+    assert_eq!(rt; right_turns(rt.alloc())?, 8);
     Ok(())
 }
 

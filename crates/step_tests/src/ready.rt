@@ -7,6 +7,7 @@ ghost use Rattle.step_tests.specs.Ready.{IsEnded, IsFitting, IsReady};
 
 use flow_graph::graphs::Graphs;
 use linear_formula::error::OutOfMemory;
+use punch_step::memo::Memos;
 use punch_step::outlook::{Outlook, look_ahead};
 use punch_step::slice::{Sliced, slice};
 use query_rules::laws::{a_longer_state, an_asked_query};
@@ -60,7 +61,8 @@ pub fn sliced(
 {
     a_longer_state();
     an_asked_query();
-    slice(alloc, state, graphs, table, left, at_most)
+    let mut memos = Memos::new(alloc)?;
+    slice(alloc, &mut memos, state, graphs, table, left, at_most)
 }
 
 /// Where the state stands.
