@@ -40,8 +40,8 @@ def run(command, path, limit):
     return Ended(text, None if is_killed else child.returncode, seconds, used.ru_maxrss)
 
 
-# The function that is called once for each question to the solver; its own calls of itself have another name.
-QUESTION = "lia_solver::search::Search::branch"
+# The function that is called once for each question to the solver.
+QUESTION = "lia_solver::solve::solve_along"
 
 
 # The layers, each with the crates whose own instructions are its.
