@@ -64,13 +64,43 @@ pub record AreSummedTo (x : ℕ) (old new : List Entry) (u : ℕ) (places : List
 pub summed-none : (x : ℕ) (entries : List Entry) (u : ℕ) (places : List ℕ) → AreRows entries → AreSummedTo x entries entries u places 0
 summed-none x entries u places r = record { grown = grown-start x entries r; sums = λ i d h. absurd (omega (arith, h)) }
 
+-- the sum of one pair was added
+module _ (x : ℕ) (now new : List Entry) (u l : ℕ) (t : LinearSum) (o : Origin) (r : AreRows now) (p : ArePaired x now u l)
+    (w : IsTrue (is_within (pair_sum x (sum_at now u, sum_at now l)))) (et : t ≡ tightened (pair_sum x (sum_at now u, sum_at now l)))
+    (eo : o ≡ Made (making_of x now u l)) (put : IsPut t o now new)
+  where
+    made : IsTrue (is_term (tightened (pair_sum x (sum_at now u, sum_at now l))))
+        × (starts_from (x + 1) (tightened (pair_sum x (sum_at now u, sum_at now l))).parts ≡ true)
+    made = sum-starts x (sum_at now u) (sum_at now l) (p.terms.greatest u p.upper_place) (p.terms.greatest l p.lower_place) p.above p.below w
+
+    pub put-grown : IsGrown x now new
+    put-grown =
+        grown-put x t o now new r put (subst (λ (q : LinearSum). IsTrue (is_term q)) (sym et) made.0)
+        (ap (λ (q : LinearSum). starts_from (x + 1) q.parts) et ∙ made.1) (λ y ey oy. record {
+          upper = u;
+          lower = l;
+          paired = p;
+          within = w;
+          sum = ey ∙ et;
+          origin = oy ∙ eo;
+        })
+
+    pub put-summed : IsSummed x new u l
+    put-summed = summed-there (upper-stays x now new u l put-grown.same p) (lower-stays x now new u l put-grown.same p) where
+      summed-there : sum_at new u ≡ sum_at now u → sum_at new l ≡ sum_at now l → IsSummed x new u l
+      summed-there a b = record {
+        within = subst (λ (q : LinearSum). IsTrue (is_within (pair_sum x (q, sum_at new l)))) (sym a)
+            (subst (λ (q : LinearSum). IsTrue (is_within (pair_sum x (sum_at now u, q)))) (sym b) w);
+        held = subst (λ (q : LinearSum). IsHeld (tightened (pair_sum x (q, sum_at new l))) new) (sym a)
+            (subst (λ (q : LinearSum). IsHeld (tightened (pair_sum x (sum_at now u, q))) new) (sym b)
+            (subst (λ (q : LinearSum). IsHeld q new) et (held-put t o now new put)));
+      }
+
 -- one more
-pub summed-more : (x : ℕ) (old now new : List Entry) (u : ℕ) (places : List ℕ) (n l : ℕ) (t : LinearSum) (o : Origin) →
-    AreRows old → (u < length old) × IsTrue (bounds_above x (sum_at old u).parts) → AreLowerPlaces x old places → n < length places →
-    l ≡ get_or places n 0 → AreSummedTo x old now u places n → IsTrue (is_within (pair_sum x (sum_at now u, sum_at now l))) →
-    t ≡ tightened (pair_sum x (sum_at now u, sum_at now l)) → o ≡ Made (making_of x now u l) → IsPut t o now new →
-    AreSummedTo x old new u places (n + 1)
-summed-more x old now new u places n l t o r up_ lowers h e s w et eo put = record {
+pub summed-more : (x : ℕ) (old now new : List Entry) (u : ℕ) (places : List ℕ) (n : ℕ) → AreRows old →
+    (u < length old) × IsTrue (bounds_above x (sum_at old u).parts) → AreLowerPlaces x old places → n < length places →
+    AreSummedTo x old now u places n → IsGrown x now new → IsSummed x new u (get_or places n 0) → AreSummedTo x old new u places (n + 1)
+summed-more x old now new u places n r up_ lowers h s grown last = record {
   grown = grown-then x old now new r s.grown grown;
   sums = λ i d k. by_place i d k (cases_lt i n);
 } where
@@ -81,45 +111,12 @@ summed-more x old now new u places n l t o r up_ lowers h e s w et eo put = reco
   before l c =
       paired-forth x old now u l s.grown.rows s.grown.same (paired-of x old u l places r up_ lowers c)
 
-  here : Contains places l
-  here = subst (Contains places) (sym e) (at n 0 h)
-
-  p : ArePaired x now u l
-  p = before l here
-
-  made : IsTrue (is_term (tightened (pair_sum x (sum_at now u, sum_at now l))))
-      × (starts_from (x + 1) (tightened (pair_sum x (sum_at now u, sum_at now l))).parts ≡ true)
-  made = sum-starts x (sum_at now u) (sum_at now l) (p.terms.greatest u p.upper_place) (p.terms.greatest l p.lower_place) p.above p.below w
-
-  grown : IsGrown x now new
-  grown =
-      grown-put x t o now new s.grown.rows put (subst (λ (q : LinearSum). IsTrue (is_term q)) (sym et) made.0)
-      (ap (λ (q : LinearSum). starts_from (x + 1) q.parts) et ∙ made.1) (λ y ey oy. record {
-        upper = u;
-        lower = l;
-        paired = p;
-        within = w;
-        sum = ey ∙ et;
-        origin = oy ∙ eo;
-      })
-
-  last : IsSummed x new u l
-  last = summed-there (upper-stays x now new u l grown.same p) (lower-stays x now new u l grown.same p) where
-    summed-there : sum_at new u ≡ sum_at now u → sum_at new l ≡ sum_at now l → IsSummed x new u l
-    summed-there a b = record {
-      within = subst (λ (q : LinearSum). IsTrue (is_within (pair_sum x (q, sum_at new l)))) (sym a)
-          (subst (λ (q : LinearSum). IsTrue (is_within (pair_sum x (sum_at now u, q)))) (sym b) w);
-      held = subst (λ (q : LinearSum). IsHeld (tightened (pair_sum x (q, sum_at new l))) new) (sym a)
-          (subst (λ (q : LinearSum). IsHeld (tightened (pair_sum x (sum_at now u, q))) new) (sym b)
-          (subst (λ (q : LinearSum). IsHeld q new) et (held-put t o now new put)));
-    }
-
   by_place : (i d : ℕ) → i < n + 1 → (i < n) ⊎ (n ≤ i) → IsSummed x new u (get_or places i d)
   by_place i d k (inl lt) =
       summed-then x now new u (get_or places i d) grown (before (get_or places i d) (at i d (omega (arith, lt, h)))) (s.sums i d lt)
   by_place i d k (inr ge) =
-      let same : get_or places i d ≡ l = ap (λ j. get_or places j d) (equal i n (omega (arith, ge)) (omega (arith, k)))
-      ∙ get_or_default places n d 0 h ∙ sym e in
+      let same : get_or places i d ≡ get_or places n 0 = ap (λ j. get_or places j d) (equal i n (omega (arith, ge)) (omega (arith, k)))
+      ∙ get_or_default places n d 0 h in
       subst (IsSummed x new u) (sym same) last where
         equal : (a b : ℕ) → b ≤ a → a ≤ b → a ≡ b
         equal a b p q = omega (arith, p, q)

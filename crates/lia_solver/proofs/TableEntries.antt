@@ -94,12 +94,12 @@ added-new chains pool lines heads old t o l v c n h e f g = inr (record {
     origin = g i;
   }
 
--- a row without columns, as a search along its chain finds it
-pub bare-is : (pool items : List (ℕ × ℤ)) (lines found : List Line) (old : List Entry) (o : Option ℕ) → items ≡ pool → found ≡ lines →
-    entries_of pool lines ≡ old → MatchOption o ((i : ℕ) → i < length found → parts_at items found i ≡ [] → ⊥) (λ i. (i < length found)
-    × (parts_at items found i ≡ [])) → MatchOption o ((i : ℕ) (e : Entry) → i < length old → (get_or old i e).sum.parts ≡ [] → ⊥)
-    (λ i. (i < length old) × ((e : Entry) → (get_or old i e).sum.parts ≡ []))
-bare-is pool items lines found old o p l v m = by_option o m where
+-- a row with these coefficients, as a search along its chain finds it
+pub place-is : (sought pool items : List (ℕ × ℤ)) (lines found : List Line) (old : List Entry) (o : Option ℕ) → items ≡ pool → found ≡ lines →
+    entries_of pool lines ≡ old → MatchOption o ((i : ℕ) → i < length found → parts_at items found i ≡ sought → ⊥) (λ i. (i < length found)
+    × (parts_at items found i ≡ sought)) → MatchOption o ((i : ℕ) (e : Entry) → i < length old → (get_or old i e).sum.parts ≡ sought → ⊥)
+    (λ i. (i < length old) × ((e : Entry) → (get_or old i e).sum.parts ≡ sought))
+place-is sought pool items lines found old o p l v m = by_option o m where
   count : length found ≡ length old
   count =
       ap (λ (ls : List Line). length ls) l ∙ sym (length-map lines (entry_of_line pool)) ∙ ap (λ (es : List Entry). length es) v
@@ -110,9 +110,9 @@ bare-is pool items lines found old o p l v m = by_option o m where
       ∙ entry-parts pool lines i e (omega (arith, h, count, ap (λ (ls : List Line). length ls) l))
       ∙ sym (ap (λ ls. parts_at items ls i) l ∙ ap (λ ps. parts_at ps lines i) p)
 
-  by_option : (q : Option ℕ) → MatchOption q ((i : ℕ) → i < length found → parts_at items found i ≡ [] → ⊥) (λ i. (i < length found)
-      × (parts_at items found i ≡ [])) → MatchOption q ((i : ℕ) (e : Entry) → i < length old → (get_or old i e).sum.parts ≡ [] → ⊥)
-      (λ i. (i < length old) × ((e : Entry) → (get_or old i e).sum.parts ≡ []))
+  by_option : (q : Option ℕ) → MatchOption q ((i : ℕ) → i < length found → parts_at items found i ≡ sought → ⊥) (λ i. (i < length found)
+      × (parts_at items found i ≡ sought)) → MatchOption q ((i : ℕ) (e : Entry) → i < length old → (get_or old i e).sum.parts ≡ sought → ⊥)
+      (λ i. (i < length old) × ((e : Entry) → (get_or old i e).sum.parts ≡ sought))
   by_option None h = λ i e k d. h i (omega (arith, k, count)) (sym (parts i e k) ∙ d)
   by_option (Some i) h =
       let inside : i < length old = omega (arith, h.0, count) in

@@ -1,17 +1,19 @@
 //! The elimination of a column from a table.
 
-ghost use Rattle.std.specs.Prelude.{◌≡◌, ◌<◌, ◌+◌, true, false, length, Contains, IfOk, OnOk, IsTrue, ℕ};
+ghost use Rattle.std.specs.Prelude.{◌≡◌, ◌<◌, ◌+◌, true, false, length, Contains, IfOk, IfSome, OnOk, IsTrue, ℕ};
 ghost use Rattle.linear_formula.specs.LinearSum.{is_within};
 ghost use Rattle.linear_formula.specs.steps.Order.{AllWithin};
 ghost use Rattle.shadow_elim.specs.Elimination.{pair_sum};
 ghost use Rattle.lia_solver.specs.declared.table.Origin.TheVariants as origin;
 ghost use Rattle.lia_solver.specs.steps.Entries.{sum_at, bounds_above, bounds_below, ArePaired};
+ghost use Rattle.lia_solver.specs.steps.TwoColumns.{AreSides};
 ghost use Rattle.lia_solver.specs.steps.SmallRows.{IsSized, AreLimited};
 ghost use Rattle.lia_solver.specs.steps.Tables.{starts_from, passed, AreRows, IsPut, IsGrown, IsSummed, AreLowerPlaces, HasWide, AreNarrow, IsLeft};
 
 use crate::pairing::{Made, combine, measure};
 use crate::slight::{Sizes, do_fit, sizes_at, sizes_of_all};
 use crate::table::{Origin, Table};
+use crate::two_columns::{Sides, is_needless, sides_of};
 use linear_formula::error::{LinError, OutOfMemory};
 use shadow_elim::limit::MAX_ROWS;
 use std::alloc::{AllocError, Global};
@@ -106,6 +108,36 @@ pub fn put(
     table.add(parts, constant, origin)
 }
 
+/// Adds the sum of the rows, unless it says no more than a row that stands. Says whether it is
+/// within the limits.
+fn add_sum(
+    parts: &mut Vec<(u32, i128)>,
+    column: u32,
+    table: &mut Table,
+    sides: Option<Sides>,
+    upper: usize,
+    lower: usize,
+) -> Result<bool, OutOfMemory>
+    requires rows { AreRows table.old }
+    requires sides { IfSome sides (λ s. AreSides s table.old) }
+    requires paired { ArePaired column table.old upper lower }
+    ensures grown { OnOk result (IsGrown column table.old table.new) }
+    ensures summed { IfOk result (λ b. b ≡ true → IsSummed column table.new upper lower) }
+    ensures wide { IfOk result (λ b. b ≡ false → HasWide column table.old) }
+{
+    if is_needless(sides, column, table, upper, lower) {
+        return Ok(true);
+    }
+    match combine(parts, column, table, upper, lower) {
+        Ok(Made { constant, making }) => {
+            put(table, parts, constant, Origin::Made(making))?;
+            Ok(true)
+        }
+        Err(LinError::Wide) => Ok(false),
+        Err(LinError::Memory) => Err(AllocError),
+    }
+}
+
 /// Adds the sums of an upper row with the lower ones, until one is too wide. Says whether none was.
 fn add_sums(
     parts: &mut Vec<(u32, i128)>,
@@ -123,11 +155,10 @@ fn add_sums(
         IsSummed column table.new upper lower) }
     ensures wide { IfOk result (λ b. b ≡ false → HasWide column table.old) }
 {
+    let sides = sides_of(table, upper, lowers.len());
     for lower in lowers {
-        match combine(parts, column, table, upper, *lower) {
-            Ok(Made { constant, making }) => put(table, parts, constant, Origin::Made(making))?,
-            Err(LinError::Wide) => return Ok(false),
-            Err(LinError::Memory) => return Err(AllocError),
+        if !add_sum(parts, column, table, sides, upper, *lower)? {
+            return Ok(false);
         }
     }
     Ok(true)

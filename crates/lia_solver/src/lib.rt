@@ -19,3 +19,4 @@ mod slight;
 pub mod solve;
 pub mod solved;
 mod table;
+mod two_columns;

@@ -42,7 +42,7 @@ fn multiples(upper: u64, lower: u64) -> (i64, i64)
 }
 
 /// The sum of multiples of constants, if it is within the limits.
-fn sum_of(first: i64, left: i128, second: i64, right: i128) -> Option<i128>
+pub fn sum_of(first: i64, left: i128, second: i64, right: i128) -> Option<i128>
     requires first_limit { unsigned_abs first ≤ 2 ^ 40 }
     requires left_limit { unsigned_abs left ≤ 2 ^ 84 }
     requires second_limit { unsigned_abs second ≤ 2 ^ 40 }

@@ -223,6 +223,21 @@ impl Table {
         self.lines[place].origin
     }
 
+    /// The place of the row with these coefficients.
+    pub fn place_of(&self, parts: &[(u32, i128)]) -> Option<usize>
+        requires { AllWithin parts.now }
+        ensures { MatchOption result
+            ((i : ℕ) (e : Entry) → i < length self.now →
+            (slice_index_or self.now i e).sum.parts ≡ parts.now → ⊥)
+            (λ i. (i < length self.now)
+            × ((e : Entry) → (slice_index_or self.now i e).sum.parts ≡ parts.now)) }
+    {
+        let hash = hash_of(parts);
+        let chains = self.heads.len();
+        let head = self.heads[chain_of(hash, chains)];
+        find(&self.parts, &self.lines, chains, head, hash, parts)
+    }
+
     /// The place of the row without columns.
     pub fn bare(&self) -> Option<usize>
         ensures { MatchOption result
@@ -231,9 +246,7 @@ impl Table {
             (λ i. (i < length self.now)
             × ((e : Entry) → (slice_index_or self.now i e).sum.parts ≡ [])) }
     {
-        let chains = self.heads.len();
-        let head = self.heads[chain_of(0, chains)];
-        find(&self.parts, &self.lines, chains, head, 0, &[])
+        self.place_of(&[])
     }
 
     /// Puts the rows into more chains.

@@ -1,7 +1,0 @@
-use Rattle.lia_solver.proofs.TableEntries.{bare-is}
-use Rattle.lia_solver.proofs.table.Table.bare.Goals as goal
-
-pub returns : goal.returns
-returns c =
-    bare-is c.self.inside.parts.items c.deref.result.now c.self.inside.lines.items c.deref-2.result.now c.args.self.now c.find.result
-    c.deref.ensures.value c.deref-2.ensures.value c.self.view_is c.find.ensures
