@@ -87,7 +87,7 @@ after-names_only x xs rows next a k n y m = by_test (x == y) refl where
   by_test false e =
       after-absent y x rows next a k (n y (neither (λ d. two (sym (eq-eqb x y d) ∙ e))))
 
-nameless : (low : ℕ) (ps : List (ℕ × ℤ)) → InOrder low ps → ((y : ℕ) → listed_at y ps ≡ pos 0) → ps ≡ []
+pub nameless : (low : ℕ) (ps : List (ℕ × ℤ)) → InOrder low ps → ((y : ℕ) → listed_at y ps ≡ pos 0) → ps ≡ []
 nameless low [] o h = refl
 nameless low (p ∷ ps) o h =
     let here : (p.0 == p.0) ≡ true = eq-eqb p.0 p.0 refl in

@@ -71,7 +71,8 @@ module _ (x : ℕ) (now new : List Entry) (u l : ℕ) (t : LinearSum) (o : Origi
   where
     made : IsTrue (is_term (tightened (pair_sum x (sum_at now u, sum_at now l))))
         × (starts_from (x + 1) (tightened (pair_sum x (sum_at now u, sum_at now l))).parts ≡ true)
-    made = sum-starts x (sum_at now u) (sum_at now l) (p.terms.greatest u p.upper_place) (p.terms.greatest l p.lower_place) p.above p.below w
+    made = sum-starts x (sum_at now u) (sum_at now l) (p.terms.greatest u p.upper_place) (p.terms.greatest l p.lower_place) p.above p.below
+        w
 
     pub put-grown : IsGrown x now new
     put-grown =

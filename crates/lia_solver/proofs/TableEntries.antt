@@ -95,7 +95,8 @@ added-new chains pool lines heads old t o l v c n h e f g = inr (record {
   }
 
 -- a row with these coefficients, as a search along its chain finds it
-pub place-is : (sought pool items : List (ℕ × ℤ)) (lines found : List Line) (old : List Entry) (o : Option ℕ) → items ≡ pool → found ≡ lines →
+pub place-is : (sought pool items : List (ℕ × ℤ)) (lines found : List Line) (old : List Entry) (o : Option ℕ) → items ≡ pool →
+    found ≡ lines →
     entries_of pool lines ≡ old → MatchOption o ((i : ℕ) → i < length found → parts_at items found i ≡ sought → ⊥) (λ i. (i < length found)
     × (parts_at items found i ≡ sought)) → MatchOption o ((i : ℕ) (e : Entry) → i < length old → (get_or old i e).sum.parts ≡ sought → ⊥)
     (λ i. (i < length old) × ((e : Entry) → (get_or old i e).sum.parts ≡ sought))

@@ -1,20 +1,21 @@
 -- Sums of rows of the same two columns.
-use Rattle.std.proofs.Common.{◌≡◌, ◌⊎◌, inl, inr, ℕ, zero, suc, ◌<◌, ◌≤◌, ◌+◌, ◌*◌, ◌^◌, ◌==◌, Bool, true, false, Option, None, Some, List, [], ◌∷◌, length, ℤ, pos, negsuc, neg_ℤ, ◌+ℤ◌, ◌-ℤ◌, ◌*ℤ◌, to_z, of_z, nat_lt, arith, refl, sym, ap, subst, ◌∙◌}
+use Rattle.std.proofs.Common.{◌≡◌, inl, inr, ℕ, zero, suc, ◌<◌, ◌≤◌, ◌+◌, ◌*◌, ◌^◌, ◌==◌, Bool, true, false, Option, None, Some, List, [], ◌∷◌, length, ℤ, pos, negsuc, neg_ℤ, ◌+ℤ◌, ◌-ℤ◌, ◌*ℤ◌, to_z, of_z, nat_lt, arith, refl, sym, ap, subst, ◌∙◌}
 use Rattle.std.specs.Prelude.{IsTrue, IfSome, ◌≤ℤ◌, ◌<ℤ◌, int_le, int_lt, unsigned_abs, slice_index_or, if◌then◌else◌}
 use Rattle.std.specs.Int.{w64, w128}
-use Rattle.std.proofs.lemmas.Bool.{eq-eqb, eqb-true, ltb-true}
+use Rattle.std.proofs.lemmas.Bool.{eq-eqb, eqb-true}
 use Rattle.std.proofs.lemmas.Int.{ints, unsigned_abs-mul}
 use Rattle.std.proofs.lemmas.Nat.Gcd.{IsGcd-from_zero}
 use Rattle.std.proofs.Math.Nat.{mul-le-mul}
 use Rattle.linear_formula.specs.LinearSum.{LinearSum, is_term, is_within, coefficient, listed_at}
 use Rattle.linear_formula.specs.steps.Order.{InOrder, AllWithin}
-use Rattle.linear_formula.proofs.Ring.{mul-add, mul-assoc, mul-comm}
+use Rattle.linear_formula.proofs.Ring.{mul-add, mul-assoc}
 use Rattle.linear_formula.proofs.Finishing.{AllWithin-at, cast_wide}
 use Rattle.linear_formula.proofs.Limits.{IsTerm, IsTerm-from_test, test-from_Within}
 use Rattle.infeasible_cert.proofs.Signs.{below_multiplier}
 use Rattle.shadow_elim.specs.Division.{common_divisor, parts_divisor, row_divisor, tightened}
 use Rattle.shadow_elim.specs.Elimination.{size_of, upper_multiple, lower_multiple, pair_sum}
 use Rattle.shadow_elim.specs.Reduction.{is_trivial}
+use Rattle.shadow_elim.proofs.Exact.{neg-mul}
 use Rattle.shadow_elim.proofs.Divisors.{common_divisor_is}
 use Rattle.shadow_elim.proofs.Pairs.{cast_divisor}
 use Rattle.shadow_elim.proofs.PairSums.{IsUpper, IsLower, Balance, balance, upper-is, lower-is, coefficient-pair_sum, order-pair_sum, pair_sum-absent, pair_sum-eliminates, pair_sum-term}
@@ -24,6 +25,7 @@ use Rattle.lia_solver.specs.declared.two_columns.Sides.{Sides}
 use Rattle.lia_solver.specs.steps.Entries.{Entry, sum_at, bounds_above, bounds_below, AreTermEntries, ArePaired}
 use Rattle.lia_solver.specs.steps.TwoColumns.{single, names_two, AreSides, IsOutdone}
 use Rattle.lia_solver.specs.steps.Tables.{IsHeld, IsGrown, IsSummed}
+use Rattle.lia_solver.proofs.ChosenPoints.{nameless}
 use Rattle.lia_solver.proofs.Growing.{held-then}
 use Rattle.lia_solver.proofs.FirstColumns.{above-upper, below-lower}
 
@@ -95,11 +97,6 @@ row-divisor-one y a t e h = by_test (nat_lt 1 (parts_divisor t.parts)) refl wher
         one : (n : ℕ) → nat_lt 1 n ≡ false → 0 < n → 1 ≡ n
         one n l p = grind (arith)
 
--- where no column is named
-pub no-part : (low : ℕ) (ps : List (ℕ × ℤ)) → InOrder low ps → ((z : ℕ) → listed_at z ps ≡ pos 0) → ps ≡ []
-no-part low [] o n = refl
-no-part low (p ∷ ps) o n = absurd (o.2 (sym (listed-first p ps) ∙ n p.0))
-
 -- Numbers of a sum, and of a multiple of it
 
 -- a multiple is at most 0 where the number is
@@ -130,9 +127,6 @@ rounded-limit d k r w h up le =
     let below = below_multiplier (pos d) (r +ℤ neg_ℤ w) (omega (arith, ints, h))
     (omega (arith, ints, up, le, mul-add (pos d) r (neg_ℤ w), mul-neg (pos d) w)) in
     omega (arith, ints, below)
-
-neg-mul : (a b : ℤ) → neg_ℤ a *ℤ b ≡ neg_ℤ (a *ℤ b)
-neg-mul a b = mul-comm (neg_ℤ a) b ∙ mul-neg b a ∙ ap neg_ℤ (mul-comm b a)
 
 -- the product of numbers above 0
 product : (g d : ℕ) → 0 < g → 0 < d → pos 0 <ℤ (pos g *ℤ pos d)
@@ -302,14 +296,15 @@ needless-sum x entries up low s c k p sides nu nl ec ek hc hk out = by_value (co
     held = inl (trivial (ap (λ (ps : List (ℕ × ℤ)). record { parts = ps; constant = t.constant }) none));
   } where
     none : t.parts ≡ []
-    none = no-part 0 t.parts order (λ z. by_other z (z == y) refl) where
+    none = nameless 0 t.parts order (λ z. by_other z (z == y) refl) where
       by_other : (z : ℕ) (q : Bool) → (z == y) ≡ q → coefficient z t ≡ pos 0
       by_other z true f = ap (λ w. coefficient w t) (eqb-true z y f) ∙ e
       by_other z false f = others z (λ r. no_way (sym (eq-eqb z y r) ∙ f))
 
     low-constant : t.constant ≤ℤ pos 0
     low-constant =
-        scaled-nonpos g t.constant b.divisor (subst (λ (z : ℤ). z ≤ℤ pos 0) second (out.none (first ∙ ap (λ z. pos g *ℤ z) e ∙ zero-is g))) where
+        scaled-nonpos g t.constant b.divisor
+        (subst (λ (z : ℤ). z ≤ℤ pos 0) second (out.none (first ∙ ap (λ z. pos g *ℤ z) e ∙ zero-is g))) where
           zero-is : (h : ℕ) → pos h *ℤ pos 0 ≡ pos 0
           zero-is h = omega (arith, ints)
 
@@ -330,7 +325,8 @@ needless-sum x entries up low s c k p sides nu nl ec ek hc hk out = by_value (co
     some = is.positive;
     whole = is.coefficients y;
     parts = one-part y 0 (tightened t).parts (IsTerm-from_test (tightened t) (is.term (pair_sum-term x u l tu tl (within h)))).order
-        (λ z r. tightened-absent z t (others z r)) (λ e. h (is.coefficients y ∙ ap (λ z. pos (row_divisor t) *ℤ z) e ∙ zero-is (row_divisor t)));
+        (λ z r. tightened-absent z t (others z r))
+        (λ e. h (is.coefficients y ∙ ap (λ z. pos (row_divisor t) *ℤ z) e ∙ zero-is (row_divisor t)));
     up = is.constant.1;
   }) where
     is : IsTightened t (tightened t) (row_divisor t)

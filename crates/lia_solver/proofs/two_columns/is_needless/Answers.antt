@@ -1,4 +1,4 @@
-use Rattle.std.proofs.Common.{◌≡◌, ◌≤◌, ◌^◌, true, Option, List, ℕ, ℤ, pos, to_z, w64, arith, sym, ap, subst, ◌∙◌}
+use Rattle.std.proofs.Common.{◌≡◌, ◌^◌, true, Option, List, ℕ, ℤ, pos, to_z, w64, arith, sym, ap, subst, ◌∙◌}
 use Rattle.std.specs.Prelude.{IfSome, unsigned_abs, slice_index_or}
 use Rattle.std.proofs.lemmas.Int.{ints, fits_signed_from_abs}
 use Rattle.linear_formula.specs.LinearSum.{coefficient}
@@ -20,7 +20,9 @@ first_size-requires-clause-limits c =
 
 pub overflow_cast-first : goal.overflow_cast-first
 overflow_cast-first c =
-    let two = names-length c.in-Some.sides.column c.parts-below.result.now (sym c.names_two-else-not-names_two.ensures ∙ c.if-not-names_two-2.false) in
+    let two = names-length c.in-Some.sides.column c.parts-below.result.now (sym c.names_two-else-not-names_two.ensures
+    ∙ c.if-not-names_two-2.false)
+    in
     fits_signed_from_abs w64 (pos c.first_size.result) (omega (
       arith,
       c.first_size.ensures,
@@ -45,7 +47,8 @@ overflow_cast-second c =
 
 pub sum_of-requires-clause-first_limit : goal.sum_of-requires-clause-first_limit
 sum_of-requires-clause-first_limit c =
-    let lower = names-length c.in-Some.sides.column c.parts-below.result.now (sym c.names_two-else-not-names_two.ensures ∙ c.if-not-names_two-2.false) in
+    let lower = names-length c.in-Some.sides.column c.parts-below.result.now (sym c.names_two-else-not-names_two.ensures
+    ∙ c.if-not-names_two-2.false) in
     let small = part-small c.args.table.now c.args.lower 0 c.parts-below.result.now c.requires.paired.terms c.requires.paired.lower_place
     (c.parts-below.ensures no_entry) (omega (arith, lower)) in
     size-cast c.first_size.result (omega (arith, small, c.first_size.ensures))
@@ -59,7 +62,8 @@ sum_of-requires-clause-second_limit c =
 
 pub sum_of-requires-2-clause-first_limit : goal.sum_of-requires-2-clause-first_limit
 sum_of-requires-2-clause-first_limit c =
-    let lower = names-length c.in-Some.sides.column c.parts-below.result.now (sym c.names_two-else-not-names_two.ensures ∙ c.if-not-names_two-2.false) in
+    let lower = names-length c.in-Some.sides.column c.parts-below.result.now (sym c.names_two-else-not-names_two.ensures
+    ∙ c.if-not-names_two-2.false) in
     let small = part-small c.args.table.now c.args.lower 0 c.parts-below.result.now c.requires.paired.terms c.requires.paired.lower_place
     (c.parts-below.ensures no_entry) (omega (arith, lower)) in
     size-cast c.first_size.result (omega (arith, small, c.first_size.ensures))
@@ -80,7 +84,8 @@ sum_of-requires-clause-left_limit c =
 
 pub sum_of-requires-clause-right_limit : goal.sum_of-requires-clause-right_limit
 sum_of-requires-clause-right_limit c =
-    let lower = names-length c.in-Some.sides.column c.parts-below.result.now (sym c.names_two-else-not-names_two.ensures ∙ c.if-not-names_two-2.false) in
+    let lower = names-length c.in-Some.sides.column c.parts-below.result.now (sym c.names_two-else-not-names_two.ensures
+    ∙ c.if-not-names_two-2.false) in
     let small = part-small c.args.table.now c.args.lower 1 c.parts-below.result.now c.requires.paired.terms c.requires.paired.lower_place
     (c.parts-below.ensures no_entry) (omega (arith, lower)) in
     wide-cast (slice_index_or c.parts-below.result.now 1 (0, pos 0)).1 (2 ^ 84) (omega (arith, small)) (omega arith)
@@ -127,9 +132,11 @@ returns c = λ e.
     ∙ ap unsigned_abs (below-first x l.parts p.below).first in
     let low-small = part-small es c.args.lower 0 c.parts-below.result.now p.terms p.lower_place below
     (omega (arith, names-length y c.parts-below.result.now (sym c.names_two-else-not-names_two.ensures ∙ c.if-not-names_two-2.false))) in
-    let a : to_z w64 c.first_size-2.result ≡ pos (size_of x u) = cast_divisor c.first_size-2.result (omega (arith, small, c.first_size-2.ensures))
+    let a : to_z w64 c.first_size-2.result ≡ pos (size_of x u) = cast_divisor c.first_size-2.result
+    (omega (arith, small, c.first_size-2.ensures))
     ∙ ap pos size in
-    let b : to_z w64 c.first_size.result ≡ pos (size_of x l) = cast_divisor c.first_size.result (omega (arith, low-small, c.first_size.ensures))
+    let b : to_z w64 c.first_size.result ≡ pos (size_of x l) = cast_divisor c.first_size.result
+    (omega (arith, low-small, c.first_size.ensures))
     ∙ ap pos low in
     let above-part = part-small es c.args.upper 1 c.parts-above.result.now p.terms p.upper_place above
     (omega (arith, names-length y c.parts-above.result.now (sym c.names_two.ensures ∙ c.if-not-names_two.false))) in

@@ -1,4 +1,4 @@
-use Rattle.std.proofs.Common.{pos, ℤ, arith, sym, ◌∙◌}
+use Rattle.std.proofs.Common.{arith}
 use Rattle.std.proofs.lemmas.Int.{ints}
 use Rattle.linear_formula.proofs.Finishing.{cast_wide}
 use Rattle.lia_solver.proofs.TwoColumns.{value-cast, zero-times}

@@ -1,4 +1,4 @@
-use Rattle.std.proofs.Common.{◌≡◌, ◌≤◌, ◌^◌, ℕ, ℤ, pos, negsuc, neg_ℤ, to_z, of_z, arith, sym, ap, subst, refl, ◌∙◌}
+use Rattle.std.proofs.Common.{◌≡◌, ◌≤◌, ◌^◌, ℤ, pos, negsuc, neg_ℤ, to_z, of_z, arith, sym, ap, subst, refl, ◌∙◌}
 use Rattle.std.specs.Int.{w128}
 use Rattle.std.specs.Prelude.{unsigned_abs}
 use Rattle.linear_formula.proofs.Finishing.{cast_wide}
@@ -20,7 +20,8 @@ returns c =
     let greatest = neg-cast c.constant-2.result above-small in
     let least : to_z w128 (of_z w128 c.constant.result) ≡ c.constant.result = cast_wide c.constant.result (omega (arith, below-small)) in
     record {
-      above = held-at _ (pos 1) _ es c.in_ok-above.above _ high.0 (high.1 no_entry) refl (ap neg_ℤ greatest ∙ neg-neg c.constant-2.result ∙ above-is);
+      above = held-at _ (pos 1) _ es c.in_ok-above.above _ high.0 (high.1 no_entry) refl (ap neg_ℤ greatest ∙ neg-neg c.constant-2.result
+          ∙ above-is);
       below = held-at _ (negsuc 0) _ es c.in_ok-below.below _ low.0 (low.1 no_entry) refl (least ∙ below-is);
       greatest_limit = subst (λ (z : ℤ). unsigned_abs z ≤ 2 ^ 84) (sym greatest) (abs-neg c.constant-2.result (2 ^ 84) above-small);
       least_limit = subst (λ (z : ℤ). unsigned_abs z ≤ 2 ^ 84) (sym least) below-small;
