@@ -1,0 +1,104 @@
+"""Asks the questions of files and says what the solver takes for each, and where its instructions go.
+
+usage: questions.py PROGRAM FOLDER
+
+FOLDER has files NAME.txt with a question a line (a letter, a blank, and rows `COEFFICIENT*COLUMN .. CONSTANT`, each ended by
+`;`), and NAME.answers with what they come to. The program asks those of standard input: with no word it writes the answers,
+with `refutes` it also checks each certificate, with `entails` it asks whether all rows but the last one entail the negation of
+that one, and with `read` it asks nothing; a second word keeps it quiet. Answers are compared line by line. What it takes to
+read the questions is subtracted. It prints, for each file and each way of asking, the questions, the user and system time and,
+where valgrind is there, the instructions of a question, and then the shares of these. The status is 1 where an answer is
+another one.
+"""
+import collections
+import os
+import re
+import shutil
+import subprocess
+import sys
+import tempfile
+
+import measure
+
+# What a function does, by its name; the first that fits.
+PARTS = (
+    ("equal rows", r"lia_solver::table::"),
+    ("range rows", r"lia_solver::(gather|columns|narrow)::"),
+    ("certificates", r"lia_solver::derivation::|infeasible_cert::"),
+    ("elimination", r"lia_solver::"),
+    ("allocator", r"(?!\w+::|<)|std_alloc::|std_heap::"),
+)
+# The lines of an answer that tell how a question ends.
+ENDS = re.compile(r"point|never|columns|wide|rows|branches")
+
+
+def part_of(function):
+    return next((part for part, names in PARTS if re.match(names, function)), "copies and the rest")
+
+
+def instructions_of(command, path):
+    """The instructions of one run by the functions that take them."""
+    with tempfile.TemporaryDirectory() as room, open(path, "rb") as source:
+        file = f"{room}/counts"
+        subprocess.run(
+            ["valgrind", "--tool=callgrind", f"--callgrind-out-file={file}", *command],
+            stdin=source, stdout=subprocess.DEVNULL, stderr=subprocess.DEVNULL, check=True,
+        )
+        said = subprocess.run(["callgrind_annotate", "--threshold=100", file], capture_output=True, text=True, check=True).stdout
+    sums = collections.Counter()
+    for count, function in re.findall(r"(?m)^ *([\d,]+) \([ \d.]+%\) +[^\n]*?:((?:<|\w)[^\n]*)$", said):
+        sums[part_of(function)] += int(count.replace(",", ""))
+    return sums
+
+
+def seconds_of(command, path):
+    given = {"runs": 3, "status": 0, "text": ".*", "input": path, "count": False, "own": None}
+    return min(measure.run(command, given)[1] for _ in range(given["runs"]))
+
+
+def is_right(program, word, path, answers):
+    """Whether the answers are those of the file, with the values of points where no word is given."""
+    with open(path, "rb") as source:
+        said = subprocess.run([program, *([word] if word else [])], stdin=source, capture_output=True, text=True).stdout
+    with open(answers, encoding="utf-8") as it:
+        wanted = it.read()
+    if word:
+        wanted = "".join(f"{line}\n" for line in wanted.splitlines() if ENDS.match(line))
+    return said == wanted
+
+
+def tell(program, word, path, answers):
+    """Asks the questions of a file in one way, and prints a line. Whether the answers are right."""
+    if answers and not is_right(program, word, path, answers):
+        print(f"{os.path.basename(path)} {word}: other answers")
+        return False
+    with open(path, encoding="utf-8") as it:
+        count = sum(1 for _ in it)
+    ask, read = [program, word or "solve", "quiet"], [program, "read", "quiet"]
+    micros = 1e6 * (seconds_of(ask, path) - seconds_of(read, path)) / count
+    each, shares = "-", ""
+    if shutil.which("valgrind"):
+        taken = instructions_of(ask, path)
+        taken.subtract(instructions_of(read, path))
+        whole = sum(taken.values())
+        each = whole // count
+        shares = ", ".join(f"{part} {100 * it // whole} %" for part, it in taken.most_common() if 100 * it >= whole)
+    print(f"{os.path.basename(path):16} {word or 'solve':8} {count:6} {micros:10.1f} {each:>12}  {shares}", flush=True)
+    return True
+
+
+def main():
+    program, folder = sys.argv[1:]
+    print(f"{'file':16} {'asked':8} {'count':>6} {'micros':>10} {'instructions':>12}  shares")
+    right = True
+    for name in sorted(it for it in os.listdir(folder) if it.endswith(".txt")):
+        path = os.path.join(folder, name)
+        answers = path.removesuffix(".txt") + ".answers"
+        answers = answers if os.path.exists(answers) else None
+        for word in ("", "refutes", "entails"):
+            right = tell(program, word, path, answers) and right
+    sys.exit(0 if right else 1)
+
+
+if __name__ == "__main__":
+    main()
