@@ -5,10 +5,9 @@ usage: questions.py PROGRAM FOLDER
 FOLDER has files NAME.txt with a question a line (a letter, a blank, and rows `COEFFICIENT*COLUMN .. CONSTANT`, each ended by
 `;`), and NAME.answers with what they come to. The program asks those of standard input: with no word it writes the answers,
 with `refutes` it also checks each certificate, with `entails` it asks whether all rows but the last one entail the negation of
-that one, and with `read` it asks nothing; a second word keeps it quiet. Answers are compared line by line. What it takes to
-read the questions is subtracted. It prints, for each file and each way of asking, the questions, the user and system time and,
-where valgrind is there, the instructions of a question, and then the shares of these. The status is 1 where an answer is
-another one.
+that one, and with `read` it asks nothing; a second word keeps it quiet. Answers are compared line by line. For each file and each
+way of asking it prints how many questions there are and, where valgrind is there, the instructions of a question, less those
+of reading it, with the shares of what they are for. The status is 1 where an answer is another one.
 """
 import collections
 import os
@@ -17,8 +16,6 @@ import shutil
 import subprocess
 import sys
 import tempfile
-
-import measure
 
 # What a function does, by its name; the first that fits.
 PARTS = (
@@ -51,11 +48,6 @@ def instructions_of(command, path):
     return sums
 
 
-def seconds_of(command, path):
-    given = {"runs": 3, "status": 0, "text": ".*", "input": path, "count": False, "own": None}
-    return min(measure.run(command, given)[1] for _ in range(given["runs"]))
-
-
 def is_right(program, word, path, answers):
     """Whether the answers are those of the file, with the values of points where no word is given."""
     with open(path, "rb") as source:
@@ -75,7 +67,6 @@ def tell(program, word, path, answers):
     with open(path, encoding="utf-8") as it:
         count = sum(1 for _ in it)
     ask, read = [program, word or "solve", "quiet"], [program, "read", "quiet"]
-    micros = 1e6 * (seconds_of(ask, path) - seconds_of(read, path)) / count
     each, shares = "-", ""
     if shutil.which("valgrind"):
         taken = instructions_of(ask, path)
@@ -83,13 +74,13 @@ def tell(program, word, path, answers):
         whole = sum(taken.values())
         each = whole // count
         shares = ", ".join(f"{part} {100 * it // whole} %" for part, it in taken.most_common() if 100 * it >= whole)
-    print(f"{os.path.basename(path):16} {word or 'solve':8} {count:6} {micros:10.1f} {each:>12}  {shares}", flush=True)
+    print(f"{os.path.basename(path):16} {word or 'solve':8} {count:6} {each:>12}  {shares}", flush=True)
     return True
 
 
 def main():
     program, folder = sys.argv[1:]
-    print(f"{'file':16} {'asked':8} {'count':>6} {'micros':>10} {'instructions':>12}  shares")
+    print(f"{'file':16} {'asked':8} {'count':>6} {'instructions':>12}  shares")
     right = True
     for name in sorted(it for it in os.listdir(folder) if it.endswith(".txt")):
         path = os.path.join(folder, name)

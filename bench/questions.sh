@@ -1,6 +1,7 @@
 #!/bin/sh
-# The solver on questions of files, as bench/questions.py says: whether its answers are those of the files, what a question
-# takes, and where its instructions go. The program that asks is built, proved, in a copy of the crates that it needs.
+# The solver on questions of files, as bench/questions.py says: whether its answers are those of the files, how many
+# instructions a question takes, and what they are for. The program that asks is built, proved, in a copy of the crates that it
+# needs.
 # usage: bench/questions.sh FOLDER [DIRECTORY]   (where the copy is made or found; a temporary one, if none is given)
 . "$(dirname "$0")/common.sh"
 [ -d "$1" ] || { echo "usage: bench/questions.sh FOLDER [DIRECTORY]" >&2; exit 64; }
