@@ -258,29 +258,29 @@ fn entails_one_atom_after_the_other(rt: HostRuntime) -> Result<(), Fail> {
     Ok(())
 }
 
-/// Columns 0 and 1 in the multiples 1 and 20, 2 and 19, and so on, each sum from `low` to `high`.
-fn fan(alloc: Global, low: i64, high: i64) -> Result<Cube, LinError> {
+/// Columns 0 and 1 in the multiples 1 and 20, 2 and 19, and so on: each sum is at least `least`,
+/// and at most 0 together with `above`.
+fn fan(alloc: Global, least: i64, above: i64) -> Result<Cube, LinError> {
     let mut atoms = Atoms::new(alloc);
-    for first in 1..21 {
+    for place in 1u8..21 {
+        let first = i64::from(place);
         let second = 21 - first;
-        push_row(&mut atoms, alloc, &(&[(first, 0), (second, 1)], -high))?;
-        push_row(&mut atoms, alloc, &(&[(-first, 0), (-second, 1)], low))?;
+        push_row(&mut atoms, alloc, &(&[(first, 0), (second, 1)], above))?;
+        push_row(&mut atoms, alloc, &(&[(-first, 0), (-second, 1)], least))?;
     }
     Ok(Cube { atoms })
 }
 
-fn fan_has_point(alloc: Global, low: i64, high: i64, x: i64, y: i64) -> Result<bool, LinError> {
-    let cube = fan(alloc, low, high)?;
-    match solve(alloc, &cube)? {
-        Solved::Point(at) => Ok(at.values() == [(0, x), (1, y)].as_slice() && cube.holds(&at)),
+fn fan_has_point(alloc: Global, fan: &Cube, x: i64, y: i64) -> Result<bool, LinError> {
+    match solve(alloc, fan)? {
+        Solved::Point(at) => Ok(at.values() == [(0, x), (1, y)].as_slice() && fan.holds(&at)),
         _ => Ok(false),
     }
 }
 
-fn fan_is_refuted(alloc: Global, low: i64, high: i64) -> Result<bool, LinError> {
-    let cube = fan(alloc, low, high)?;
-    match solve(alloc, &cube)? {
-        Solved::Never(certificate) => Ok(refutes(&cube, &certificate)),
+fn is_refuted(alloc: Global, cube: &Cube) -> Result<bool, LinError> {
+    match solve(alloc, cube)? {
+        Solved::Never(certificate) => Ok(refutes(cube, &certificate)),
         _ => Ok(false),
     }
 }
@@ -289,17 +289,19 @@ fn fan_is_refuted(alloc: Global, low: i64, high: i64) -> Result<bool, LinError> 
 #[test]
 fn solves_many_rows_of_two_columns(rt: HostRuntime) -> Result<(), Fail> {
     let alloc = rt.alloc();
-    for (low, high, x, y) in [
-        (300, 400, 15, 15),
-        (300, 320, 15, 15),
-        (295, 335, 15, 14),
-        (-320, -300, -15, -15),
+    for (least, above, x, y) in [
+        (300, -400, 15, 15),
+        (300, -320, 15, 15),
+        (295, -335, 15, 14),
+        (-320, 300, -15, -15),
     ] {
-        let found = fan_has_point(alloc, low, high, x, y)?;
+        let cube = fan(alloc, least, above)?;
+        let found = fan_has_point(alloc, &cube, x, y)?;
         assert!(rt; found);
     }
-    for (low, high) in [(310, 312), (316, 318), (400, 399)] {
-        let refuted = fan_is_refuted(alloc, low, high)?;
+    for (least, above) in [(310, -312), (316, -318), (400, -399)] {
+        let cube = fan(alloc, least, above)?;
+        let refuted = is_refuted(alloc, &cube)?;
         assert!(rt; refuted);
     }
     Ok(())
