@@ -32,6 +32,5 @@ pub mod Gathering
 pub mod Putting
 pub mod Narrowing
 pub mod BranchTable
-pub mod SmallRows
 pub mod Rechaining
 pub mod TwoColumns

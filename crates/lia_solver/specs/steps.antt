@@ -11,6 +11,5 @@ pub mod Lines
 pub mod Numbers
 pub mod TwoColumns
 pub mod Searches
-pub mod SmallRows
 pub mod Solved
 pub mod Tables

@@ -4,18 +4,19 @@ ghost use Rattle.std.specs.Prelude.{◌≡◌, ◌<◌, ◌+◌, true, false, le
 ghost use Rattle.linear_formula.specs.LinearSum.{is_within};
 ghost use Rattle.linear_formula.specs.steps.Order.{AllWithin};
 ghost use Rattle.shadow_elim.specs.Elimination.{pair_sum};
+ghost use Rattle.shadow_elim.specs.steps.SmallRows.{IsSized, AreLimited};
 ghost use Rattle.lia_solver.specs.declared.table.Origin.TheVariants as origin;
 ghost use Rattle.lia_solver.specs.steps.Entries.{sum_at, bounds_above, bounds_below, ArePaired};
 ghost use Rattle.lia_solver.specs.steps.TwoColumns.{AreSides};
-ghost use Rattle.lia_solver.specs.steps.SmallRows.{IsSized, AreLimited};
 ghost use Rattle.lia_solver.specs.steps.Tables.{starts_from, passed, AreRows, IsPut, IsGrown, IsSummed, AreLowerPlaces, HasWide, AreNarrow, IsLeft};
 
 use crate::pairing::{Made, combine, measure};
-use crate::slight::{Sizes, do_fit, sizes_at, sizes_of_all};
+use crate::slight::{sizes_at, sizes_of_all};
 use crate::table::{Origin, Table};
 use crate::two_columns::{Sides, is_needless, sides_of};
 use linear_formula::error::{LinError, OutOfMemory};
 use shadow_elim::limit::MAX_ROWS;
+use shadow_elim::sizes::{Sizes, do_fit};
 use std::alloc::{AllocError, Global};
 
 /// Lists that each column uses anew.

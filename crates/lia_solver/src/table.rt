@@ -10,12 +10,14 @@ use linear_formula::error::OutOfMemory;
 use std::alloc::{AllocError, Global};
 use std::marker::Model;
 
-/// How many chains the rows are in, by their coefficients: few enough to clear at once, and many
-/// from so many rows on.
+/// How many chains the rows are in at the start, by their coefficients: few enough to clear at
+/// once.
 const FEW: usize = 64;
 
+/// How many chains there are once there are `GROWN` rows.
 const MANY: usize = 4096;
 
+/// From so many rows on there are `MANY` chains.
 const GROWN: usize = 256;
 
 /// How a row follows.

@@ -35,3 +35,6 @@ pub mod Standing
 pub mod Needless
 pub mod Weaker
 pub mod PlainRows
+pub mod FittingSums
+pub mod Growing
+pub mod TooMany

@@ -3,7 +3,7 @@ use Rattle.std.proofs.Common.{◌≡◌, ℕ, suc, ◌+◌, ◌<◌, Bool, true,
 use Rattle.std.specs.Prelude.{All, Contains, filter, flat_map, nat_lt, int_lt, if◌then◌else◌}
 use Rattle.std.specs.List.{list_all, sum_by}
 use Rattle.std.proofs.lemmas.Bool.{ltb-true, ltb-false}
-use Rattle.std.proofs.lemmas.List.{append_assoc, take_all, drop_more, get_or_append_left, get_or_at, length-append}
+use Rattle.std.proofs.lemmas.List.{append_assoc, take_all, drop_more, get_or_append_left, get_or_at, length-append, map-append}
 use Rattle.std.proofs.lemmas.List.Elements.{All-nil, All-contains, All-weaker}
 use Rattle.linear_formula.specs.LinearSum.{LinearSum, coefficient, is_within, is_zero}
 use Rattle.infeasible_cert.specs.Right.{AreRightSteps, rows_after}
@@ -17,9 +17,10 @@ use Rattle.shadow_elim.specs.Elimination.{is_upper, is_lower, is_free, pair_sum,
 use Rattle.shadow_elim.specs.Reduction.{reduced, SameReduced}
 use Rattle.shadow_elim.specs.Stages.{terms_of, IsStage, AreStages, AreNumbered}
 use Rattle.shadow_elim.specs.steps.Making.{candidate_terms, candidates, steps_of, numbered, AreTerms, AllFounded, IsFounded}
-use Rattle.shadow_elim.specs.steps.Lists.{list_at, names, Hold, staying, AreAllFounded, AreAdded, AreTaken}
+use Rattle.shadow_elim.specs.steps.Lists.{list_at, names, Hold, staying, AreAllFounded, AreAdded, AreTaken, AreTooMany}
 use Rattle.shadow_elim.proofs.Assembling.{terms-candidates, terms-numbered}
 use Rattle.shadow_elim.proofs.Filtering.{filter-reduced, reduced-again}
+use Rattle.shadow_elim.proofs.Growing.{reduced-grows}
 use Rattle.shadow_elim.proofs.Holding.{names-respects, hold-agree, hold-reduced, hold-same, hold-none, hold-count, none-at}
 use Rattle.shadow_elim.proofs.MadeRight.{candidates-founded, founded-from_all, founded-grows, steps-right, numbers-right, rows_after-append, length-rows_after, right-append}
 use Rattle.shadow_elim.proofs.Passing.{passing-more, passing-stop}
@@ -115,24 +116,57 @@ same-pairs x rows now u l =
 abbrev left_by : ℕ → List LinearSum → List LinearSum
 left_by x rows = reduced (filter (is_free x) rows ++ map tightened (pair_sums x rows))
 
+spread-left : (x : ℕ) (xs : List ℕ) (rows : List LinearSum) (now : List Row) (lists : List (List Candidate)) →
+    (s : IsSpread x xs rows (terms_of now) lists) → reduced (s.held ++ candidate_terms (candidates x now)) ≡ left_by x rows
+spread-left x xs rows now lists s =
+    let news = map tightened (pair_sums x (terms_of now)) in
+    ap (λ (ts : List LinearSum). reduced (s.held ++ ts)) (terms-candidates x now)
+    ∙ ap reduced (sym (append_assoc s.held (filter (is_free x) (terms_of now)) news)) ∙ s.frees news
+    ∙ ap (λ (ts : List LinearSum). reduced (filter (is_free x) rows ++ map tightened ts))
+    (same-pairs x rows (terms_of now) s.uppers s.lowers)
+
+within-counted : (x : ℕ) (rows now : List LinearSum) → filter (is_upper x) now ≡ filter (is_upper x) rows →
+    filter (is_lower x) now ≡ filter (is_lower x) rows → list_all is_within (pair_sums x now) ≡ true →
+    after_column x rows ≡ counted (left_by x rows)
+within-counted x rows now u l w =
+    ap (λ (b : Bool). if b then counted (left_by x rows) else wide) (ap (list_all is_within) (sym (same-pairs x rows now u l)) ∙ w)
+
 pub past-column : (x : ℕ) (xs : List ℕ) (rows : List LinearSum) (now : List Row) (old new : List (List Candidate)) →
     IsSpread x xs rows (terms_of now) old → AreAdded xs (candidates x now) old new →
     list_all is_within (pair_sums x (terms_of now)) ≡ true → IsPast x xs rows (left_by x rows) new
 past-column x xs rows now old new s a w =
-    let news = map tightened (pair_sums x (terms_of now)) in
-    let sums = same-pairs x rows (terms_of now) s.uppers s.lowers in
     let all = s.held ++ candidate_terms (candidates x now) in
-    let e : reduced all ≡ left_by x rows = ap (λ (ts : List LinearSum). reduced (s.held ++ ts)) (terms-candidates x now)
-    ∙ ap reduced (sym (append_assoc s.held (filter (is_free x) (terms_of now)) news)) ∙ s.frees news
-    ∙ ap (λ (ts : List LinearSum). reduced (filter (is_free x) rows ++ map tightened ts)) sums in
+    let e = spread-left x xs rows now old s in
     let h = a.hold s.held s.hold in
     record {
-      after = ap (λ (b : Bool). if b then counted (left_by x rows) else wide) (ap (list_all is_within) (sym sums) ∙ w);
+      after = within-counted x rows (terms_of now) s.uppers s.lowers w;
       hold = hold-same xs (reduced all) (left_by x rows) new e (hold-reduced xs all new h);
       again = reduced-again (filter (is_free x) rows ++ map tightened (pair_sums x rows));
       size = hold-count xs all new (a.count ∙ s.count) h ∙ ap length e;
       count = a.count ∙ s.count;
     }
+
+-- where some candidates are too many already, all are
+past-many : (x : ℕ) (xs : List ℕ) (rows : List LinearSum) (now : List Row) (old new : List (List Candidate)) →
+    IsSpread x xs rows (terms_of now) old → AreTooMany xs (candidates x now) old new →
+    list_all is_within (pair_sums x (terms_of now)) ≡ true → after_column x rows ≡ too_many
+past-many x xs rows now old new s m w =
+    let part = s.held ++ candidate_terms m.first in
+    let rest = candidate_terms m.rest in
+    let size = hold-count xs part new (m.added.count ∙ s.count) (m.added.hold s.held s.hold) in
+    let split : s.held ++ candidate_terms (candidates x now) ≡ part ++ rest = ap (λ (cs : List Candidate). s.held ++ candidate_terms cs)
+    m.split ∙ ap (λ (ts : List LinearSum). s.held ++ ts) (map-append (λ (c : Candidate). c.term) m.first m.rest)
+    ∙ sym (append_assoc s.held (candidate_terms m.first) rest) in
+    let left = ap length (ap reduced (sym split) ∙ spread-left x xs rows now old s) in
+    let many : 4096 < length (left_by x rows) = omega (
+      arith,
+      size,
+      left,
+      reduced-grows part rest,
+      ltb-true 4096 (sum_by staying new) m.beyond,
+    ) in
+    within-counted x rows (terms_of now) s.uppers s.lowers w
+    ∙ ap (λ (b : Bool). if b then remains (left_by x rows) else too_many) (at_most_no (length (left_by x rows)) 4096 many)
 
 pub past-wide : (x : ℕ) (xs : List ℕ) (rows now : List LinearSum) (lists : List (List Candidate)) → IsSpread x xs rows now lists →
     list_all is_within (pair_sums x now) ≡ false → after_column x rows ≡ wide
@@ -275,6 +309,14 @@ passing-too_many columns i all done now old mid h p a w m =
     passing-stop columns i all done p.rows too_many h p.stages (past-too_many (get_or columns i 0) (drop (i + 1) columns) p.rows
     (left_by (get_or columns i 0) p.rows) mid (past-of columns i all done now old mid h p a w) m)
 
+pub passing-many : (columns : List ℕ) (i : ℕ) (all : List LinearSum) (done : List Stage) (now : List Row)
+    (old mid : List (List Candidate)) → i < length columns → IsPassing columns i all done (terms_of now) old →
+    AreTooMany (drop (i + 1) columns) (candidates (get_or columns i 0) now) old mid →
+    list_all is_within (pair_sums (get_or columns i 0) (terms_of now)) ≡ true → elimination columns all ≡ too_many
+passing-many columns i all done now old mid h p m w =
+    passing-stop columns i all done p.rows too_many h p.stages (past-many (get_or columns i 0) (drop (i + 1) columns) p.rows now old mid
+    (spread-of columns i p.rows (terms_of now) old h p.stands) m w)
+
 pub passing-next : (columns : List ℕ) (i first : ℕ) (all : List LinearSum) (now left : List Row) (done more : List Stage) (s : Stage)
     (old mid new : List (List Candidate)) (before after : List Derived) → i < length columns →
     IsPassing columns i all done (terms_of now) old → IsStage (get_or columns i 0) (terms_of now) s →
@@ -314,3 +356,8 @@ pub all-others : (xs : List ℕ) (n : ℕ) (cs : List Candidate) (old new : List
     old new → AreAdded (drop n xs) cs old new
 all-others xs n cs old new h =
     subst (λ (ys : List ℕ). AreAdded ys cs old new) (take_all (length xs - n) (drop n xs) (omega (arith, length-drop n xs))) h
+
+pub all-others_many : (xs : List ℕ) (n : ℕ) (cs : List Candidate) (old new : List (List Candidate)) →
+    AreTooMany (take (length xs - n) (drop n xs)) cs old new → AreTooMany (drop n xs) cs old new
+all-others_many xs n cs old new h =
+    subst (λ (ys : List ℕ). AreTooMany ys cs old new) (take_all (length xs - n) (drop n xs) (omega (arith, length-drop n xs))) h

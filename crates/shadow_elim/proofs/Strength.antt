@@ -53,6 +53,9 @@ test-from_AsStrong t s h =
     and_from (same_parts s t) (int_le t.constant s.constant) ((Decides-same_list s.parts t.parts).1 h.parts)
     (int_le-from t.constant s.constant h.constant)
 
+pub strong-itself : (t : LinearSum) → is_as_strong t t ≡ true
+strong-itself t = test-from_AsStrong t t (record { parts = refl; constant = omega (arith, ints) })
+
 -- s is stronger than t
 pub record Stronger (t s : LinearSum) : Type 0 where
   pub parts : s.parts ≡ t.parts

@@ -29,7 +29,7 @@ use Rattle.shadow_elim.proofs.PairSums.{balance, upper-is, lower-is}
 use Rattle.shadow_elim.proofs.Reducing.{reduced-needless}
 use Rattle.shadow_elim.proofs.Reductions.{same-then}
 use Rattle.shadow_elim.proofs.Splitting.{filter_in, filter_out}
-use Rattle.shadow_elim.proofs.Strength.{AsStrong, AsStrong-from_test, test-from_AsStrong}
+use Rattle.shadow_elim.proofs.Strength.{strong-itself, AsStrong, AsStrong-from_test, test-from_AsStrong}
 use Rattle.shadow_elim.proofs.Tests.{first_true}
 use Rattle.shadow_elim.proofs.Tightening.{ceiling-bounds}
 
@@ -144,9 +144,6 @@ within-weaker x u s l r iu il hu hl su sl w =
       coefficients = subst (λ ps. AllWithin ps) e v.coefficients;
       constant_limit = small-constant x u l iu il hu hl;
     })
-
-pub strong-itself : (t : LinearSum) → is_as_strong t t ≡ true
-strong-itself t = test-from_AsStrong t t (itself-strong t)
 
 -- A needless row changes no list
 

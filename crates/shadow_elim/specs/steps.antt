@@ -2,4 +2,5 @@ pub mod Making
 pub mod Places
 pub mod Lists
 pub mod Marks
+pub mod SmallRows
 pub mod Plain

@@ -5,16 +5,19 @@ ghost use Rattle.std.specs.List.{list_all};
 ghost use Rattle.linear_formula.specs.LinearSum.{is_within};
 ghost use Rattle.shadow_elim.specs.Elimination.{is_upper, is_lower, pair_sum, pair_sums};
 ghost use Rattle.shadow_elim.specs.steps.Making.{uppers, lowers, frees, known, made, made_of_all, candidates, step_of, steps_of, numbered, AreTerms};
-ghost use Rattle.shadow_elim.specs.steps.Lists.{AreAdded, AreTaken};
+ghost use Rattle.shadow_elim.specs.steps.Lists.{AreAdded, AreTaken, AreTooMany};
 ghost use Rattle.shadow_elim.specs.steps.Marks.{IsSmall, AreMarked};
+ghost use Rattle.shadow_elim.specs.steps.SmallRows.{NoneIsWide};
 ghost use Rattle.shadow_elim.specs.Stages.{terms_of, IsStage};
 
 use crate::elimination::Stage;
-use crate::lists::add_row;
+use crate::limit::MAX_ROWS;
+use crate::lists::{add_row, is_seen_beyond};
 use crate::pairing::{Candidate, Making, Origin, combine};
 use crate::reduction::Reduction;
 use crate::row::Row;
 use crate::shadow::ShadowError;
+use crate::sizes::do_all_fit;
 use crate::skipping::{are_both_small, is_skipped, marks_of};
 use infeasible_cert::certificate::{Derived, Multiples};
 use linear_formula::error::{LinError, OutOfMemory};
@@ -111,6 +114,8 @@ fn add_pairs_of(
     Ok(())
 }
 
+/// Adds the rows of all pairs, until it is seen that too many stay. Where a sum may be too wide,
+/// all are added.
 fn add_pairs(
     lists: &mut Vec<Reduction>,
     alloc: Global,
@@ -118,24 +123,28 @@ fn add_pairs(
     column: u32,
     uppers: &[Row],
     lowers: &[Row],
-) -> Result<(), LinError>
+) -> Result<(), ShadowError>
     requires lists { length others.now < length lists.old.items }
     requires uppers { All (λ u. IsTrue (is_upper column u.term)) uppers.now }
     requires lowers { All (λ l. IsTrue (is_lower column l.term)) lowers.now }
-    ensures within { OnOk result
-        (All (λ u. All (λ l. IsTrue (is_within (pair_sum column (u.term, l.term)))) lowers.now)
-        uppers.now) }
+    ensures within { OnOk result (NoneIsWide column uppers.now lowers.now) }
     ensures added { OnOk result (AreAdded others.now (made_of_all column uppers.now lowers.now)
         lists.old.items lists.new.items) }
-    ensures wide { IsErrOf result LinError.Wide → ¬ All
-        (λ u. All (λ l. IsTrue (is_within (pair_sum column (u.term, l.term)))) lowers.now)
-        uppers.now }
+    ensures wide { IsErrOf result ShadowError.Wide → ¬ NoneIsWide column uppers.now lowers.now }
+    ensures narrow { IsErrOf result ShadowError.Rows → NoneIsWide column uppers.now lowers.now }
+    ensures rows { IsErrOf result ShadowError.Rows → AreTooMany others.now
+        (made_of_all column uppers.now lowers.now) lists.old.items lists.new.items }
 {
     let are_small = are_both_small(column, uppers, lowers);
+    let do_fit = do_all_fit(uppers, lowers);
     let marks = marks_of(alloc, lowers, are_small)?;
+    let mut counted = MAX_ROWS;
     for (place, upper) in uppers.iter().enumerate() {
         if !is_skipped(uppers, place, are_small) {
             add_pairs_of(lists, alloc, others, column, upper, lowers, &marks)?;
+        }
+        if do_fit && is_seen_beyond(lists, &mut counted) {
+            return Err(ShadowError::Rows);
         }
     }
     Ok(())
@@ -230,7 +239,10 @@ pub fn eliminate_column(
     ensures terms { IfOk result (λ _. AreTerms rows.items) }
     ensures wide { IsErrOf result ShadowError.Wide → list_all is_within
         (pair_sums column (terms_of rows.items)) ≡ false }
-    ensures rows { IsErrOf result ShadowError.Rows → ⊥ }
+    ensures narrow { IsErrOf result ShadowError.Rows → IsTrue (list_all is_within
+        (pair_sums column (terms_of rows.items))) }
+    ensures rows { IsErrOf result ShadowError.Rows → AreTooMany others.now
+        (candidates column rows.items) lists.old.items lists.new.items }
 {
     let Sides {
         uppers,

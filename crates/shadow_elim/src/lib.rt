@@ -14,5 +14,6 @@ pub mod projection;
 mod reduction;
 pub mod row;
 pub mod shadow;
+pub mod sizes;
 mod skipping;
 pub mod sum;

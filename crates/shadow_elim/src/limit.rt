@@ -1,11 +1,13 @@
 //! Limits that a question met.
 
-ghost use Rattle.std.specs.Prelude.{◌≡◌};
+ghost use Rattle.std.specs.Prelude.{◌≡◌, IfOk};
 ghost use Rattle.shadow_elim.specs.LimitKinds.{kind_of};
 
 use crate::shadow::Pair;
+use linear_formula::error::OutOfMemory;
 use linear_formula::formula::Cube;
 use linear_formula::question::Question;
+use std::alloc::Global;
 use std::marker::Model;
 
 /// How many columns a cube may name.
@@ -47,6 +49,16 @@ impl Cubes {
         items
     }
 
+    pub fn copy(&self, alloc: Global) -> Result<Cubes, OutOfMemory>
+        ensures { IfOk result (λ cubes. cubes ≡ self.now) }
+    {
+        let mut items = Vec::with_capacity(alloc, self.items.len())?;
+        for cube in &self.items {
+            items.push(cube.copy(alloc)?)?;
+        }
+        Ok(Cubes { items })
+    }
+
     pub fn as_slice(&self) -> &[Cube]
         ensures { result.now ≡ self.now }
     {
@@ -70,6 +82,24 @@ pub enum Limit {
 }
 
 impl Limit {
+    pub fn copy(&self, alloc: Global) -> Result<Limit, OutOfMemory>
+        ensures { IfOk result (λ limit. limit ≡ self.now) }
+    {
+        match self {
+            Limit::Columns => Ok(Limit::Columns),
+            Limit::Wide { branch } => Ok(Limit::Wide {
+                branch: branch.copy(alloc)?,
+            }),
+            Limit::Rows { branch } => Ok(Limit::Rows {
+                branch: branch.copy(alloc)?,
+            }),
+            Limit::Branches { branches } => Ok(Limit::Branches {
+                branches: branches.copy(alloc)?,
+            }),
+            Limit::Inexact(pair) => Ok(Limit::Inexact(pair.copy(alloc)?)),
+        }
+    }
+
     pub fn kind(&self) -> LimitKind
         ensures { result ≡ kind_of self.now }
     {
@@ -98,4 +128,16 @@ pub enum LimitKind {
 pub struct Kept {
     pub question: Question,
     pub limit: Limit,
+}
+
+impl Kept {
+    pub fn copy(&self, alloc: Global) -> Result<Kept, OutOfMemory>
+        ensures { IfOk result (λ kept. kept ≡ self.now) }
+    {
+        let question = self.question.copy(alloc)?;
+        Ok(Kept {
+            question,
+            limit: self.limit.copy(alloc)?,
+        })
+    }
 }

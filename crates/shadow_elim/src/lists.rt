@@ -1,7 +1,7 @@
 //! Rows in lists by the first of the columns that they name, so that a row isn't touched before its
 //! column.
 
-ghost use Rattle.std.specs.Prelude.{◌≡◌, ◌∷◌, ◌<◌, ◌≤◌, [], All, false, length, nat_lt, IfOk, OnOk};
+ghost use Rattle.std.specs.Prelude.{◌≡◌, ◌∷◌, ◌<◌, ◌≤◌, ◌^◌, ◌-◌, [], All, true, false, length, nat_lt, IfOk, OnOk};
 ghost use Rattle.std.specs.List.{sum_by};
 ghost use Rattle.shadow_elim.specs.steps.Lists.{rank, staying, AreAdded};
 
@@ -52,15 +52,15 @@ pub fn add_row(
     lists[place].add(alloc, row)
 }
 
-/// Whether there are more than `MAX_ROWS` rows, some of which may not stay.
-fn has_many(lists: &[Reduction]) -> bool
-    ensures { result ≡ false → sum_by staying lists.now ≤ MAX_ROWS }
+/// How many rows there are, some of which may not stay.
+fn listed(lists: &[Reduction]) -> usize
+    ensures { result < 2 ^ 64 - 1 → sum_by staying lists.now ≤ result }
 {
-    let mut most: usize = 0;
+    let mut listed: usize = 0;
     for list in lists {
-        most = most.saturating_add(list.len());
+        listed = listed.saturating_add(list.len());
     }
-    most > MAX_ROWS
+    listed
 }
 
 fn keeps_many(lists: &[Reduction]) -> bool
@@ -77,5 +77,17 @@ fn keeps_many(lists: &[Reduction]) -> bool
 pub fn is_beyond(lists: &[Reduction]) -> bool
     ensures { result ≡ nat_lt MAX_ROWS (sum_by staying lists.now) }
 {
-    has_many(lists) && keeps_many(lists)
+    listed(lists) > MAX_ROWS && keeps_many(lists)
+}
+
+/// Whether more than `MAX_ROWS` rows stay, where it is seen: they are counted only where there are
+/// more than `rows`, which is doubled then, so that all counting takes no longer than the adding.
+pub fn is_seen_beyond(lists: &[Reduction], rows: &mut usize) -> bool
+    ensures { result ≡ true → nat_lt MAX_ROWS (sum_by staying lists.now) ≡ true }
+{
+    if listed(lists) <= *rows {
+        return false;
+    }
+    *rows = rows.saturating_mul(2);
+    keeps_many(lists)
 }

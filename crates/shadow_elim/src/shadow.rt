@@ -1,13 +1,13 @@
 //! What an elimination leaves.
 
-ghost use Rattle.std.specs.Prelude.{◌≡◌};
+ghost use Rattle.std.specs.Prelude.{◌≡◌, IfOk};
 ghost use Rattle.shadow_elim.specs.declared.shadow.ShadowError.TheVariants.{Memory};
 ghost use Rattle.shadow_elim.specs.Errors.{shadow_error_of};
 
 use infeasible_cert::certificate::Derived;
-use linear_formula::error::LinError;
+use linear_formula::error::{LinError, OutOfMemory};
 use linear_formula::formula::{Atom, Cube};
-use std::alloc::{AllocError, AllocFailed};
+use std::alloc::{AllocError, AllocFailed, Global};
 use std::marker::Model;
 use thiserror::Error;
 
@@ -17,6 +17,19 @@ pub struct Pair {
     pub column: u32,
     pub upper: Atom,
     pub lower: Atom,
+}
+
+impl Pair {
+    pub fn copy(&self, alloc: Global) -> Result<Pair, OutOfMemory>
+        ensures { IfOk result (λ pair. pair ≡ self.now) }
+    {
+        let upper = self.upper.copy(alloc)?;
+        Ok(Pair {
+            column: self.column,
+            upper,
+            lower: self.lower.copy(alloc)?,
+        })
+    }
 }
 
 /// A cube that every point of an elimination meets.

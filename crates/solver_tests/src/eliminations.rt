@@ -111,6 +111,23 @@ fn leaves_at_most_4096_rows(rt: HostRuntime) -> Result<(), Fail> {
     Ok(())
 }
 
+/// The same, with a pair at the end whose sum is too wide.
+fn wide_fan(alloc: Global, each: u8) -> Result<Cube, LinError> {
+    let mut cube = fan(alloc, each)?;
+    push_row(&mut cube.atoms, alloc, &(&[(1 << 40, 0), (-1, 1)], 0))?;
+    push_row(&mut cube.atoms, alloc, &(&[(2, 2), (-3, 0)], 0))?;
+    Ok(cube)
+}
+
+#[test]
+fn looks_for_a_wide_sum_behind_too_many_rows(rt: HostRuntime) -> Result<(), Fail> {
+    let alloc = rt.alloc();
+    let rows = left(alloc, fan(alloc, 150)) == Err(ShadowError::Rows);
+    let wide = left(alloc, wide_fan(alloc, 70)) == Err(ShadowError::Wide);
+    assert!(rt; rows && wide);
+    Ok(())
+}
+
 #[test]
 fn limits_have_kinds(rt: HostRuntime) -> Result<(), Fail> {
     assert!(rt; Limit::Columns.kind() == LimitKind::Columns);

@@ -1,8 +1,10 @@
 -- Rows in lists by the first of the columns that they name.
-use Rattle.std.specs.Prelude.{◌≡◌, ℕ, suc, ◌+◌, Bool, List, [], ◌∷◌, ◌++◌, All, Contains, filter, not, length, slice_index_or, if◌then◌else◌}
+use Rattle.std.specs.Prelude.{◌≡◌, ℕ, suc, ◌+◌, Bool, true, nat_lt, List, [], ◌∷◌, ◌++◌, All, Contains, filter, not, length, slice_index_or, if◌then◌else◌}
+use Rattle.std.specs.List.{sum_by}
 use Rattle.linear_formula.specs.LinearSum.{LinearSum}
 use Rattle.infeasible_cert.specs.declared.certificate.Derived.{Derived}
 use Rattle.shadow_elim.specs.declared.row.Row.{Row}
+use Rattle.shadow_elim.specs.declared.limit.TheConstants.{MAX_ROWS}
 use Rattle.shadow_elim.specs.declared.pairing.Candidate.{Candidate}
 use Rattle.shadow_elim.specs.Elimination.{is_free}
 use Rattle.shadow_elim.specs.Reduction.{reduced, SameReduced}
@@ -53,3 +55,12 @@ pub record AreTaken (first : ℕ) (old new : List (List Candidate)) (before afte
   pub among : All (λ c. Contains last c) kept
   pub rows : left ≡ numbered (first + length before) kept
   pub steps : after ≡ before ++ steps_of kept
+
+-- the first of the candidates were added, and more than `MAX_ROWS` rows stay already
+pub record AreTooMany (columns : List ℕ) (all : List Candidate) (old new : List (List Candidate)) :
+    Type 0 where
+  pub first : List Candidate
+  pub rest : List Candidate
+  pub split : all ≡ first ++ rest
+  pub added : AreAdded columns first old new
+  pub beyond : nat_lt MAX_ROWS (sum_by staying new) ≡ true

@@ -1,5 +1,7 @@
 use Rattle.std.proofs.Common.{get_or, Err, ap}
-use Rattle.lia_solver.proofs.SmallRows.{fit-within}
+use Rattle.shadow_elim.proofs.FittingSums.{fit-within}
+use Rattle.lia_solver.specs.steps.Entries.{sum_at}
+use Rattle.lia_solver.proofs.FirstColumns.{above-upper, below-lower}
 use Rattle.lia_solver.proofs.Summing.{listed-there, paired-of, narrow-more}
 use Rattle.lia_solver.proofs.eliminate.are_narrow.Goals as goal
 
@@ -26,6 +28,10 @@ loop-lower-preserved c =
 
 pub returns-then-do_fit-clause-sums : goal.returns-then-do_fit-clause-sums
 returns-then-do_fit-clause-sums c = λ _ l k.
-    fit-within c.args.column c.args.table.now c.args.upper l c.sizes_at.result c.args.sizes
-    (paired-of c.args.column c.args.table.now c.args.upper l c.args.lowers.now c.requires.rows c.requires.upper c.requires.lowers k)
-    c.sizes_at.ensures.sized (c.requires.sized l k) (c.do_fit.ensures c.if-do_fit.true)
+    let u = c.args.upper in
+    let rows = c.args.table.now in
+    let p = paired-of c.args.column rows u l c.args.lowers.now c.requires.rows c.requires.upper c.requires.lowers k in
+    fit-within c.args.column (sum_at rows u) (sum_at rows l) c.sizes_at.result c.args.sizes (p.terms.greatest u p.upper_place)
+    (p.terms.greatest l p.lower_place) (above-upper c.args.column (sum_at rows u) p.above)
+    (below-lower c.args.column (sum_at rows l) p.below) c.sizes_at.ensures.sized (c.requires.sized l k)
+    (c.do_fit.ensures c.if-do_fit.true)

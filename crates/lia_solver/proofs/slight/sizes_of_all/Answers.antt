@@ -1,7 +1,7 @@
 use Rattle.std.proofs.Common.{ℕ, get_or, below_more, arith, subst}
 use Rattle.lia_solver.specs.steps.Entries.{sum_at}
-use Rattle.lia_solver.specs.steps.SmallRows.{IsSized}
-use Rattle.lia_solver.proofs.SmallRows.{sized-more}
+use Rattle.shadow_elim.specs.steps.SmallRows.{IsSized}
+use Rattle.shadow_elim.proofs.FittingSums.{sized-more}
 use Rattle.lia_solver.proofs.Summing.{listed-there, listed-place}
 use Rattle.lia_solver.proofs.slight.sizes_of_all.Goals as goal
 

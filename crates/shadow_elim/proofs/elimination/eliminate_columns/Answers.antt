@@ -2,12 +2,12 @@ use Rattle.std.proofs.Common.{◌≡◌, ◌<◌, ◌+◌, true, false, List, le
 use Rattle.std.specs.Prelude.{nat_lt}
 use Rattle.std.specs.List.{sum_by}
 use Rattle.std.proofs.lemmas.Result.{err_from_is_err_and}
-use Rattle.shadow_elim.specs.declared.shadow.ShadowError.TheVariants.{Wide}
+use Rattle.shadow_elim.specs.declared.shadow.ShadowError.TheVariants.{Wide, Rows}
 use Rattle.shadow_elim.specs.declared.pairing.Candidate.{Candidate}
 use Rattle.shadow_elim.specs.Stages.{terms_of}
 use Rattle.shadow_elim.specs.steps.Lists.{staying}
 use Rattle.shadow_elim.proofs.Passing.{same_error}
-use Rattle.shadow_elim.proofs.Standing.{passing-first, passing-next, passing-wide, passing-too_many, right-first, right-next, all-others}
+use Rattle.shadow_elim.proofs.Standing.{passing-first, passing-next, passing-wide, passing-too_many, passing-many, right-first, right-next, all-others, all-others_many}
 use Rattle.shadow_elim.proofs.elimination.eliminate_columns.Goals as goal
 
 pub loop-place-init : goal.loop-place-init
@@ -43,6 +43,16 @@ returns-in_err-stage-clause-wide c = λ w.
     passing-wide c.args.columns.now c.loop-place.place (terms_of c.args.rows.items) c.loop-place.stages.items
     (terms_of c.loop-place.left.items) c.loop-place.lists.items h c.loop-place.invariant.passing
     (c.in_err-stage.ensures.wide (ap Err (same_error c.from_residual-in_err-stage.result p.0 c.in_err-stage.field-0.0 Wide p.1 p.2 w)))
+
+pub returns-in_err-stage-clause-too_many : goal.returns-in_err-stage-clause-too_many
+returns-in_err-stage-clause-too_many c = λ w.
+    let h : c.loop-place.place < length c.args.columns.now = omega arith in
+    let p = err_from_is_err_and c.from_residual-in_err-stage.result c.from_residual-in_err-stage.ensures.1 in
+    let e = ap Err (same_error c.from_residual-in_err-stage.result p.0 c.in_err-stage.field-0.0 Rows p.1 p.2 w) in
+    passing-many c.args.columns.now c.loop-place.place (terms_of c.args.rows.items) c.loop-place.stages.items c.loop-place.left.items
+    c.loop-place.lists.items c.eliminate_column.new.lists.items h c.loop-place.invariant.passing (all-others_many c.args.columns.now
+    (c.loop-place.place + 1) _ c.loop-place.lists.items c.eliminate_column.new.lists.items (c.in_err-stage.ensures.rows e))
+    (c.in_err-stage.ensures.narrow e)
 
 pub returns-then-is_beyond-clause-too_many : goal.returns-then-is_beyond-clause-too_many
 returns-then-is_beyond-clause-too_many c = λ w.

@@ -1,7 +1,9 @@
 -- Bounds of the numbers of rows, by which no sum of two of them is too wide.
-use Rattle.std.specs.Prelude.{ℕ, ℤ, pos, ◌+◌, ◌*◌, ◌^◌, ◌<◌, ◌≤◌, List, length, slice_index_or, unsigned_abs}
-use Rattle.linear_formula.specs.LinearSum.{LinearSum}
-use Rattle.lia_solver.specs.declared.slight.Sizes.{Sizes}
+use Rattle.std.specs.Prelude.{All, IsTrue, ℕ, ℤ, pos, ◌+◌, ◌*◌, ◌^◌, ◌<◌, ◌≤◌, List, length, slice_index_or, unsigned_abs}
+use Rattle.linear_formula.specs.LinearSum.{LinearSum, is_within}
+use Rattle.shadow_elim.specs.declared.row.Row.{Row}
+use Rattle.shadow_elim.specs.declared.sizes.Sizes.{Sizes}
+use Rattle.shadow_elim.specs.Elimination.{pair_sum}
 
 abbrev pub AreSized : List (ℕ × ℤ) → (count size : ℕ) → Type 0
 AreSized parts count size = (k : ℕ) → k < count →
@@ -28,3 +30,7 @@ pub record DoFit (s r : Sizes) : Type 0 where
   pub count : s.count + r.count ≤ 1024
   pub coefficients : s.coefficient * r.coefficient ≤ 2 ^ 39
   pub constants : r.coefficient * s.constant + s.coefficient * r.constant ≤ 2 ^ 84
+
+abbrev pub NoneIsWide : ℕ → (uppers lowers : List Row) → Type 0
+NoneIsWide x uppers lowers =
+    All (λ u. All (λ l. IsTrue (is_within (pair_sum x (u.term, l.term)))) lowers) uppers

@@ -2,7 +2,7 @@ use Rattle.std.proofs.Common.{ℕ, ◌≤◌, below_more, arith, ap}
 use Rattle.std.specs.Prelude.{unsigned_abs}
 use Rattle.linear_formula.proofs.Finishing.{AllWithin-at}
 use Rattle.linear_formula.proofs.Merging.{at, cast_same}
-use Rattle.lia_solver.proofs.slight.greatest.Goals as goal
+use Rattle.shadow_elim.proofs.sizes.greatest.Goals as goal
 
 pub loop-part-preserved : goal.loop-part-preserved
 loop-part-preserved c =

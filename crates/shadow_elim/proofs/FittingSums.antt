@@ -1,23 +1,22 @@
 -- The sum of two small rows is within the limits.
-use Rattle.std.proofs.Common.{◌≡◌, ℕ, suc, ◌+◌, ◌*◌, ◌^◌, ◌≤◌, Bool, true, false, List, [], ◌∷◌, length, ℤ, pos, ◌+ℤ◌, ◌*ℤ◌, nat_lt, arith, refl, sym, ap, subst}
-use Rattle.std.specs.Prelude.{IsTrue, unsigned_abs, ◌==◌, if◌then◌else◌}
+use Rattle.std.proofs.Common.{get_or, ◌≡◌, ℕ, suc, ◌+◌, ◌*◌, ◌^◌, ◌≤◌, Bool, true, false, List, [], ◌∷◌, length, ℤ, pos, ◌+ℤ◌, ◌*ℤ◌, nat_lt, arith, refl, sym, ap, subst}
+use Rattle.std.specs.Prelude.{All, IsTrue, unsigned_abs, ◌==◌, if◌then◌else◌}
 use Rattle.std.proofs.lemmas.Bool.{eq-eqb, eqb-true}
 use Rattle.std.proofs.lemmas.Int.{ints, unsigned_abs-mul}
 use Rattle.std.proofs.Math.Nat.{mul-le-mul}
-use Rattle.linear_formula.specs.LinearSum.{LinearSum, is_zero, is_within, coefficient, listed_at}
+use Rattle.linear_formula.specs.LinearSum.{LinearSum, is_zero, is_term, is_within, coefficient, listed_at}
 use Rattle.linear_formula.specs.Results.{put_part, with_part, plus_parts}
 use Rattle.linear_formula.specs.steps.Order.{InOrder, AllWithin}
 use Rattle.linear_formula.proofs.Limits.{IsTerm-from_test, test-from_Within}
 use Rattle.linear_formula.proofs.Order.{listed-absent}
 use Rattle.linear_formula.proofs.Values.{chosen, chosen_of_two}
 use Rattle.shadow_elim.specs.Division.{common_divisor}
-use Rattle.shadow_elim.specs.Elimination.{size_of, upper_multiple, lower_multiple, pair_sum}
+use Rattle.shadow_elim.specs.Elimination.{is_upper, is_lower, size_of, upper_multiple, lower_multiple, pair_sum}
 use Rattle.shadow_elim.proofs.MadeRight.{quotient-small}
 use Rattle.shadow_elim.proofs.PairSums.{balance, upper-is, lower-is, coefficient-pair_sum, order-pair_sum}
-use Rattle.lia_solver.specs.steps.Entries.{Entry, sum_at, ArePaired}
-use Rattle.lia_solver.specs.declared.slight.Sizes.{Sizes}
-use Rattle.lia_solver.specs.steps.SmallRows.{AreSized, IsSized, IsUpTo, DoFit}
-use Rattle.lia_solver.proofs.FirstColumns.{above-upper, below-lower}
+use Rattle.shadow_elim.specs.declared.row.Row.{Row}
+use Rattle.shadow_elim.specs.declared.sizes.Sizes.{Sizes}
+use Rattle.shadow_elim.specs.steps.SmallRows.{AreSized, IsSized, IsUpTo, DoFit, NoneIsWide}
 
 -- Coefficients
 
@@ -32,6 +31,10 @@ sized-more t s r h u = record {
   coefficients = λ k q. omega (arith, h.coefficients k q, u.coefficient);
   constant = omega (arith, h.constant, u.constant);
 }
+
+pub sized-same : (t : LinearSum) (ps : List (ℕ × ℤ)) (c : ℤ) (s : Sizes) → ps ≡ t.parts → c ≡ t.constant →
+    IsSized (record { parts = ps; constant = c }) s → IsSized t s
+sized-same t ps c s e f h = subst (λ (r : LinearSum). IsSized r s) (λ i. record { parts = e i; constant = f i }) h
 
 within-listed : (low : ℕ) (ps : List (ℕ × ℤ)) → InOrder low ps → ((y : ℕ) → unsigned_abs (listed_at y ps) ≤ 2 ^ 40) → AllWithin ps
 within-listed low [] o h = tt
@@ -75,9 +78,9 @@ constants-below : (a b : ℤ) (m n : ℕ) → unsigned_abs a ≤ m → unsigned_
     unsigned_abs (a +ℤ (b +ℤ pos 0)) ≤ 2 ^ 84
 constants-below a b m n h k l = omega (arith, ints, h, k, l)
 
-pub fit-within : (x : ℕ) (entries : List Entry) (up low : ℕ) (s r : Sizes) → ArePaired x entries up low → IsSized (sum_at entries up) s →
-    IsSized (sum_at entries low) r → DoFit s r → IsTrue (is_within (pair_sum x (sum_at entries up, sum_at entries low)))
-fit-within x entries up low s r p h k f = test-from_Within (pair_sum x (u, l)) (record {
+pub fit-within : (x : ℕ) (u l : LinearSum) (s r : Sizes) → IsTrue (is_term u) → IsTrue (is_term l) → IsTrue (is_upper x u) →
+    IsTrue (is_lower x l) → IsSized u s → IsSized l r → DoFit s r → IsTrue (is_within (pair_sum x (u, l)))
+fit-within x u l s r tu tl hu hl h k f = test-from_Within (pair_sum x (u, l)) (record {
   count = omega (
     arith,
     h.count,
@@ -92,12 +95,6 @@ fit-within x entries up low s r p h k f = test-from_Within (pair_sum x (u, l)) (
       k.constant)
       f.constants;
 }) where
-  u : LinearSum
-  u = sum_at entries up
-
-  l : LinearSum
-  l = sum_at entries low
-
   m : ℕ
   m = upper_multiple (size_of x u) (size_of x l)
 
@@ -105,15 +102,14 @@ fit-within x entries up low s r p h k f = test-from_Within (pair_sum x (u, l)) (
   n = lower_multiple (size_of x u) (size_of x l)
 
   ou : InOrder 0 u.parts
-  ou = (IsTerm-from_test u (p.terms.greatest up p.upper_place)).order
+  ou = (IsTerm-from_test u tu).order
 
   ol : InOrder 0 l.parts
-  ol = (IsTerm-from_test l (p.terms.greatest low p.lower_place)).order
+  ol = (IsTerm-from_test l tl).order
 
   sm : m ≤ r.coefficient
   sm =
-      let b = balance (size_of x u) (size_of x l) (upper-is x u (above-upper x u p.above)).positive
-      (lower-is x l (below-lower x l p.below)).positive in
+      let b = balance (size_of x u) (size_of x l) (upper-is x u hu).positive (lower-is x l hl).positive in
       omega (
         arith,
         quotient-small (common_divisor (size_of x u) (size_of x l)) m (size_of x l) b.divisor b.first,
@@ -122,8 +118,7 @@ fit-within x entries up low s r p h k f = test-from_Within (pair_sum x (u, l)) (
 
   sn : n ≤ s.coefficient
   sn =
-      let b = balance (size_of x u) (size_of x l) (upper-is x u (above-upper x u p.above)).positive
-      (lower-is x l (below-lower x l p.below)).positive in
+      let b = balance (size_of x u) (size_of x l) (upper-is x u hu).positive (lower-is x l hl).positive in
       omega (
         arith,
         quotient-small (common_divisor (size_of x u) (size_of x l)) n (size_of x u) b.divisor b.second,
@@ -140,3 +135,9 @@ fit-within x entries up low s r p h k f = test-from_Within (pair_sum x (u, l)) (
       (product-below m r.coefficient s.coefficient (coefficient y u) sm (listed-sized y s.coefficient u.parts h.coefficients)))
       (product-below n s.coefficient r.coefficient (coefficient y l) sn (listed-sized y r.coefficient l.parts k.coefficients))
       f.coefficients)
+
+pub all-within : (x : ℕ) (us ls : List Row) (s r : Sizes) → All (λ u. IsTrue (is_upper x u.term)) us →
+    All (λ l. IsTrue (is_lower x l.term)) ls → All (λ u. IsTrue (is_term u.term) × IsSized u.term s) us →
+    All (λ l. IsTrue (is_term l.term) × IsSized l.term r) ls → DoFit s r → NoneIsWide x us ls
+all-within x us ls s r hu hl su sl f = λ i d h j e k.
+    fit-within x (get_or us i d).term (get_or ls j e).term s r (su i d h).0 (sl j e k).0 (hu i d h) (hl j e k) (su i d h).1 (sl j e k).1 f
