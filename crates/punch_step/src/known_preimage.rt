@@ -1,37 +1,45 @@
 //! A preimage over a call by a must that is kept.
 
 ghost use Rattle.std.specs.Prelude.{◌≡◌, IfOk, IsTrue};
-ghost use Rattle.query_rules.specs.Rows.{IsMustPreimage};
-ghost use Rattle.punch_step.specs.Memos.{AreAlike};
+ghost use Rattle.punch_step.specs.Memos.{AreAlike, IsComputed};
 
 use c_tree::tree::Slot;
 use flow_graph::graph::Slots;
 use linear_formula::error::OutOfMemory;
 use linear_formula::formula::Cube;
+use shadow_elim::limit::Kept;
 use std::alloc::Global;
 use std::marker::Model;
 use summary_form::path::Path;
 
-/// The rows of a preimage, with the must, the call's slots and the target that they are of. A
-/// contract sees the rows.
+/// What the computation of a preimage came to.
+#[derive(Drop)]
+pub enum Computed {
+    Rows(Cube),
+    /// There is none at this limit. It has no cubes, since a projection splits nothing.
+    Limit(Kept),
+}
+
+/// What a preimage came to, with the must, the call's slots and the target that it is of. A
+/// contract sees what it came to.
 #[derive(Drop)]
 pub struct KnownPreimage {
     must: Path,
     args: Slots,
     slot: Slot,
     target: Cube,
-    rows: Cube,
+    computed: Computed,
 }
 
 impl Model for KnownPreimage {
-    ghost use Rattle.linear_formula.specs.declared.formula.Cube.{Cube};
-    ghost use Rattle.query_rules.specs.Rows.{IsMustPreimage};
+    ghost use Rattle.punch_step.specs.declared.known_preimage.Computed.{Computed};
+    ghost use Rattle.punch_step.specs.Memos.{IsComputed};
 
-    ghost Value = { Cube };
+    ghost Value = { Computed };
 
-    ghost view = { λ k. k.rows };
+    ghost view = { λ k. k.computed };
 
-    ghost invariant = { λ k. IsMustPreimage k.must k.args k.slot k.target.atoms k.rows.atoms };
+    ghost invariant = { λ k. IsComputed k.must k.args k.slot k.target.atoms k.computed };
 }
 
 /// Whether the musts differ in nothing that a preimage reads.
@@ -48,7 +56,7 @@ impl KnownPreimage {
     /// Whether it is the preimage of the target over the call with these slots by the must.
     pub(crate) fn is_of(&self, must: &Path, args: &[Slot], slot: Slot, target: &Cube) -> bool
         ensures { IsTrue result →
-            IsMustPreimage must.now args.now slot target.now.atoms self.now.atoms }
+            IsComputed must.now args.now slot target.now.atoms self.now }
     {
         self.slot == slot
             && self.args.as_slice() == args
@@ -56,24 +64,24 @@ impl KnownPreimage {
             && are_alike(&self.must, must)
     }
 
-    pub(crate) fn rows(&self) -> &Cube
+    pub(crate) fn computed(&self) -> &Computed
         ensures { result.now ≡ self.now }
     {
-        &self.rows
+        &self.computed
     }
 }
 
-/// The rows, with copies of what they are of.
+/// What was computed, with copies of what it is of.
 pub(crate) fn known_of(
     alloc: Global,
     must: &Path,
     args: &[Slot],
     slot: Slot,
     target: &Cube,
-    rows: Cube,
+    computed: Computed,
 ) -> Result<KnownPreimage, OutOfMemory>
-    requires { IsMustPreimage must.now args.now slot target.now.atoms rows.atoms }
-    ensures { IfOk result (λ known. known ≡ rows) }
+    requires { IsComputed must.now args.now slot target.now.atoms computed }
+    ensures { IfOk result (λ known. known ≡ computed) }
 {
     let must = must.copy(alloc)?;
     let target = target.copy(alloc)?;
@@ -84,6 +92,6 @@ pub(crate) fn known_of(
         args: Slots::from_vec(copied),
         slot,
         target,
-        rows,
+        computed,
     })
 }

@@ -1,13 +1,13 @@
 //! Preimages over calls by musts, kept so that none is computed again while it is known.
 
-ghost use Rattle.std.specs.Prelude.{◌≡◌, ◌<◌, length, true, IfOk};
+ghost use Rattle.std.specs.Prelude.{◌≡◌, ◌<◌, length, true, IfOk, OnOk};
 ghost use Rattle.flow_graph.specs.Shapes.{is_call};
 ghost use Rattle.call_bridge.specs.Calls.{arguments, result_slot};
-ghost use Rattle.punch_step.specs.Memos.{IsPreimage};
+ghost use Rattle.punch_step.specs.Memos.{IsComputed, IsPreimage};
 ghost use Rattle.punch_step.specs.declared.memo.TheConstants.{SLOTS};
-ghost use Rattle.punch_step.specs.steps.Knowing.{HasPreimage};
+ghost use Rattle.punch_step.specs.steps.Knowing.{HasPreimage, IsTold};
 
-use crate::known_preimage::{KnownPreimage, known_of};
+use crate::known_preimage::{Computed, KnownPreimage, known_of};
 use crate::memo::{SLOTS, mixed, mixed_rows, mixed_terms, place_by};
 use c_tree::tree::Slot;
 use call_bridge::error::BridgeError;
@@ -61,30 +61,53 @@ fn place_of(must: &Path, args: &[Slot], slot: Slot, target: &Cube) -> usize
     place_by(mixed_terms(hash, must.outcome.as_slice()))
 }
 
-/// Computes the preimage, unless the slot knows it. At a limit the slot stays as it was.
+/// Computes the preimage, or the limit at which there is none.
+fn computed_of(
+    alloc: Global,
+    must: &Path,
+    call: &Edge,
+    target: &Cube,
+) -> Result<Computed, OutOfMemory>
+    requires { is_call call.now ≡ true }
+    ensures { IfOk result
+        (IsComputed must.now (arguments call.now) (result_slot call.now) target.now.atoms) }
+{
+    match preimage_of(alloc, must, call, target) {
+        Ok(pre) => Ok(Computed::Rows(pre.cube)),
+        Err(BridgeError::Limit(kept)) => Ok(Computed::Limit(kept)),
+        Err(BridgeError::Memory) => Err(AllocError),
+    }
+}
+
+/// Computes the preimage, unless the slot knows it.
 fn learn(
     alloc: Global,
     slot: &mut Option<KnownPreimage>,
     must: &Path,
     call: &Edge,
     target: &Cube,
-) -> Result<Option<Kept>, OutOfMemory>
+) -> Result<(), OutOfMemory>
     requires { is_call call.now ≡ true }
-    ensures { IfOk result (HasPreimage must.now call.now target.now.atoms slot.new) }
+    ensures { OnOk result (HasPreimage must.now call.now target.now.atoms slot.new) }
 {
     let (args, result) = slots_of(call);
     if let Some(known) = slot {
         if known.is_of(must, args, result, target) {
-            return Ok(None);
+            return Ok(());
         }
     }
-    match preimage_of(alloc, must, call, target) {
-        Ok(pre) => {
-            *slot = Some(known_of(alloc, must, args, result, target, pre.cube)?);
-            Ok(None)
-        }
-        Err(BridgeError::Limit(kept)) => Ok(Some(kept)),
-        Err(BridgeError::Memory) => Err(AllocError),
+    let computed = computed_of(alloc, must, call, target)?;
+    *slot = Some(known_of(alloc, must, args, result, target, computed)?);
+    Ok(())
+}
+
+/// What is known.
+fn told(alloc: Global, known: &KnownPreimage) -> Result<Preimage, OutOfMemory>
+    ensures { IfOk result (IsTold known.now) }
+{
+    match known.computed() {
+        Computed::Rows(rows) => Ok(Preimage::Rows(rows)),
+        Computed::Limit(kept) => Ok(Preimage::Limit(kept.copy(alloc)?)),
     }
 }
 
@@ -113,11 +136,9 @@ impl Preimages {
         let (args, result) = slots_of(call);
         let place = place_of(must, args, result, target);
         let slot = &mut self.slots[place];
-        if let Some(kept) = learn(alloc, slot, must, call, target)? {
-            return Ok(Preimage::Limit(kept));
-        }
+        learn(alloc, slot, must, call, target)?;
         match slot {
-            Some(known) => Ok(Preimage::Rows(known.rows())),
+            Some(known) => told(alloc, known),
             None => unreachable!(),
         }
     }

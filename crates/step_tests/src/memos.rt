@@ -1,8 +1,10 @@
 //! Questions that come again, and questions that share a slot.
 
 use crate::made::{Row, cube_of};
+use linear_formula::question::Question;
 use punch_step::memo::Memo;
 use punch_step::sight::{Sight, decided};
+use shadow_elim::limit::{Kept, LimitKind};
 use std::alloc::Global;
 use std::test::Fail;
 
@@ -11,7 +13,9 @@ use std::test::Fail;
 enum Seen {
     At(i64),
     Never,
-    Limit,
+    /// At these rows.
+    Limit(LimitKind),
+    Other,
 }
 
 /// What the rows come to.
@@ -19,7 +23,17 @@ fn asked(alloc: Global, memo: &mut Memo, rows: &[Row]) -> Result<Seen, Fail> {
     match decided(alloc, memo, cube_of(alloc, rows)?)? {
         Sight::Met(at) => Ok(Seen::At(at.value(0))),
         Sight::Never(_) => Ok(Seen::Never),
-        Sight::Limit(_) => Ok(Seen::Limit),
+        Sight::Limit(kept) => seen_limit(alloc, &kept, rows),
+    }
+}
+
+/// The limit, where it is one of a question of these rows.
+fn seen_limit(alloc: Global, kept: &Kept, rows: &[Row]) -> Result<Seen, Fail> {
+    match &kept.question {
+        Question::Cube(cube) if *cube == cube_of(alloc, rows)? => {
+            Ok(Seen::Limit(kept.limit.kind()))
+        }
+        _ => Ok(Seen::Other),
     }
 }
 
@@ -42,6 +56,17 @@ fn a_question_that_comes_again_has_the_same_answer(rt: HostRuntime) -> Result<()
     let between = [(2, 0, -5), (-2, 0, 5)];
     assert_eq!(rt; asked_twice(rt.alloc(), &between)?, [Seen::Never; 2]);
     assert_eq!(rt; asked_twice(rt.alloc(), &at(-9))?, [Seen::At(-9); 2]);
+    Ok(())
+}
+
+#[test]
+fn a_limit_that_comes_again_is_the_same(rt: HostRuntime) -> Result<(), Fail> {
+    let wide = Seen::Limit(LimitKind::Wide);
+    assert_eq!(rt; asked_twice(rt.alloc(), &[(1 << 40, 0, 5)])?, [wide; 2]);
+    assert_eq!(rt;
+        asked_twice(rt.alloc(), &[(1, 0, 0), (1 << 39, 0, 3)])?,
+        [wide; 2]
+    );
     Ok(())
 }
 

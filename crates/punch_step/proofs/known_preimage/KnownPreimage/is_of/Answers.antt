@@ -2,8 +2,9 @@ use Rattle.std.proofs.Common.{◌≡◌, ℕ, List, true, false, sym, subst, ◌
 use Rattle.std.specs.Cmp.{unsigned_Decides}
 use Rattle.std.specs.Cmp.Lexicographic.{pointwise_decides}
 use Rattle.linear_formula.specs.declared.formula.Cube.{Cube}
-use Rattle.query_rules.specs.Rows.{IsMustPreimage}
-use Rattle.punch_step.proofs.Alike.{alike_preimage}
+use Rattle.punch_step.specs.Memos.{IsComputed}
+use Rattle.punch_step.specs.declared.known_preimage.Computed.{Computed}
+use Rattle.punch_step.proofs.Alike.{alike_computed}
 use Rattle.punch_step.proofs.known_preimage.KnownPreimage.is_of.Goals.{then-self-slot, else-self-slot, then-eq, else-eq}
 use Rattle.punch_step.proofs.known_preimage.KnownPreimage.is_of.Goals as goal
 
@@ -17,11 +18,11 @@ returns-then-eq-2 c d = elim c.if-eq.branch [
         (sym u.eq.ensures ∙ (sym u.value-is ∙ w.if-eq.true))
         in
         let same_target : k.target ≡ target = w.eq-then-eq.ensures.same.0 (sym w.value-is ∙ c.if-eq-2.true) in
-        let of_args = subst (λ (as_ : List ℕ). IsMustPreimage k.must as_ k.slot k.target.atoms k.rows.atoms) same_args c.self.invariant in
-        let of_slot = subst (λ (s : ℕ). IsMustPreimage k.must args s k.target.atoms k.rows.atoms) u.if-self-slot.true of_args in
-        let of_target = subst (λ (t : Cube). IsMustPreimage k.must args slot t.atoms k.rows.atoms) same_target of_slot in
-        subst (λ (rows : Cube). IsMustPreimage must args slot target.atoms rows.atoms) c.self.view_is
-        (of_target.0, sym (alike_preimage k.must must (c.are_alike.ensures d) args slot target.atoms) ∙ of_target.1)
+        let of_args = subst (λ (as_ : List ℕ). IsComputed k.must as_ k.slot k.target.atoms k.computed) same_args c.self.invariant in
+        let of_slot = subst (λ (s : ℕ). IsComputed k.must args s k.target.atoms k.computed) u.if-self-slot.true of_args in
+        let of_target = subst (λ (t : Cube). IsComputed k.must args slot t.atoms k.computed) same_target of_slot in
+        subst (λ (x : Computed). IsComputed must args slot target.atoms x) c.self.view_is
+        (alike_computed k.must must (c.are_alike.ensures d) args slot target.atoms k.computed of_target)
     | else-self-slot u ↦
         absurd (u.if-self-slot.false ((unsigned_Decides c.self.inside.slot c.args.slot).0 (sym u.value-is ∙ w.if-eq.true)))
   ]
