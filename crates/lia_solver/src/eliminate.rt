@@ -4,7 +4,7 @@ ghost use Rattle.std.specs.Prelude.{◌≡◌, ◌<◌, ◌+◌, true, false, le
 ghost use Rattle.linear_formula.specs.LinearSum.{is_within};
 ghost use Rattle.linear_formula.specs.steps.Order.{AllWithin};
 ghost use Rattle.shadow_elim.specs.Elimination.{pair_sum};
-ghost use Rattle.shadow_elim.specs.steps.SmallRows.{IsSized, AreLimited};
+ghost use Rattle.shadow_elim.specs.RowSizes.{IsSized, AreLimited};
 ghost use Rattle.lia_solver.specs.declared.table.Origin.TheVariants as origin;
 ghost use Rattle.lia_solver.specs.steps.Entries.{sum_at, bounds_above, bounds_below, ArePaired};
 ghost use Rattle.lia_solver.specs.steps.TwoColumns.{AreSides};

@@ -1,7 +1,7 @@
 //! Bounds of the numbers of a table's rows, by which no sum of two of them is too wide.
 
 ghost use Rattle.std.specs.Prelude.{◌<◌, ℕ, length, Contains};
-ghost use Rattle.shadow_elim.specs.steps.SmallRows.{IsSized, AreLimited};
+ghost use Rattle.shadow_elim.specs.RowSizes.{IsSized, AreLimited};
 ghost use Rattle.lia_solver.specs.steps.Entries.{sum_at};
 ghost use Rattle.lia_solver.specs.steps.Tables.{AreRows};
 

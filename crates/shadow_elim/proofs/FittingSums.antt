@@ -4,7 +4,7 @@ use Rattle.std.specs.Prelude.{All, IsTrue, unsigned_abs, ◌==◌, if◌then◌e
 use Rattle.std.proofs.lemmas.Bool.{eq-eqb, eqb-true}
 use Rattle.std.proofs.lemmas.Int.{ints, unsigned_abs-mul}
 use Rattle.std.proofs.Math.Nat.{mul-le-mul}
-use Rattle.linear_formula.specs.LinearSum.{LinearSum, is_zero, is_term, is_within, coefficient, listed_at}
+use Rattle.linear_formula.specs.LinearSum.{LinearSum, max_coefficient, max_constant, is_zero, is_term, is_within, coefficient, listed_at}
 use Rattle.linear_formula.specs.Results.{put_part, with_part, plus_parts}
 use Rattle.linear_formula.specs.steps.Order.{InOrder, AllWithin}
 use Rattle.linear_formula.proofs.Limits.{IsTerm-from_test, test-from_Within}
@@ -16,7 +16,7 @@ use Rattle.shadow_elim.proofs.MadeRight.{quotient-small}
 use Rattle.shadow_elim.proofs.PairSums.{balance, upper-is, lower-is, coefficient-pair_sum, order-pair_sum}
 use Rattle.shadow_elim.specs.declared.row.Row.{Row}
 use Rattle.shadow_elim.specs.declared.sizes.Sizes.{Sizes}
-use Rattle.shadow_elim.specs.steps.SmallRows.{AreSized, IsSized, IsUpTo, DoFit, NoneIsWide}
+use Rattle.shadow_elim.specs.RowSizes.{AreSized, IsSized, IsUpTo, DoFit, NoneIsWide}
 
 -- Coefficients
 
@@ -36,6 +36,10 @@ pub sized-same : (t : LinearSum) (ps : List (ℕ × ℤ)) (c : ℤ) (s : Sizes) 
     IsSized (record { parts = ps; constant = c }) s → IsSized t s
 sized-same t ps c s e f h = subst (λ (r : LinearSum). IsSized r s) (λ i. record { parts = e i; constant = f i }) h
 
+pub sized-back : (t : LinearSum) (ps : List (ℕ × ℤ)) (c : ℤ) (s : Sizes) → ps ≡ t.parts → c ≡ t.constant → IsSized t s →
+    IsSized (record { parts = ps; constant = c }) s
+sized-back t ps c s e f h = sized-same (record { parts = ps; constant = c }) t.parts t.constant s (sym e) (sym f) h
+
 within-listed : (low : ℕ) (ps : List (ℕ × ℤ)) → InOrder low ps → ((y : ℕ) → unsigned_abs (listed_at y ps) ≤ 2 ^ 40) → AllWithin ps
 within-listed low [] o h = tt
 within-listed low (p ∷ ps) o h = (here, within-listed (p.0 + 1) ps o.3 (λ y. rest y (y == p.0) refl)) where
@@ -47,6 +51,20 @@ within-listed low (p ∷ ps) o h = (here, within-listed (p.0 + 1) ps o.3 (λ y. 
       let none = listed-absent y (p.0 + 1) ps (omega (arith, eqb-true y p.0 e)) o.3 in
       omega (arith, ap unsigned_abs none)
   rest y false e = subst (λ (b : Bool). unsigned_abs (if b then p.1 else listed_at y ps) ≤ 2 ^ 40) e (h y)
+
+-- Sizes
+
+-- sizes that fit, and lesser ones
+pub fit-less : (s t r u : Sizes) → IsUpTo s t → IsUpTo r u → DoFit t u → DoFit s r
+fit-less s t r u h k f =
+    let product : s.coefficient * r.coefficient ≤ t.coefficient * u.coefficient = mul-le-mul h.coefficient k.coefficient in
+    let left : r.coefficient * s.constant ≤ u.coefficient * t.constant = mul-le-mul k.coefficient h.constant in
+    let right : s.coefficient * r.constant ≤ t.coefficient * u.constant = mul-le-mul h.coefficient k.constant in
+    record {
+      count = omega (arith, h.count, k.count, f.count);
+      coefficients = omega (arith, product, f.coefficients);
+      constants = omega (arith, left, right, f.constants);
+    }
 
 -- Counts
 
@@ -71,11 +89,11 @@ product-below m a b c h k =
     let e : m * unsigned_abs c ≤ a * b = mul-le-mul h k in
     omega (arith, unsigned_abs-mul (pos m) c, e)
 
-two-below : (a b : ℤ) (n : ℕ) → unsigned_abs a ≤ n → unsigned_abs b ≤ n → n ≤ 2 ^ 39 → unsigned_abs (a +ℤ b) ≤ 2 ^ 40
+two-below : (a b : ℤ) (n : ℕ) → unsigned_abs a ≤ n → unsigned_abs b ≤ n → 2 * n ≤ max_coefficient → unsigned_abs (a +ℤ b) ≤ max_coefficient
 two-below a b n h k l = omega (arith, ints, h, k, l)
 
-constants-below : (a b : ℤ) (m n : ℕ) → unsigned_abs a ≤ m → unsigned_abs b ≤ n → m + n ≤ 2 ^ 84 →
-    unsigned_abs (a +ℤ (b +ℤ pos 0)) ≤ 2 ^ 84
+constants-below : (a b : ℤ) (m n : ℕ) → unsigned_abs a ≤ m → unsigned_abs b ≤ n → m + n ≤ max_constant →
+    unsigned_abs (a +ℤ (b +ℤ pos 0)) ≤ max_constant
 constants-below a b m n h k l = omega (arith, ints, h, k, l)
 
 pub fit-within : (x : ℕ) (u l : LinearSum) (s r : Sizes) → IsTrue (is_term u) → IsTrue (is_term l) → IsTrue (is_upper x u) →

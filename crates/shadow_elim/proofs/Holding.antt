@@ -3,7 +3,7 @@ use Rattle.std.proofs.Common.{◌≡◌, ◌≢◌, ℕ, zero, suc, ◌+◌, ◌
 use Rattle.std.specs.Int.{w128}
 use Rattle.std.specs.Prelude.{All, Contains, OnOk, filter, if◌then◌else◌}
 use Rattle.std.specs.List.{sum_by}
-use Rattle.std.proofs.lemmas.List.Sums.{sum_by_push}
+use Rattle.std.proofs.lemmas.List.Sums.{sum_by_push, sum_by-le-sum_by}
 use Rattle.std.proofs.lemmas.List.{drop_more, map_more, get_or-set_same, get_or-set_other, get_or_append_left, length-set, length-append, map-append, append_assoc, take_more, take_all, flat_map_more}
 use Rattle.std.proofs.lemmas.List.Elements.{All-set, All-push, All-contains, All-weaker, All-head, All-tail}
 use Rattle.std.specs.declared.alloc.Global.{Global}
@@ -281,6 +281,9 @@ length-terms (c ∷ cs) = omega (arith, length-terms cs)
 
 pub staying-below : (cs : List Candidate) → staying cs ≤ length cs
 staying-below cs = omega (arith, length-reduced_after [] (candidate_terms cs), length-terms cs)
+
+pub staying-within : (ls : List (List Candidate)) → sum_by staying ls ≤ sum_by (λ (cs : List Candidate). length cs) ls
+staying-within ls = sum_by-le-sum_by staying (λ (cs : List Candidate). length cs) ls staying-below
 
 -- how many stay from a place on
 pub staying-step : (es : List (Vec (ℕ × ℤ) Global × ℕ)) (rows : List Candidate) (i : ℕ) (d : Candidate) (n m : ℕ) (b : Bool) →

@@ -14,4 +14,5 @@ pub mod SplitCubes
 pub mod Sums
 pub mod Projection
 pub mod ProjectionLaws
+pub mod RowSizes
 pub mod steps

@@ -2,5 +2,4 @@ pub mod Making
 pub mod Places
 pub mod Lists
 pub mod Marks
-pub mod SmallRows
 pub mod Plain

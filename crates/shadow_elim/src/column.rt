@@ -7,7 +7,7 @@ ghost use Rattle.shadow_elim.specs.Elimination.{is_upper, is_lower, pair_sum, pa
 ghost use Rattle.shadow_elim.specs.steps.Making.{uppers, lowers, frees, known, made, made_of_all, candidates, step_of, steps_of, numbered, AreTerms};
 ghost use Rattle.shadow_elim.specs.steps.Lists.{AreAdded, AreTaken, AreTooMany};
 ghost use Rattle.shadow_elim.specs.steps.Marks.{IsSmall, AreMarked};
-ghost use Rattle.shadow_elim.specs.steps.SmallRows.{NoneIsWide};
+ghost use Rattle.shadow_elim.specs.RowSizes.{NoneIsWide};
 ghost use Rattle.shadow_elim.specs.Stages.{terms_of, IsStage};
 
 use crate::elimination::Stage;

@@ -1,9 +1,9 @@
 //! Rows in lists by the first of the columns that they name, so that a row isn't touched before its
 //! column.
 
-ghost use Rattle.std.specs.Prelude.{◌≡◌, ◌∷◌, ◌<◌, ◌≤◌, ◌^◌, ◌-◌, [], All, true, false, length, nat_lt, IfOk, OnOk};
+ghost use Rattle.std.specs.Prelude.{◌≡◌, ◌∷◌, ◌<◌, ◌*◌, ◌&&◌, [], All, length, min, nat_lt, IfOk, OnOk, if◌then◌else◌};
 ghost use Rattle.std.specs.List.{sum_by};
-ghost use Rattle.shadow_elim.specs.steps.Lists.{rank, staying, AreAdded};
+ghost use Rattle.shadow_elim.specs.steps.Lists.{rank, staying, listed, AreAdded};
 
 use crate::limit::MAX_ROWS;
 use crate::pairing::Candidate;
@@ -54,7 +54,7 @@ pub fn add_row(
 
 /// How many rows there are, some of which may not stay.
 fn listed(lists: &[Reduction]) -> usize
-    ensures { result < 2 ^ 64 - 1 → sum_by staying lists.now ≤ result }
+    ensures { result ≡ listed lists.now }
 {
     let mut listed: usize = 0;
     for list in lists {
@@ -83,7 +83,10 @@ pub fn is_beyond(lists: &[Reduction]) -> bool
 /// Whether more than `MAX_ROWS` rows stay, where it is seen: they are counted only where there are
 /// more than `rows`, which is doubled then, so that all counting takes no longer than the adding.
 pub fn is_seen_beyond(lists: &[Reduction], rows: &mut usize) -> bool
-    ensures { result ≡ true → nat_lt MAX_ROWS (sum_by staying lists.now) ≡ true }
+    ensures seen { result ≡ (nat_lt rows.old (listed lists.now) &&
+        nat_lt MAX_ROWS (sum_by staying lists.now)) }
+    ensures doubled { rows.new ≡ (if nat_lt rows.old (listed lists.now)
+        then min usize.MAX (2 * rows.old) else rows.old) }
 {
     if listed(lists) <= *rows {
         return false;

@@ -1,10 +1,11 @@
 //! Bounds of the numbers of rows, by which no sum of two of them is too wide.
 
-ghost use Rattle.std.specs.Prelude.{◌≡◌, ◌≤◌, ◌^◌, ℕ, true, length, All, IsTrue};
-ghost use Rattle.linear_formula.specs.LinearSum.{is_term};
+ghost use Rattle.std.specs.Prelude.{◌≡◌, ◌≤◌, ◌↔◌, ℕ, true, length, All, IsTrue};
+ghost use Rattle.linear_formula.specs.LinearSum.{is_term, max_coefficient};
 ghost use Rattle.linear_formula.specs.steps.Order.{AllWithin};
 ghost use Rattle.shadow_elim.specs.Elimination.{is_upper, is_lower};
-ghost use Rattle.shadow_elim.specs.steps.SmallRows.{AreSized, IsSized, AreLimited, IsUpTo, DoFit, NoneIsWide};
+ghost use Rattle.shadow_elim.specs.RowSizes.{AreSized, IsSized, AreLimited, IsUpTo, DoFit, AreFitting, NoneIsWide};
+ghost use Rattle.shadow_elim.specs.declared.sizes.Sizes.{Sizes};
 
 use crate::row::Row;
 use linear_formula::term::{MAX_COEFFICIENT, MAX_CONSTANT, MAX_PARTS};
@@ -20,7 +21,8 @@ pub struct Sizes {
 impl Sizes {
     /// The sizes of no rows.
     pub fn none() -> Sizes
-        ensures { AreLimited result }
+        ensures limited { AreLimited result }
+        ensures least { (s : Sizes) → IsUpTo result s }
     {
         Sizes {
             count: 0,
@@ -34,7 +36,8 @@ impl Sizes {
 fn greatest(parts: &[(u32, i128)]) -> u128
     requires { AllWithin parts.now }
     ensures sizes { AreSized parts.now (length parts.now) result }
-    ensures limit { result ≤ 2 ^ 40 }
+    ensures limit { result ≤ max_coefficient }
+    ensures least { (n : ℕ) → AreSized parts.now (length parts.now) n → result ≤ n }
 {
     let mut greatest = 0;
     for part in parts {
@@ -43,11 +46,13 @@ fn greatest(parts: &[(u32, i128)]) -> u128
     greatest
 }
 
-/// The sizes of one row.
+/// The sizes of one row, the least ones.
 pub fn sizes_of(parts: &[(u32, i128)], constant: i128) -> Sizes
     requires { IsTrue (is_term (record { parts = parts.now; constant = constant })) }
     ensures sized { IsSized (record { parts = parts.now; constant = constant }) result }
     ensures limited { AreLimited result }
+    ensures least { (s : Sizes) → IsSized (record { parts = parts.now; constant = constant }) s →
+        IsUpTo result s }
 {
     Sizes {
         count: parts.len(),
@@ -56,13 +61,14 @@ pub fn sizes_of(parts: &[(u32, i128)], constant: i128) -> Sizes
     }
 }
 
-/// Sizes that are as great as both.
+/// The least sizes that are as great as both.
 pub fn larger(left: Sizes, right: Sizes) -> Sizes
     requires left { AreLimited left }
     requires right { AreLimited right }
     ensures left { IsUpTo left result }
     ensures right { IsUpTo right result }
     ensures limited { AreLimited result }
+    ensures least { (s : Sizes) → IsUpTo left s → IsUpTo right s → IsUpTo result s }
 {
     Sizes {
         count: left.count.max(right.count),
@@ -71,10 +77,11 @@ pub fn larger(left: Sizes, right: Sizes) -> Sizes
     }
 }
 
-/// The sizes of all rows.
+/// The sizes of all rows, the least ones.
 fn sizes_of_all(rows: &[Row]) -> Sizes
     ensures sized { All (λ r. IsTrue (is_term r.term) × IsSized r.term result) rows.now }
     ensures limited { AreLimited result }
+    ensures least { (s : Sizes) → All (λ r. IsSized r.term s) rows.now → IsUpTo result s }
 {
     let mut sizes = Sizes::none();
     for row in rows {
@@ -87,7 +94,7 @@ fn sizes_of_all(rows: &[Row]) -> Sizes
 pub fn do_fit(upper: Sizes, lower: Sizes) -> bool
     requires upper { AreLimited upper }
     requires lower { AreLimited lower }
-    ensures { result ≡ true → DoFit upper lower }
+    ensures { IsTrue result ↔ DoFit upper lower }
 {
     let coefficients = upper.coefficient * lower.coefficient;
     let left = lower.coefficient * upper.constant;
@@ -99,8 +106,9 @@ pub fn do_fit(upper: Sizes, lower: Sizes) -> bool
 
 /// Whether the sizes tell that no sum of an upper and a lower row of a column is too wide.
 pub fn do_all_fit(uppers: &[Row], lowers: &[Row]) -> bool
-    ensures { result ≡ true → (x : ℕ) → All (λ u. IsTrue (is_upper x u.term)) uppers.now →
+    ensures fit { result ≡ true → (x : ℕ) → All (λ u. IsTrue (is_upper x u.term)) uppers.now →
         All (λ l. IsTrue (is_lower x l.term)) lowers.now → NoneIsWide x uppers.now lowers.now }
+    ensures exact { IsTrue result ↔ AreFitting uppers.now lowers.now }
 {
     do_fit(sizes_of_all(uppers), sizes_of_all(lowers))
 }

@@ -3,12 +3,13 @@
 ghost use Rattle.std.specs.Prelude.{IsTrue};
 ghost use Rattle.linear_formula.specs.LinearSum.{is_ascending};
 
-use crate::rows::{Row, cube_of, push_row, small_cube};
+use crate::rows::{Row, cube_of, push_row, small_cube, term_of};
 use linear_formula::assignment::{Assignment, Values};
 use linear_formula::error::LinError;
 use linear_formula::formula::{Atom, Atoms, Cube};
+use linear_formula::question::Question;
 use shadow_elim::eliminate::eliminate;
-use shadow_elim::limit::{Limit, LimitKind};
+use shadow_elim::limit::{Cubes, Limit, LimitKind};
 use shadow_elim::shadow::{Pair, Shadow, ShadowError};
 use std::alloc::Global;
 use std::test::Fail;
@@ -131,6 +132,77 @@ fn looks_for_a_wide_sum_behind_too_many_rows(rt: HostRuntime) -> Result<(), Fail
 #[test]
 fn limits_have_kinds(rt: HostRuntime) -> Result<(), Fail> {
     assert!(rt; Limit::Columns.kind() == LimitKind::Columns);
+    Ok(())
+}
+
+fn atom_of(alloc: Global, row: &Row) -> Result<Atom, LinError> {
+    Ok(Atom {
+        term: term_of(alloc, row)?,
+    })
+}
+
+fn limit_of(alloc: Global, kind: LimitKind) -> Result<Limit, LinError> {
+    let row: Row = (&[(2, 0), (-1, 1)], 3);
+    let other: Row = (&[(-3, 0), (1, 2)], -5);
+    match kind {
+        LimitKind::Columns => Ok(Limit::Columns),
+        LimitKind::Wide => Ok(Limit::Wide {
+            branch: Question::Cube(cube_of(alloc, &[row, other])?),
+        }),
+        LimitKind::Rows => Ok(Limit::Rows {
+            branch: cube_of(alloc, &[row, other])?,
+        }),
+        LimitKind::Branches => {
+            let cubes = vec![in alloc; cube_of(alloc, &[row])?, cube_of(alloc, &[other, row])?]?;
+            Ok(Limit::Branches {
+                branches: Cubes::from_vec(cubes),
+            })
+        }
+        LimitKind::Inexact => Ok(Limit::Inexact(Pair {
+            column: 0,
+            upper: atom_of(alloc, &row)?,
+            lower: atom_of(alloc, &other)?,
+        })),
+    }
+}
+
+fn is_same_pair(left: &Pair, right: &Pair) -> bool {
+    left.column == right.column && left.upper == right.upper && left.lower == right.lower
+}
+
+/// Whether both are the same limit, and keep the same.
+fn is_same_limit(left: &Limit, right: &Limit) -> bool {
+    match (left, right) {
+        (Limit::Columns, Limit::Columns) => true,
+        (Limit::Wide { branch }, Limit::Wide { branch: other }) => branch == other,
+        (Limit::Rows { branch }, Limit::Rows { branch: other }) => branch == other,
+        (Limit::Branches { branches }, Limit::Branches { branches: others }) => {
+            branches.as_slice() == others.as_slice()
+        }
+        (Limit::Inexact(pair), Limit::Inexact(other)) => is_same_pair(pair, other),
+        _ => false,
+    }
+}
+
+fn copies_limit(alloc: Global, kind: LimitKind) -> Result<bool, LinError> {
+    let limit = limit_of(alloc, kind)?;
+    let copy = limit.copy(alloc)?;
+    Ok(copy.kind() == kind && is_same_limit(&copy, &limit))
+}
+
+#[test]
+fn copies_limits(rt: HostRuntime) -> Result<(), Fail> {
+    let kinds = [
+        LimitKind::Columns,
+        LimitKind::Wide,
+        LimitKind::Rows,
+        LimitKind::Branches,
+        LimitKind::Inexact,
+    ];
+    for kind in kinds {
+        let copied = copies_limit(rt.alloc(), kind)?;
+        assert!(rt; copied, "{kind:?}");
+    }
     Ok(())
 }
 

@@ -10,4 +10,6 @@ mod linear;
 #[cfg(test)]
 mod rows;
 #[cfg(test)]
+mod sizes;
+#[cfg(test)]
 mod solving;

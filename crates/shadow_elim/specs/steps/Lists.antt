@@ -1,5 +1,5 @@
 -- Rows in lists by the first of the columns that they name.
-use Rattle.std.specs.Prelude.{◌≡◌, ℕ, suc, ◌+◌, Bool, true, nat_lt, List, [], ◌∷◌, ◌++◌, All, Contains, filter, not, length, slice_index_or, if◌then◌else◌}
+use Rattle.std.specs.Prelude.{◌≡◌, ℕ, suc, ◌+◌, ◌-◌, ◌^◌, min, Bool, true, nat_lt, List, [], ◌∷◌, ◌++◌, All, Contains, filter, not, length, slice_index_or, if◌then◌else◌}
 use Rattle.std.specs.List.{sum_by}
 use Rattle.linear_formula.specs.LinearSum.{LinearSum}
 use Rattle.infeasible_cert.specs.declared.certificate.Derived.{Derived}
@@ -32,6 +32,10 @@ Hold (x ∷ xs) rows lists =
 -- how many rows of a list stay
 abbrev pub staying : List Candidate → ℕ
 staying cs = length (reduced (candidate_terms cs))
+
+-- how many rows the lists have, as far as 64 bits count
+abbrev pub listed : List (List Candidate) → ℕ
+listed lists = min (2 ^ 64 - 1) (sum_by (λ l. length l) lists)
 
 abbrev pub AreAllFounded : List LinearSum → List (List Candidate) → Type 0
 AreAllFounded base lists = All (AllFounded base) lists

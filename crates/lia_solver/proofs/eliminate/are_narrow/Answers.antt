@@ -34,4 +34,4 @@ returns-then-do_fit-clause-sums c = λ _ l k.
     fit-within c.args.column (sum_at rows u) (sum_at rows l) c.sizes_at.result c.args.sizes (p.terms.greatest u p.upper_place)
     (p.terms.greatest l p.lower_place) (above-upper c.args.column (sum_at rows u) p.above)
     (below-lower c.args.column (sum_at rows l) p.below) c.sizes_at.ensures.sized (c.requires.sized l k)
-    (c.do_fit.ensures c.if-do_fit.true)
+    (c.do_fit.ensures.0 c.if-do_fit.true)

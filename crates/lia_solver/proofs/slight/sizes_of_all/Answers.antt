@@ -1,6 +1,6 @@
 use Rattle.std.proofs.Common.{ℕ, get_or, below_more, arith, subst}
 use Rattle.lia_solver.specs.steps.Entries.{sum_at}
-use Rattle.shadow_elim.specs.steps.SmallRows.{IsSized}
+use Rattle.shadow_elim.specs.RowSizes.{IsSized}
 use Rattle.shadow_elim.proofs.FittingSums.{sized-more}
 use Rattle.lia_solver.proofs.Summing.{listed-there, listed-place}
 use Rattle.lia_solver.proofs.slight.sizes_of_all.Goals as goal

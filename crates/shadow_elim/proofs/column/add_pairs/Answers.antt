@@ -1,6 +1,7 @@
-use Rattle.std.proofs.Common.{Err, ◌≡◌, ◌<◌, ◌≤◌, ◌+◌, Bool, true, List, length, get_or, take, arith, sym, ap, subst}
+use Rattle.std.proofs.Common.{Err, ◌≡◌, ◌<◌, ◌≤◌, ◌+◌, Bool, true, List, length, get_or, take, arith, sym, ap, subst, ◌∙◌}
 use Rattle.std.specs.Prelude.{IsTrue, All, nat_lt}
 use Rattle.std.specs.List.{sum_by}
+use Rattle.std.proofs.lemmas.Bool.{and_parts}
 use Rattle.std.proofs.lemmas.Result.{err_from_is_err_and}
 use Rattle.std.proofs.lemmas.List.Elements.{All-nil, All-more}
 use Rattle.linear_formula.specs.LinearSum.{is_within}
@@ -109,4 +110,5 @@ returns-then-is_seen_beyond-clause-rows c = λ _.
           c.loop-place.invariant.added)
     ] in
     many-first c.args.others.now x (i + 1) us ls c.args.lists.now.items now all (subst (λ (ks : List (List Candidate)).
-    nat_lt 4096 (sum_by staying ks) ≡ true) c.deref-then-do_fit.ensures.value (c.is_seen_beyond.ensures c.if-is_seen_beyond.true))
+    nat_lt 4096 (sum_by staying ks) ≡ true) c.deref-then-do_fit.ensures.value (and_parts _ _ (sym c.is_seen_beyond.ensures.seen
+    ∙ c.if-is_seen_beyond.true)).1)
