@@ -1,14 +1,10 @@
 -- One region's edges, gone through.
-use Rattle.std.proofs.Common.{◌≡◌, ◌≢◌, ℕ, zero, suc, ◌+◌, ◌-◌, ◌≤◌, ◌<◌, ◌⊎◌, inl, inr, Bool, List, [], ◌∷◌, length, set, replicate, refl, sym, ap, ◌∙◌, subst, arith, get_or-set_same, get_or-set_other, length-set, slice_get, slice_index, slice_index_or, Contains, Some}
+use Rattle.std.proofs.Common.{◌≡◌, ◌≢◌, ℕ, zero, suc, ◌+◌, ◌≤◌, ◌<◌, inl, inr, Bool, List, [], ◌∷◌, length, set, replicate, refl, sym, ap, ◌∙◌, subst, arith, get_or-set_same, get_or-set_other, length-set, slice_get, slice_index, slice_index_or, Contains, Some}
 use Rattle.std.proofs.lemmas.Bool.{cases_eq}
 use Rattle.std.proofs.lemmas.Option.{get_or_from_slice_get}
 use Rattle.std.proofs.lemmas.List.{get_or_default, length-replicate}
 use Rattle.std.proofs.lemmas.List.Elements.{Contains-get_or}
-use Rattle.abstract_path.specs.Routes.{IsOpen}
-use Rattle.abstract_path.specs.steps.Chains.{Leads, link}
-use Rattle.abstract_path.specs.declared.network.Link.{Link}
-use Rattle.abstract_path.specs.steps.Layers.{IsSettled, Extends, unmet, IsLayered, IsMeasured}
-use Rattle.abstract_path.proofs.Chaining.{split_lead}
+use Rattle.abstract_path.specs.steps.Layers.{IsSettled, unmet, IsLayered, IsMeasured}
 
 -- what was met has a place
 pub inside : (far : List ℕ) (r : ℕ) → slice_index far r ≢ 0 → r < length far
@@ -31,23 +27,7 @@ current_inside edges shut regions target depth current far way met k l h =
       zero_depth : depth ≢ 0
       zero_depth e = omega (arith, e, l.positive)
 
--- one edge further in a list
-pub one_further : (edges : List (ℕ × ℕ)) (shut : List Bool) (links : List Link) (old new : List ℕ) (x c : ℕ) →
-    ((e a : ℕ) → IsOpen edges shut e a x → (slice_index old a ≢ 0) ⊎ Leads links e c) → 0 < c → Extends old new →
-    ((a : ℕ) → IsOpen edges shut (c - 1) a x → slice_index new a ≢ 0) → (e a : ℕ) → IsOpen edges shut e a x → (slice_index new a ≢ 0)
-    ⊎ Leads links e (link links (c - 1)).next
-one_further edges shut links old new x c h p ex own e a o = elim (h e a o) [
-  | inl s ↦ inl (λ z. s (sym (ex a s) ∙ z))
-  | inr l ↦ elim (split_lead links e (c - 1) c (omega (arith, p)) l) [
-    | inl same ↦ inl (own a (subst (λ n. IsOpen edges shut n a x) same o))
-    | inr b ↦ inr b
-  ]
-]
-
--- the source of the edge, and its other end
-pub source_is : (edges : List (ℕ × ℕ)) (e a b : ℕ) → slice_get edges e ≡ Some (a, b) → (slice_index_or edges e (0, 0)).0 ≡ a
-source_is edges e a b h = ap (λ p. p.0) (get_or_from_slice_get edges e (a, b) (0, 0) h)
-
+-- where the edge leads to
 pub end_is : (edges : List (ℕ × ℕ)) (e a b : ℕ) → slice_get edges e ≡ Some (a, b) → (slice_index_or edges e (0, 0)).1 ≡ b
 end_is edges e a b h = ap (λ p. p.1) (get_or_from_slice_get edges e (a, b) (0, 0) h)
 

@@ -1,3 +1,3 @@
-pub mod Chains
+pub mod Arrivals
 pub mod Layers
 pub mod Searching

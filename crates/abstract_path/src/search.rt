@@ -2,11 +2,11 @@
 
 ghost use Rattle.std.specs.Prelude.{ℕ, ◌≡◌, ◌≢◌, ◌+◌, ◌<◌, ◌^◌, [], length, IfOk, OnOk, slice_index, replicate};
 ghost use Rattle.abstract_path.specs.Routes.{AreEdgesOf, IsOpen};
-ghost use Rattle.abstract_path.specs.steps.Chains.{AreChains};
+ghost use Rattle.abstract_path.specs.steps.Arrivals.{AreArrivals};
 ghost use Rattle.abstract_path.specs.steps.Layers.{IsMeasured, IsSettled, Extends};
 ghost use Rattle.abstract_path.specs.steps.Searching.{IsInLayer, KeepsLayer};
 
-use crate::network::{Link, Network};
+use crate::network::{Arrival, Network};
 use std::alloc::{AllocError, Global};
 use std::mem;
 
@@ -48,8 +48,8 @@ impl<'a> Search<'a> {
     /// Begins at the target.
     fn new(alloc: Global, network: Network<'a>, target: u32) -> Result<Search<'a>, AllocError>
         requires target { target < network.regions }
-        requires chained { AreChains network.edges.now network.shut.now
-            network.chains.first.items network.chains.links.items }
+        requires arrivals { AreArrivals network.edges.now network.shut.now
+            network.arrivals.begins.items network.arrivals.entries.items }
         ensures layer { IfOk result (λ s. IsInLayer s) }
         ensures alone { IfOk result (λ s. s.met.items ≡ []) }
         ensures network { IfOk result (λ s. s.network ≡ network.entry) }
@@ -119,12 +119,11 @@ impl<'a> Search<'a> {
             self.new.far.items (slice_index self.new.current.items place)) }
     {
         let region = self.current[place];
-        let mut cursor = self.network.chains.first[region as usize];
-        while cursor > 0 {
-            let number = cursor - 1;
-            let Link { source, next } = self.network.chains.links[number as usize];
+        let begin = self.network.arrivals.begins[region as usize];
+        let end = self.network.arrivals.begins[region as usize + 1];
+        for at in begin..end {
+            let Arrival { source, number } = self.network.arrivals.entries[at as usize];
             self.meet(place, source, number)?;
-            cursor = next;
         }
         Ok(())
     }
@@ -148,8 +147,8 @@ impl<'a> Search<'a> {
 /// Measures how far each region lies from the target.
 fn measure(alloc: Global, network: Network<'_>, target: u32) -> Result<Reach, AllocError>
     requires target { target < network.regions }
-    requires chained { AreChains network.edges.now network.shut.now network.chains.first.items
-        network.chains.links.items }
+    requires arrivals { AreArrivals network.edges.now network.shut.now network.arrivals.begins.items
+        network.arrivals.entries.items }
     ensures { IfOk result (λ r. IsMeasured network.entry.edges.now network.entry.shut.now
         network.entry.regions target r.far.items r.way.items) }
 {

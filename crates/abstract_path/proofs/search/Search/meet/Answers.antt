@@ -12,4 +12,4 @@ returns-in_ok-push-clause-layer c =
     let r = layered_met s.network.edges.now s.network.shut.now s.network.regions s.target s.depth s.current.items s.far.items s.way.items
     s.met.items c.args.source c.args.number _ c.requires.layer.layered c.requires.source (unmet_before c) c.requires.is_open
     (Contains-get_or s.current.items c.args.place 0 c.requires.place) in
-    record { layered = rw c.in_ok-push.ensures.items r; chained = c.requires.layer.chained }
+    record { layered = rw c.in_ok-push.ensures.items r; arrivals = c.requires.layer.arrivals }

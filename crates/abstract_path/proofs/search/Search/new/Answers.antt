@@ -11,5 +11,5 @@ returns-clause-layer c =
       layered = rw c.in_ok-current.ensures.items
           (rw c.in_ok-far.ensures (rw c.new.ensures.items (first_layer n.edges.now n.shut.now n.regions c.args.target c.in_ok-way.way.items
           c.requires.target ways)));
-      chained = c.requires.chained;
+      arrivals = c.requires.arrivals;
     }
