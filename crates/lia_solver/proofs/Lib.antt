@@ -34,3 +34,4 @@ pub mod Narrowing
 pub mod BranchTable
 pub mod Rechaining
 pub mod TwoColumns
+pub mod ConstantSums

@@ -34,11 +34,11 @@ no_way h = cc
 
 -- Numbers
 
-scaled-nonpos : (d : ℕ) (z : ℤ) → 0 < d → (pos d *ℤ z) ≤ℤ pos 0 → z ≤ℤ pos 0
+pub scaled-nonpos : (d : ℕ) (z : ℤ) → 0 < d → (pos d *ℤ z) ≤ℤ pos 0 → z ≤ℤ pos 0
 scaled-nonpos d z h k = below_multiplier (pos d) z (omega (arith, ints, h)) (omega (arith, ints, h, k))
 
 -- the multiple of a number
-scaled-small : (g n : ℕ) (z : ℤ) → 0 < g → unsigned_abs (pos g *ℤ z) ≤ n → unsigned_abs z ≤ n
+pub scaled-small : (g n : ℕ) (z : ℤ) → 0 < g → unsigned_abs (pos g *ℤ z) ≤ n → unsigned_abs z ≤ n
 scaled-small g n z h k =
     let e : 1 * unsigned_abs z ≤ g * unsigned_abs z = mul-le-mul (omega (arith, h)) (omega arith) in
     omega (arith, k, e, unsigned_abs-mul (pos g) z)
@@ -106,7 +106,7 @@ unscaled g c s k r at h e f le =
     scaled-nonpos g ((s *ℤ at) +ℤ r) h
     (omega (arith, ints, le, f, ap (λ z. z *ℤ at) e, mul-assoc (pos g) s at, mul-add (pos g) (s *ℤ at) r))
 
-scaled-sum : (g m n a b : ℕ) (p q : ℤ) → g * m ≡ b → g * n ≡ a → (pos b *ℤ p) +ℤ (pos a *ℤ q)
+pub scaled-sum : (g m n a b : ℕ) (p q : ℤ) → g * m ≡ b → g * n ≡ a → (pos b *ℤ p) +ℤ (pos a *ℤ q)
     ≡ pos g *ℤ ((pos m *ℤ p) +ℤ (pos n *ℤ q))
 scaled-sum g m n a b p q e f =
     let first : pos g *ℤ pos m ≡ pos b = omega (arith, ints, e) in

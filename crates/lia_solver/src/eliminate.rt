@@ -10,6 +10,7 @@ ghost use Rattle.lia_solver.specs.steps.Entries.{sum_at, bounds_above, bounds_be
 ghost use Rattle.lia_solver.specs.steps.TwoColumns.{AreSides};
 ghost use Rattle.lia_solver.specs.steps.Tables.{starts_from, passed, AreRows, IsPut, IsGrown, IsSummed, AreLowerPlaces, HasWide, AreNarrow, IsLeft};
 
+use crate::one_column::always_holds;
 use crate::pairing::{Made, combine, measure};
 use crate::slight::{sizes_at, sizes_of_all};
 use crate::table::{Origin, Table};
@@ -126,6 +127,9 @@ fn add_sum(
     ensures summed { IfOk result (λ b. b ≡ true → IsSummed column table.new upper lower) }
     ensures wide { IfOk result (λ b. b ≡ false → HasWide column table.old) }
 {
+    if always_holds(column, table, upper, lower) {
+        return Ok(true);
+    }
     if is_needless(sides, column, table, upper, lower) {
         return Ok(true);
     }

@@ -13,6 +13,7 @@ mod gather;
 mod implied;
 mod merge;
 mod narrow;
+mod one_column;
 mod pairing;
 mod search;
 mod slight;

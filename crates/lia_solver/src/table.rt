@@ -12,13 +12,15 @@ use std::marker::Model;
 
 /// How many chains the rows are in at the start, by their coefficients: few enough to clear at
 /// once.
-const FEW: usize = 64;
+const FEW: usize = 16;
 
-/// How many chains there are once there are `GROWN` rows.
+/// How many chains there are at most.
 const MANY: usize = 4096;
 
-/// From so many rows on there are `MANY` chains.
-const GROWN: usize = 256;
+/// So many rows a chain, and there are `GROWTH` times as many chains.
+const FULL: usize = 4;
+
+const GROWTH: usize = 16;
 
 /// How a row follows.
 #[derive(Clone, Copy, Debug)]
@@ -251,14 +253,16 @@ impl Table {
         self.place_of(&[])
     }
 
-    /// Puts the rows into more chains.
-    fn grow(&mut self) -> Result<(), OutOfMemory>
+    /// Puts the rows into so many chains.
+    fn grow(&mut self, chains: usize) -> Result<(), OutOfMemory>
+        requires some { 0 < chains }
+        requires limit { chains ≤ 65536 }
         ensures { self.new ≡ self.old }
     {
         if u32::try_from(self.lines.len()).is_err() {
             return Err(AllocError);
         }
-        self.heads.resize(MANY, 0)?;
+        self.heads.resize(chains, 0)?;
         self.heads.fill(0);
         chain(&mut self.lines, &mut self.heads);
         Ok(())
@@ -275,8 +279,9 @@ impl Table {
         ensures { OnOk result (IsAdded (record { parts = parts.now; constant = constant }) origin
             self.old self.new) }
     {
-        if self.lines.len() >= GROWN && self.heads.len() < MANY {
-            self.grow()?;
+        let chains = self.heads.len();
+        if chains < MANY && self.lines.len() >= FULL * chains {
+            self.grow(GROWTH * chains)?;
         }
         self.put(parts, constant, origin)
     }

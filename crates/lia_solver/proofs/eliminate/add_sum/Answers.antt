@@ -9,6 +9,9 @@ use Rattle.lia_solver.proofs.PairSumsInCode.{row_of}
 use Rattle.lia_solver.proofs.Summing.{put-grown, put-summed, pair-term, row-cast, row-within}
 use Rattle.lia_solver.proofs.eliminate.add_sum.Goals as goal
 
+pub returns-then-always_holds-clause-grown : goal.returns-then-always_holds-clause-grown
+returns-then-always_holds-clause-grown c = grown-start c.args.column c.args.table.now c.requires.rows
+
 pub returns-then-is_needless-clause-grown : goal.returns-then-is_needless-clause-grown
 returns-then-is_needless-clause-grown c = grown-start c.args.column c.args.table.now c.requires.rows
 
