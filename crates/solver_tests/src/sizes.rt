@@ -1,5 +1,8 @@
 //! Sizes of rows at the bounds within which no sum of two of them is too wide.
 
+ghost use Rattle.std.specs.Prelude.{IfOk};
+ghost use Rattle.shadow_elim.specs.RowSizes.{AreLimited};
+
 use linear_formula::error::LinError;
 use linear_formula::reading::column_term;
 use linear_formula::term::Term;
@@ -24,7 +27,9 @@ fn sizes_of_row(
     count: u32,
     coefficient: i64,
     constant: i64,
-) -> Result<Sizes, LinError> {
+) -> Result<Sizes, LinError>
+    ensures { IfOk result AreLimited }
+{
     let row = row_of(alloc, count, coefficient, constant)?;
     Ok(sizes_of(row.parts(), row.constant()))
 }
@@ -62,7 +67,9 @@ fn fits_up_to_the_limits(rt: HostRuntime) -> Result<(), Fail> {
 }
 
 /// The sizes of a row at all limits: 1024 columns, 2 ^ 40 and 2 ^ 84.
-fn greatest(alloc: Global) -> Result<Sizes, LinError> {
+fn greatest(alloc: Global) -> Result<Sizes, LinError>
+    ensures { IfOk result AreLimited }
+{
     let part = row_of(alloc, 1024, 1 << 18, 1 << 62)?;
     let row = Term::combine(alloc, &vec![in alloc; (1 << 22, part)]?, 0)?;
     Ok(sizes_of(row.parts(), row.constant()))
