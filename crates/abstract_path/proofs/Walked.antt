@@ -1,5 +1,5 @@
 -- The walk along first edges.
-use Rattle.std.proofs.Common.{◌≡◌, ◌≢◌, ℕ, zero, suc, ◌≤◌, ◌<◌, ◌⊎◌, inl, inr, Bool, true, false, if◌then◌else◌, List, [], ◌∷◌, ◌++◌, length, refl, sym, ap, ◌∙◌, subst, arith, slice_get, slice_index, slice_index_or, Some, None, Option}
+use Rattle.std.proofs.Common.{◌≡◌, ◌≢◌, ℕ, zero, suc, ◌≤◌, ◌<◌, inl, inr, Bool, true, false, if◌then◌else◌, List, [], ◌∷◌, ◌++◌, length, refl, sym, ap, ◌∙◌, subst, arith, slice_get, slice_index, slice_index_or, Some, None, Option}
 use Rattle.std.proofs.lemmas.List.{get_or_default}
 use Rattle.abstract_path.specs.Routes.{IsRoute, last_crossing, later, leaves_marked}
 use Rattle.abstract_path.specs.Routes.{IsOpen}
@@ -40,14 +40,6 @@ crossing_more edges marked n (k ∷ path) b e before h =
         (leaves_marked marked (slice_get edges k)) ≡ (if c then Some (suc (length path)) else before)
     by true o p = refl
     by false o p = p
-
-pub known_more : (edges : List (ℕ × ℕ)) (marked : List Bool) (n : ℕ) (path : List ℕ) (b : Bool) (at : ℕ) →
-    leaves_marked marked (slice_get edges n) ≡ b → (last_crossing edges marked path ≡ None) ⊎ (last_crossing edges marked path ≡ Some at) →
-    (last_crossing edges marked (path ++ n ∷ []) ≡ None) ⊎ (last_crossing edges marked (path ++ n ∷ [])
-    ≡ Some (if b then length path else at))
-known_more edges marked n path true at e h = inr (crossing_more edges marked n path true e (last_crossing edges marked path) refl)
-known_more edges marked n path false at e (inl h) = inl (crossing_more edges marked n path false e None h)
-known_more edges marked n path false at e (inr h) = inr (crossing_more edges marked n path false e (Some at) h)
 
 -- the first edge from a region that was met
 pub first_edge : (edges : List (ℕ × ℕ)) (shut : List Bool) (regions target : ℕ) (far way : List ℕ) (here number : ℕ) →

@@ -1,5 +1,6 @@
 -- Paths of numbered edges, the shortest ones, and where they last leave the marked regions.
-use Rattle.std.specs.Prelude.{◌≡◌, ℕ, suc, ◌≤◌, ◌<◌, Bool, true, false, not, ◌&&◌, List, [], ◌∷◌, length, Option, None, Some, slice_get, slice_index_or}
+use Rattle.std.specs.Prelude.{◌≡◌, ℕ, suc, ◌≤◌, ◌<◌, Bool, true, false, not, ◌&&◌, List, [], ◌∷◌, length, Option, None, Some, Vec, slice_get, slice_index_or}
+use Rattle.std.specs.declared.alloc.Global.{Global}
 use Rattle.abstract_path.specs.declared.frontier.Route.{Route}
 use Rattle.abstract_path.specs.declared.frontier.Route.TheVariants as route
 
@@ -27,6 +28,14 @@ IsRoute edges shut from (n ∷ path) to = (next : ℕ) × IsOpen edges shut n fr
 abbrev pub IsShortest : (edges : List (ℕ × ℕ)) (shut : List Bool) (from to : ℕ) → List ℕ → Type 0
 IsShortest edges shut from to path = (other : List ℕ) → IsRoute edges shut from other to →
     length path ≤ length other
+
+-- a shortest path, or none exactly where there is none
+abbrev pub IfShortest : (edges : List (ℕ × ℕ)) (shut : List Bool) (from to : ℕ) →
+    Option (Vec ℕ Global) →
+    Type 0
+IfShortest edges shut from to (Some path) = IsRoute edges shut from path.items to
+    × IsShortest edges shut from to path.items
+IfShortest edges shut from to None = (path : List ℕ) → IsRoute edges shut from path to → ⊥
 
 -- the edge leads from a marked region to one that isn't marked
 abbrev pub leaves_marked : List Bool → Option (ℕ × ℕ) → Bool

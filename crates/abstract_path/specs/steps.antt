@@ -1,3 +1,4 @@
 pub mod Arrivals
 pub mod Layers
+pub mod RouteFacts
 pub mod Searching

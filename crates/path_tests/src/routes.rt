@@ -2,7 +2,7 @@
 
 ghost use Rattle.abstract_path.specs.Routes.{AreEdgesOf};
 
-use abstract_path::frontier::{Route, frontier, is_reached};
+use abstract_path::frontier::{Route, frontier, is_reached, last_crossing, shortest};
 use std::alloc::{AllocError, Global};
 use std::test::Fail;
 
@@ -108,6 +108,41 @@ fn is_walked(
 fn walks_a_line(rt: HostRuntime) -> Result<(), Fail> {
     assert!(rt; is_walked(rt.alloc(), &[false, false], Some((&[0, 1], 0)))?);
     assert!(rt; is_walked(rt.alloc(), &[false, true], None)?);
+    Ok(())
+}
+
+/// Marked regions, and the place of the last edge of the line that leads out of them.
+const CROSSINGS: [([bool; 3], Option<usize>); 4] = [
+    ([true, false, false], Some(0)),
+    ([true, true, false], Some(1)),
+    ([true, false, true], Some(0)),
+    ([true, true, true], None),
+];
+
+#[test]
+fn finds_last_crossings(rt: HostRuntime) -> Result<(), Fail> {
+    for (marked, wanted) in CROSSINGS {
+        assert!(rt; last_crossing(&LINE, &marked, &[0, 1]) == wanted);
+    }
+    Ok(())
+}
+
+/// Whether the shortest path over the line is the one that is wanted.
+fn is_shortest(
+    alloc: Global,
+    shut: &[bool; 2],
+    wanted: Option<&[u32]>,
+) -> Result<bool, AllocError> {
+    match shortest(alloc, 3, line(), shut, 0, 2)? {
+        Some(path) => Ok(wanted == Some(path.as_slice())),
+        None => Ok(wanted.is_none()),
+    }
+}
+
+#[test]
+fn finds_shortest_paths(rt: HostRuntime) -> Result<(), Fail> {
+    assert!(rt; is_shortest(rt.alloc(), &[false, false], Some(&[0, 1]))?);
+    assert!(rt; is_shortest(rt.alloc(), &[true, false], None)?);
     Ok(())
 }
 
