@@ -20,6 +20,8 @@ mod outlooks;
 #[cfg(test)]
 mod ready;
 #[cfg(test)]
+mod searches;
+#[cfg(test)]
 mod slices;
 #[cfg(test)]
 mod states;

@@ -9,6 +9,7 @@ use flow_graph::graphs::Graphs;
 use linear_formula::error::OutOfMemory;
 use punch_step::memo::Memos;
 use punch_step::outlook::{Outlook, look_ahead};
+use punch_step::searched::Searched;
 use punch_step::slice::{Sliced, slice};
 use query_rules::laws::{a_longer_state, an_asked_query};
 use query_rules::state::{QueryState, begin_state};
@@ -75,5 +76,5 @@ pub fn outlook(
     requires { IsReady graphs.now.graphs table.now.summaries state.now }
 {
     let graph = &graphs.graphs.as_slice()[state.query().proc as usize];
-    look_ahead(alloc, state, graph)
+    look_ahead(alloc, &mut Searched::new(alloc), state, graph)
 }
