@@ -8,12 +8,34 @@ use punch_step::searched::Searched;
 use std::alloc::Global;
 use std::test::Fail;
 
-const fn edge(from: u32, to: u32) -> RegionEdge {
-    RegionEdge { edge: 0, from, to }
-}
-
 /// From 0 to 3 over 1, and over 2 and 4.
-const EDGES: [RegionEdge; 5] = [edge(0, 1), edge(1, 3), edge(0, 2), edge(2, 4), edge(4, 3)];
+const EDGES: [RegionEdge; 5] = [
+    RegionEdge {
+        edge: 0,
+        from: 0,
+        to: 1,
+    },
+    RegionEdge {
+        edge: 0,
+        from: 1,
+        to: 3,
+    },
+    RegionEdge {
+        edge: 0,
+        from: 0,
+        to: 2,
+    },
+    RegionEdge {
+        edge: 0,
+        from: 2,
+        to: 4,
+    },
+    RegionEdge {
+        edge: 0,
+        from: 4,
+        to: 3,
+    },
+];
 
 fn edges() -> &'static [RegionEdge; 5]
     ensures { AreWithin 5 result.now }
