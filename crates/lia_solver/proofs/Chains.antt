@@ -11,7 +11,7 @@ use Rattle.std.specs.List.{slice_range}
 use Rattle.std.proofs.lemmas.List.{get_or-map, get_or-replicate, length-replicate, length-map, length-set, length-drop, length-append, take-append-le, take_all, get_or_append_left, get_or_push, get_or_default, drop-append-le, map-append, get_or-set_same, get_or-set_other}
 use Rattle.std.proofs.Math.Nat.{mod-lt, mul-le-mul_left, div-lt_iff_lt-mul}
 use Rattle.std.proofs.Math.Seq.{drop-append_seam, map-set_same}
-use Rattle.lia_solver.specs.steps.Lines.{parts_of_line, parts_at, bucket_at, IsPast, AreInPool, AreHeaded, AreLines, joined_line}
+use Rattle.lia_solver.specs.steps.Lines.{parts_of_line, parts_at, bucket_at, IsPast, AreInPool, AreHeaded, AreLines, IsChained, heads_of, joined_line}
 
 -- A search along a chain
 
@@ -331,6 +331,40 @@ lines-added pool parts more lines items heads l chain number h k e f g n =
     (subst (λ (c : ℕ). AreHeaded c (pool ++ parts) (lines ++ l ∷ []) (set heads (bucket_of (length heads) parts) (length lines + 1)))
     (sym (length-set heads (bucket_of (length heads) parts) (length lines + 1)))
     (lines-pushed (length heads) pool parts lines heads l h refl k)))))
+
+-- The heads in use
+
+pub heads-many : (few many : List ℕ) → 0 < length many → heads_of few many ≡ many
+heads-many few [] h = absurd (omega (arith, h))
+heads-many few (m ∷ ms) h = refl
+
+pub heads-few : (few many : List ℕ) → length many ≡ 0 → heads_of few many ≡ few
+heads-few few [] h = refl
+heads-few few (m ∷ ms) h = absurd (omega (arith, h))
+
+pub heads-set_few : (few many : List ℕ) (i n : ℕ) → length many ≡ 0 → heads_of (set few i n) many ≡ set (heads_of few many) i n
+heads-set_few few [] i n h = refl
+heads-set_few few (m ∷ ms) i n h = absurd (omega (arith, h))
+
+pub heads-set_many : (few many : List ℕ) (i n : ℕ) → 0 < length many → heads_of few (set many i n) ≡ set (heads_of few many) i n
+heads-set_many few [] i n h = absurd (omega (arith, h))
+heads-set_many few (m ∷ ms) zero n h = refl
+heads-set_many few (m ∷ ms) (suc i) n h = refl
+
+-- the head of a chain, in the code's words
+pub chained-in : (pool items : List (ℕ × ℤ)) (lines found : List Line) (heads uses : List ℕ) (chain hash : ℕ) (parts : List (ℕ × ℤ)) →
+    AreLines pool lines heads → items ≡ pool → found ≡ lines → uses ≡ heads → hash ≡ hash_of parts → chain ≡ chain_of (length uses) hash →
+    IsChained (length uses) items found (get_or uses chain 0) parts
+chained-in pool items lines found heads uses chain hash parts h p l u e f =
+    subst (λ (ps : List (ℕ × ℤ)). IsChained (length uses) ps found (get_or uses chain 0) parts) (sym p)
+    (subst (λ (ls : List Line). IsChained (length uses) pool ls (get_or uses chain 0) parts) (sym l)
+    (subst (λ (hs : List ℕ). IsChained (length hs) pool lines (get_or hs chain 0) parts) (sym u) (record {
+      chained = h.chained;
+      head = subst (λ (b : ℕ). IsPast (length heads) pool lines (length lines) (bucket_of (length heads) parts) (get_or heads b 0))
+          (sym place) (h.last (bucket_of (length heads) parts) (bucket-bound (length heads) parts h.some));
+    }))) where
+      place : chain ≡ bucket_of (length heads) parts
+      place = f ∙ ap (λ (hs : List ℕ). chain_of (length hs) hash) u ∙ ap (chain_of (length heads)) e
 
 -- A table without rows
 

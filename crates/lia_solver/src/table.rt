@@ -1,17 +1,17 @@
 //! Rows of which each list of coefficients stands once, with its greatest constant.
 
-ghost use Rattle.std.specs.Prelude.{◌≡◌, ◌<◌, ◌≤◌, ◌^◌, ℕ, ℤ, List, [], length, slice_index_or, replicate, IfOk, OnOk, MatchOption};
+ghost use Rattle.std.specs.Prelude.{◌≡◌, ◌<◌, ◌≤◌, ◌^◌, ℕ, ℤ, List, [], ◌++◌, length, slice_index_or, slice_set, replicate, IfOk, OnOk, OnErr, MatchOption};
 ghost use Rattle.linear_formula.specs.steps.Order.{AllWithin};
 ghost use Rattle.lia_solver.specs.steps.Entries.{Entry, IsAdded};
 ghost use Rattle.lia_solver.specs.steps.Buckets.{sign_code, hash_of, chain_of};
-ghost use Rattle.lia_solver.specs.steps.Lines.{IsChained, AreInPool, IsChainedAnew, parts_at, joined_line};
+ghost use Rattle.lia_solver.specs.steps.Lines.{IsChained, AreInPool, IsChainedAnew, heads_of, parts_at, joined_line};
 
 use linear_formula::error::OutOfMemory;
 use std::alloc::{AllocError, Global};
 use std::marker::Model;
 
 /// How many chains the rows are in at the start, by their coefficients: few enough to clear at
-/// once.
+/// once, and to stand in the table itself.
 const FEW: usize = 16;
 
 /// How many chains there are at most.
@@ -61,19 +61,23 @@ pub struct Table {
     parts: Vec<(u32, i128)>,
     lines: Vec<Line>,
     /// One more than the place of the last row of each chain, 0 where there is none.
-    heads: Vec<u32>,
+    few: [u32; FEW],
+    /// The same once there are more chains.
+    many: Vec<u32>,
+    /// From so many rows on there are more chains.
+    full: usize,
 }
 
 impl Model for Table {
     ghost use Rattle.std.specs.Prelude.{List};
     ghost use Rattle.lia_solver.specs.steps.Entries.{Entry};
-    ghost use Rattle.lia_solver.specs.steps.Lines.{entries_of, AreLines};
+    ghost use Rattle.lia_solver.specs.steps.Lines.{entries_of, heads_of, AreLines};
 
     ghost Value = { List Entry };
 
     ghost view = { λ t. entries_of t.parts.items t.lines.items };
 
-    ghost invariant = { λ t. AreLines t.parts.items t.lines.items t.heads.items };
+    ghost invariant = { λ t. AreLines t.parts.items t.lines.items (heads_of t.few t.many.items) };
 }
 
 fn sign_code(coefficient: i128) -> u64
@@ -105,6 +109,25 @@ fn chain_of(hash: u32, chains: usize) -> usize
     ensures bound { result < chains }
 {
     hash as usize * chains / 4_294_967_296
+}
+
+/// The heads of the chains in use.
+fn heads_of<'a>(few: &'a [u32; FEW], many: &'a [u32]) -> &'a [u32]
+    ensures { result.now ≡ heads_of few.now many.now }
+{
+    if many.is_empty() { few } else { many }
+}
+
+fn set_head(few: &mut [u32; FEW], many: &mut Vec<u32>, chain: usize, number: u32)
+    requires { chain < length (heads_of few.old many.old.items) }
+    ensures { heads_of few.new many.new.items
+        ≡ slice_set (heads_of few.old many.old.items) chain number }
+{
+    if many.is_empty() {
+        few[chain] = number;
+        return;
+    }
+    many[chain] = number;
 }
 
 /// The place of the row with these coefficients in its chain, one of so many, of which `head` is
@@ -153,6 +176,18 @@ fn chain(lines: &mut [Line], heads: &mut [u32])
     }
 }
 
+/// Puts coefficients behind the others. Most rows have a single one, for which no block is copied.
+fn append(pool: &mut Vec<(u32, i128)>, parts: &[(u32, i128)]) -> Result<(), OutOfMemory>
+    ensures items { OnOk result (pool.new.items ≡ pool.old.items ++ parts.now) }
+    ensures kept { OnErr result (pool.new.items ≡ pool.old.items) }
+{
+    if parts.len() == 1 {
+        pool.push(parts[0])?;
+        return Ok(());
+    }
+    pool.extend_from_slice(parts)
+}
+
 /// Joins one more row of its coefficients to the line: the stronger one of both stands.
 fn join(line: &mut Line, constant: i128, origin: Origin)
     ensures { line.new ≡ joined_line line.old constant origin }
@@ -170,11 +205,12 @@ impl Table {
     {
         let parts = Vec::with_capacity(alloc, parts)?;
         let lines = Vec::with_capacity(alloc, lines)?;
-        let heads = vec![in alloc; 0; FEW]?;
         Ok(Table {
             parts,
             lines,
-            heads,
+            few: [0; FEW],
+            many: Vec::new(alloc),
+            full: FULL * FEW,
         })
     }
 
@@ -187,7 +223,9 @@ impl Table {
         }
         self.parts.clear();
         self.lines.clear();
-        self.heads.fill(0);
+        self.few = [0; FEW];
+        self.many.clear();
+        self.full = FULL * FEW;
     }
 
     pub fn len(&self) -> usize
@@ -237,8 +275,9 @@ impl Table {
             × ((e : Entry) → (slice_index_or self.now i e).sum.parts ≡ parts.now)) }
     {
         let hash = hash_of(parts);
-        let chains = self.heads.len();
-        let head = self.heads[chain_of(hash, chains)];
+        let heads = heads_of(&self.few, &self.many);
+        let chains = heads.len();
+        let head = heads[chain_of(hash, chains)];
         find(&self.parts, &self.lines, chains, head, hash, parts)
     }
 
@@ -262,10 +301,26 @@ impl Table {
         if u32::try_from(self.lines.len()).is_err() {
             return Err(AllocError);
         }
-        self.heads.resize(chains, 0)?;
-        self.heads.fill(0);
-        chain(&mut self.lines, &mut self.heads);
+        self.many.resize(chains, 0)?;
+        self.many.fill(0);
+        chain(&mut self.lines, &mut self.many);
+        self.full = if chains < MANY {
+            FULL * chains
+        } else {
+            usize::MAX
+        };
         Ok(())
+    }
+
+    /// Puts the rows into more chains, unless there are as many as there may be.
+    fn regroup(&mut self) -> Result<(), OutOfMemory>
+        ensures { self.new ≡ self.old }
+    {
+        let chains = self.many.len().max(FEW);
+        if chains >= MANY {
+            return Ok(());
+        }
+        self.grow(GROWTH * chains)
     }
 
     /// Adds a row.
@@ -279,9 +334,8 @@ impl Table {
         ensures { OnOk result (IsAdded (record { parts = parts.now; constant = constant }) origin
             self.old self.new) }
     {
-        let chains = self.heads.len();
-        if chains < MANY && self.lines.len() >= FULL * chains {
-            self.grow(GROWTH * chains)?;
+        if self.lines.len() >= self.full {
+            self.regroup()?;
         }
         self.put(parts, constant, origin)
     }
@@ -298,9 +352,10 @@ impl Table {
             self.old self.new) }
     {
         let hash = hash_of(parts);
-        let chains = self.heads.len();
+        let heads = heads_of(&self.few, &self.many);
+        let chains = heads.len();
         let chain = chain_of(hash, chains);
-        let before = self.heads[chain];
+        let before = heads[chain];
         match find(&self.parts, &self.lines, chains, before, hash, parts) {
             Some(place) => {
                 join(&mut self.lines[place], constant, origin);
@@ -311,7 +366,7 @@ impl Table {
                     return Err(AllocError);
                 };
                 let start = self.parts.len();
-                self.parts.extend_from_slice(parts)?;
+                append(&mut self.parts, parts)?;
                 let end = self.parts.len();
                 self.lines.push(Line {
                     start,
@@ -322,7 +377,7 @@ impl Table {
                     before,
                     hash,
                 })?;
-                self.heads[chain] = number;
+                set_head(&mut self.few, &mut self.many, chain, number);
                 Ok(())
             }
         }

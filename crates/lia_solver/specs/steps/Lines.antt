@@ -1,5 +1,5 @@
 -- The lines of a table: where the coefficients of its rows lie, and the chains in which they are.
-use Rattle.std.specs.Prelude.{◌≡◌, ℕ, suc, ◌<◌, ◌≤◌, List, [], length, map, slice_index, slice_index_or, ℤ, int_lt, if◌then◌else◌}
+use Rattle.std.specs.Prelude.{◌≡◌, ℕ, suc, ◌<◌, ◌≤◌, List, [], ◌∷◌, length, map, slice_index, slice_index_or, ℤ, int_lt, if◌then◌else◌}
 use Rattle.std.specs.Int.{int_min}
 use Rattle.std.specs.List.{slice_range}
 use Rattle.lia_solver.specs.declared.table.Line.{Line}
@@ -55,6 +55,11 @@ pub record AreHeaded (chains : ℕ) (pool : List (ℕ × ℤ)) (lines : List Lin
   pub limit : chains ≤ 65536
   pub last : (b : ℕ) → b < chains →
       IsPast chains pool lines (length lines) b (slice_index heads b)
+
+-- the heads in use: many of them, once there are some
+abbrev pub heads_of : (few many : List ℕ) → List ℕ
+heads_of few [] = few
+heads_of few (h ∷ hs) = h ∷ hs
 
 abbrev pub AreLines : List (ℕ × ℤ) → List Line → List ℕ → Type 0
 AreLines pool lines heads = AreHeaded (length heads) pool lines heads

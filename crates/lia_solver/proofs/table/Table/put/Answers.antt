@@ -6,8 +6,8 @@ use Rattle.lia_solver.specs.declared.table.Line.{Line}
 use Rattle.lia_solver.specs.declared.table.Origin.{Origin}
 use Rattle.lia_solver.specs.steps.Buckets.{hash_of, chain_of}
 use Rattle.lia_solver.specs.steps.Entries.{IsAdded}
-use Rattle.lia_solver.specs.steps.Lines.{AreLines, entries_of, parts_at, joined_line}
-use Rattle.lia_solver.proofs.Chains.{no_line, lines-joined, lines-grown, lines-added, IsLastLine}
+use Rattle.lia_solver.specs.steps.Lines.{AreLines, entries_of, heads_of, parts_at, joined_line}
+use Rattle.lia_solver.proofs.Chains.{no_line, chained-in, lines-joined, lines-grown, lines-added, IsLastLine}
 use Rattle.lia_solver.proofs.TableEntries.{added-joined, added-new}
 use Rattle.lia_solver.proofs.table.Table.put.Goals as goal
 
@@ -19,40 +19,47 @@ joined-is lines place line result constant o h e f g =
     g ∙ ap (λ z. joined_line line z o) (to_z-of_z f) ∙ ap (λ l. joined_line l constant o)
     (e ∙ get_or_default lines place line no_line h)
 
+pub find-requires-clause-chained : goal.find-requires-clause-chained
+find-requires-clause-chained c =
+    chained-in c.self.inside.parts.items c.deref-2.result.now c.self.inside.lines.items c.deref-3.result.now
+    (heads_of c.self.inside.few c.self.inside.many.items) c.heads_of-heads.result.now c.chain_of-chain.result c.hash_of-hash.result
+    c.args.parts.now c.self.invariant c.deref-2.ensures.value c.deref-3.ensures.value
+    (c.heads_of-heads.ensures ∙ ap (heads_of c.self.inside.few) c.deref.ensures.value) c.hash_of-hash.ensures
+    c.chain_of-chain.ensures.value
+
 pub invariant_of-self : goal.invariant_of-self
 invariant_of-self c =
     let pool = c.self.inside.parts.items in
     let lines = c.self.inside.lines.items in
-    let h : c.in-Some.place < length lines = omega (arith, c.in-Some.ensures.0, ap (λ (ls : List Line). length ls) c.deref-2.ensures.value)
+    let heads = heads_of c.self.inside.few c.self.inside.many.items in
+    let h : c.in-Some.place < length lines = omega (arith, c.in-Some.ensures.0, ap (λ (ls : List Line). length ls) c.deref-3.ensures.value)
     in
     let f : FitsSigned w128 c.args.constant = search rules in
-    subst (λ (l : Line). AreLines pool (set lines c.in-Some.place l) c.self.inside.heads.items)
+    subst (λ (l : Line). AreLines pool (set lines c.in-Some.place l) heads)
     (sym (joined-is lines c.in-Some.place c.index_mut.result.now c.join.new.line c.args.constant c.args.origin h c.index_mut.ensures.value f
-    c.join.ensures)) (lines-joined (length c.self.inside.heads.items) pool lines c.self.inside.heads.items c.in-Some.place c.args.constant
-    c.args.origin c.self.invariant h)
+    c.join.ensures)) (lines-joined (length heads) pool lines heads c.in-Some.place c.args.constant c.args.origin c.self.invariant h)
 
 pub returns-in-Some : goal.returns-in-Some
 returns-in-Some c =
     let pool = c.self.inside.parts.items in
     let lines = c.self.inside.lines.items in
-    let h : c.in-Some.place < length lines = omega (arith, c.in-Some.ensures.0, ap (λ (ls : List Line). length ls) c.deref-2.ensures.value)
+    let h : c.in-Some.place < length lines = omega (arith, c.in-Some.ensures.0, ap (λ (ls : List Line). length ls) c.deref-3.ensures.value)
     in
     let f : FitsSigned w128 c.args.constant = search rules in
     let t : LinearSum = record { parts = c.args.parts.now; constant = c.args.constant } in
-    let here : parts_at pool lines c.in-Some.place ≡ t.parts = ap (λ ls. parts_at pool ls c.in-Some.place) (sym c.deref-2.ensures.value)
-    ∙ ap (λ ps. parts_at ps c.deref-2.result.now c.in-Some.place) (sym c.deref.ensures.value) ∙ c.in-Some.ensures.1 in
+    let here : parts_at pool lines c.in-Some.place ≡ t.parts = ap (λ ls. parts_at pool ls c.in-Some.place) (sym c.deref-3.ensures.value)
+    ∙ ap (λ ps. parts_at ps c.deref-3.result.now c.in-Some.place) (sym c.deref-2.ensures.value) ∙ c.in-Some.ensures.1 in
     subst (λ (l : Line). IsAdded t c.args.origin c.args.self.now (entries_of pool (set lines c.in-Some.place l)))
     (sym (joined-is lines c.in-Some.place c.index_mut.result.now c.join.new.line c.args.constant c.args.origin h c.index_mut.ensures.value f
     c.join.ensures)) (added-joined pool lines c.args.self.now c.in-Some.place t c.args.origin c.self.view_is h here)
 
 pub invariant_of-self-in_err-push-in-None : goal.invariant_of-self-in_err-push-in-None
 invariant_of-self-in_err-push-in-None c =
-    subst (λ (ps : List (ℕ × ℤ)). AreLines ps c.push.new.self.items c.self.inside.heads.items)
-    (sym c.in_ok-extend_from_slice-in-None.ensures.items)
-    (subst (λ (ls : List Line). AreLines (c.self.inside.parts.items ++ c.args.parts.now) ls c.self.inside.heads.items)
+    let heads = heads_of c.self.inside.few c.self.inside.many.items in
+    subst (λ (ps : List (ℕ × ℤ)). AreLines ps c.push.new.self.items heads) (sym c.in_ok-append-in-None.ensures.items)
+    (subst (λ (ls : List Line). AreLines (c.self.inside.parts.items ++ c.args.parts.now) ls heads)
     (sym c.in_err-push-in-None.ensures.items)
-    (lines-grown (length c.self.inside.heads.items) c.self.inside.parts.items c.args.parts.now c.self.inside.lines.items
-    c.self.inside.heads.items c.self.invariant))
+    (lines-grown (length heads) c.self.inside.parts.items c.args.parts.now c.self.inside.lines.items heads c.self.invariant))
 
 -- the line that is pushed
 abbrev line_of : (start end before hash : ℕ) → ℤ → Origin → Line
@@ -80,53 +87,52 @@ pub invariant_of-self-in-None : goal.invariant_of-self-in-None
 invariant_of-self-in-None c =
     let pool = c.self.inside.parts.items in
     let lines = c.self.inside.lines.items in
-    let heads = c.self.inside.heads.items in
+    let heads = heads_of c.self.inside.few c.self.inside.many.items in
     let parts = c.args.parts.now in
     let hash = c.hash_of-hash.result in
-    let before = c.index-before.result.now in
+    let before = get_or c.heads_of-heads.result.now c.chain_of-chain.result 0 in
     let l = line_of c.len-start.result c.len-end.result before hash (to_z w128 (of_z w128 c.args.constant)) c.args.origin in
-    let more : c.extend_from_slice.new.self.items ≡ pool ++ parts = c.in_ok-extend_from_slice-in-None.ensures.items in
+    let more : c.append.new.pool.items ≡ pool ++ parts = c.in_ok-append-in-None.ensures.items in
     let items : c.push.new.self.items ≡ lines ++ l ∷ [] = c.in_ok-push-in-None.ensures.items in
-    let chains : c.len-chains.result ≡ length heads = c.len-chains.ensures ∙ c.self.inside.heads.ok.0 in
+    let uses : c.heads_of-heads.result.now ≡ heads = c.heads_of-heads.ensures
+    ∙ ap (heads_of c.self.inside.few) c.deref.ensures.value in
     let chain : c.chain_of-chain.result ≡ chain_of (length heads) hash = c.chain_of-chain.ensures.value
-    ∙ ap (λ (n : ℕ). chain_of n hash) chains in
-    let place : c.chain_of-chain.result < length heads = omega (arith, c.chain_of-chain.ensures.bound, chains) in
-    let head : before ≡ get_or heads c.chain_of-chain.result 0 = c.index-before.ensures ∙ get_or_default heads c.chain_of-chain.result
-    before 0 place in
-    let last = pushed-line (length heads) pool parts c.extend_from_slice.new.self.items heads c.len-start.result c.len-end.result
+    ∙ ap (λ (hs : List ℕ). chain_of (length hs) hash) uses in
+    let head : before ≡ get_or heads c.chain_of-chain.result 0 = ap (λ hs. get_or hs c.chain_of-chain.result 0) uses in
+    let last = pushed-line (length heads) pool parts c.append.new.pool.items heads c.len-start.result c.len-end.result
     c.chain_of-chain.result hash before (to_z w128 (of_z w128 c.args.constant)) c.args.origin
-    (c.len-start.ensures ∙ c.self.inside.parts.ok.0) (c.len-end.ensures ∙ c.extend_from_slice.new.self.ok.0) more c.hash_of-hash.ensures
+    (c.len-start.ensures ∙ c.self.inside.parts.ok.0) (c.len-end.ensures ∙ c.append.new.pool.ok.0) more c.hash_of-hash.ensures
     chain head in
     let number : c.in-Ok.number ≡ length lines + 1 = omega (arith, c.in-Ok.ensures, c.len.ensures, c.self.inside.lines.ok.0) in
-    lines-added pool parts c.extend_from_slice.new.self.items lines c.push.new.self.items heads l c.chain_of-chain.result c.in-Ok.number
-    c.self.invariant last more items (chain ∙ ap (chain_of (length heads)) c.hash_of-hash.ensures) number
+    subst (λ (hs : List ℕ). AreLines c.append.new.pool.items c.push.new.self.items hs) (sym c.set_head.ensures)
+    (lines-added pool parts c.append.new.pool.items lines c.push.new.self.items heads l c.chain_of-chain.result c.in-Ok.number
+    c.self.invariant last more items (chain ∙ ap (chain_of (length heads)) c.hash_of-hash.ensures) number)
 
 pub returns-in_ok-push-in-None : goal.returns-in_ok-push-in-None
 returns-in_ok-push-in-None c =
     let pool = c.self.inside.parts.items in
     let lines = c.self.inside.lines.items in
-    let heads = c.self.inside.heads.items in
+    let heads = heads_of c.self.inside.few c.self.inside.many.items in
     let parts = c.args.parts.now in
     let hash = c.hash_of-hash.result in
-    let before = c.index-before.result.now in
+    let before = get_or c.heads_of-heads.result.now c.chain_of-chain.result 0 in
     let f : FitsSigned w128 c.args.constant = search rules in
     let t : LinearSum = record { parts = parts; constant = c.args.constant } in
     let l = line_of c.len-start.result c.len-end.result before hash (to_z w128 (of_z w128 c.args.constant)) c.args.origin in
-    let more : c.extend_from_slice.new.self.items ≡ pool ++ parts = c.in_ok-extend_from_slice-in-None.ensures.items in
+    let more : c.append.new.pool.items ≡ pool ++ parts = c.in_ok-append-in-None.ensures.items in
     let items : c.push.new.self.items ≡ lines ++ l ∷ [] = c.in_ok-push-in-None.ensures.items in
-    let chains : c.len-chains.result ≡ length heads = c.len-chains.ensures ∙ c.self.inside.heads.ok.0 in
+    let uses : c.heads_of-heads.result.now ≡ heads = c.heads_of-heads.ensures
+    ∙ ap (heads_of c.self.inside.few) c.deref.ensures.value in
     let chain : c.chain_of-chain.result ≡ chain_of (length heads) hash = c.chain_of-chain.ensures.value
-    ∙ ap (λ (n : ℕ). chain_of n hash) chains in
-    let place : c.chain_of-chain.result < length heads = omega (arith, c.chain_of-chain.ensures.bound, chains) in
-    let head : before ≡ get_or heads c.chain_of-chain.result 0 = c.index-before.ensures ∙ get_or_default heads c.chain_of-chain.result
-    before 0 place in
-    let last = pushed-line (length heads) pool parts c.extend_from_slice.new.self.items heads c.len-start.result c.len-end.result
+    ∙ ap (λ (hs : List ℕ). chain_of (length hs) hash) uses in
+    let head : before ≡ get_or heads c.chain_of-chain.result 0 = ap (λ hs. get_or hs c.chain_of-chain.result 0) uses in
+    let last = pushed-line (length heads) pool parts c.append.new.pool.items heads c.len-start.result c.len-end.result
     c.chain_of-chain.result hash before (to_z w128 (of_z w128 c.args.constant)) c.args.origin
-    (c.len-start.ensures ∙ c.self.inside.parts.ok.0) (c.len-end.ensures ∙ c.extend_from_slice.new.self.ok.0) more c.hash_of-hash.ensures
+    (c.len-start.ensures ∙ c.self.inside.parts.ok.0) (c.len-end.ensures ∙ c.append.new.pool.ok.0) more c.hash_of-hash.ensures
     chain head in
     let other : (i : ℕ) → i < length lines → parts_at pool lines i ≡ parts → ⊥ =
-    λ i k e. c.in-None.ensures i (subst (λ (ls : List Line). i < length ls) (sym c.deref-2.ensures.value) k)
-    (ap (λ ls. parts_at c.deref.result.now ls i) c.deref-2.ensures.value ∙ ap (λ ps. parts_at ps lines i) c.deref.ensures.value ∙ e) in
+    λ i k e. c.in-None.ensures i (subst (λ (ls : List Line). i < length ls) (sym c.deref-3.ensures.value) k)
+    (ap (λ ls. parts_at c.deref-2.result.now ls i) c.deref-3.ensures.value ∙ ap (λ ps. parts_at ps lines i) c.deref-2.ensures.value ∙ e) in
     subst (λ (ps : List (ℕ × ℤ)). IsAdded t c.args.origin c.args.self.now (entries_of ps c.push.new.self.items)) (sym more)
     (subst (λ (ls : List Line). IsAdded t c.args.origin c.args.self.now (entries_of (pool ++ parts) ls)) (sym items)
     (added-new (length heads) pool lines heads c.args.self.now t c.args.origin l c.self.view_is c.self.invariant.chained.lying other last
