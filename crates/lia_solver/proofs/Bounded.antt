@@ -1,11 +1,16 @@
 -- The bounds of a column, row by row.
-use Rattle.std.proofs.Common.{◌≡◌, ℕ, ◌<◌, ◌≤◌, ◌+◌, ◌==◌, ◌&&◌, Bool, true, false, List, [], ◌∷◌, ◌++◌, length, map, take, get_or, ℤ, pos, arith, refl, sym, ap, subst, ◌∙◌}
+use Rattle.std.proofs.Common.{◌≡◌, ℕ, ◌<◌, ◌≤◌, ◌+◌, ◌-◌, ◌==◌, ◌&&◌, nat_le, Bool, true, false, List, [], ◌∷◌, ◌++◌, length, map, take, drop, get_or, ℤ, pos, ◌+ℤ◌, ◌*ℤ◌, arith, refl, sym, ap, subst, ◌∙◌}
 use Rattle.std.specs.Int.{int_max, int_min}
 use Rattle.std.specs.Prelude.{IsTrue, filter, int_lt, unsigned_abs, if◌then◌else◌}
 use Rattle.std.proofs.lemmas.Int.{ints}
 use Rattle.std.proofs.lemmas.List.{take_more, take_all, map-append}
 use Rattle.std.proofs.lemmas.List.Elements.{filter-append}
-use Rattle.linear_formula.specs.LinearSum.{LinearSum}
+use borrow.Author.Tests.{eqb-true, ne_eqb}
+use Rattle.linear_formula.specs.LinearSum.{LinearSum, Valuation, value_of_parts, listed_at, is_ascending_from}
+use Rattle.linear_formula.specs.steps.Order.{AllWithin}
+use Rattle.linear_formula.proofs.Limits.{both, le_so}
+use Rattle.linear_formula.proofs.Merging.{AllWithin-drop, slice_rest}
+use Rattle.shadow_elim.proofs.Tests.{first_true}
 use Rattle.shadow_elim.specs.Elimination.{size_of}
 use Rattle.shadow_elim.specs.Points.{least_value, greatest_value, greatest_of, least_of}
 use Rattle.lia_solver.specs.declared.bounds.Bounds.{Bounds}
@@ -31,6 +36,41 @@ size-above x t h = ap unsigned_abs (above-first x t.parts h).first
 
 pub size-below : (x : ℕ) (t : LinearSum) → IsTrue (bounds_below x t.parts) → unsigned_abs (get_or t.parts 0 (0, pos 0)).1 ≡ size_of x t
 size-below x t h = ap unsigned_abs (below-first x t.parts h).first
+
+-- The first part where its column has no value
+
+without-first : (v : Valuation) (x : ℕ) (p : ℕ × ℤ) (ps : List (ℕ × ℤ)) → (x == p.0) ≡ true → v x ≡ pos 0 → value_of_parts v ps
+    ≡ (p.1 *ℤ v p.0) +ℤ value_of_parts v ps
+without-first v x p ps e h =
+    let none : p.1 *ℤ v p.0 ≡ p.1 *ℤ pos 0 = ap (λ z. p.1 *ℤ z) (ap v (sym (eqb-true x p.0 e)) ∙ h) in
+    omega (arith, ints, none)
+
+-- the parts behind the first one, as the code takes them
+abbrev pub behind_first : List (ℕ × ℤ) → List (ℕ × ℤ)
+behind_first ps = take (length ps - 1) (drop 1 ps)
+
+pub value-above : (v : Valuation) (x : ℕ) (ps : List (ℕ × ℤ)) → bounds_above x ps ≡ true → v x ≡ pos 0 → value_of_parts v (behind_first ps)
+    ≡ value_of_parts v ps
+value-above v x [] h k = refl
+value-above v x (p ∷ ps) h k = ap (value_of_parts v) (slice_rest (p ∷ ps) 1)
+    ∙ without-first v x p ps (first_true (x == p.0) (int_lt (pos 0) p.1) h) k
+
+pub value-below : (v : Valuation) (x : ℕ) (ps : List (ℕ × ℤ)) → bounds_below x ps ≡ true → v x ≡ pos 0 → value_of_parts v (behind_first ps)
+    ≡ value_of_parts v ps
+value-below v x [] h k = refl
+value-below v x (p ∷ ps) h k = ap (value_of_parts v) (slice_rest (p ∷ ps) 1)
+    ∙ without-first v x p ps (first_true (x == p.0) (int_lt p.1 (pos 0)) h) k
+
+pub behind-within : (ps : List (ℕ × ℤ)) → AllWithin ps → AllWithin (behind_first ps)
+behind-within ps h = subst AllWithin (sym (slice_rest ps 1)) (AllWithin-drop 1 ps h)
+
+pub unlisted : (x low : ℕ) (values : List (ℕ × ℤ)) → x < low → IsTrue (is_ascending_from low values) → listed_at x values ≡ pos 0
+unlisted x low [] h k = refl
+unlisted x low (p ∷ ps) h k =
+    let b = both (nat_le low p.0) (is_ascending_from (p.0 + 1) ps) k in
+    let beyond : low ≤ p.0 = le_so low p.0 b.0 in
+    ap (λ d. if d then p.1 else listed_at x ps) (ne_eqb x p.0 (λ e. omega (arith, h, beyond, e)))
+    ∙ unlisted x (p.0 + 1) ps (omega (arith, h, beyond)) b.1
 
 -- One more row
 

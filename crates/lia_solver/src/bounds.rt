@@ -1,6 +1,6 @@
 //! The bounds of a column at the values so far.
 
-ghost use Rattle.std.specs.Prelude.{◌≡◌, ◌^◌, ◌<◌, ◌≤◌, length, unsigned_abs, IsTrue, ◌+ℤ◌};
+ghost use Rattle.std.specs.Prelude.{◌≡◌, ◌^◌, ◌<◌, ◌≤◌, length, unsigned_abs, pos, IsTrue, ◌+ℤ◌};
 ghost use Rattle.linear_formula.specs.LinearSum.{valuation, value_of_parts, is_term};
 ghost use Rattle.linear_formula.specs.steps.Order.{AllWithin};
 ghost use Rattle.shadow_elim.specs.Division.{floor_quotient};
@@ -58,22 +58,23 @@ fn floor_quotient(number: i128, divisor: u64) -> i128
 }
 
 impl Bounds {
-    /// The bounds with one more row.
+    /// The bounds with one more row. The column has no value yet, so its part counts for nothing.
     fn with_row(self, column: u32, parts: &[(u32, i128)], constant: i128, at: &Assignment) -> Bounds
-        requires { IsTrue (is_term (record { parts = parts.now; constant = constant })) }
+        requires zero { valuation at.now column ≡ pos 0 }
+        requires term { IsTrue (is_term (record { parts = parts.now; constant = constant })) }
         ensures { result ≡ with_row column at.now
             (record { parts = parts.now; constant = constant })
             self }
     {
         if bounds_above(column, parts) {
-            let rest = value(parts, constant, at);
+            let rest = value(&parts[1..], constant, at);
             let high = floor_quotient(-rest, first_size(parts));
             Bounds {
                 high: self.high.min(high),
                 ..self
             }
         } else if bounds_below(column, parts) {
-            let rest = value(parts, constant, at);
+            let rest = value(&parts[1..], constant, at);
             let low = -floor_quotient(-rest, first_size(parts));
             let floor = floor_quotient(rest, first_size(parts));
             Bounds {
@@ -87,9 +88,10 @@ impl Bounds {
     }
 }
 
-/// What the rows whose first column it is say of the column.
+/// What the rows whose first column it is say of the column, which has no value yet.
 pub fn bounds_of(column: u32, table: &Table, at: &Assignment) -> Bounds
-    requires { AreRows table.now }
+    requires zero { valuation at.now column ≡ pos 0 }
+    requires rows { AreRows table.now }
     ensures low { result.low ≡ low_in column at.now table.now }
     ensures floor { result.floor ≡ floor_in column at.now table.now }
     ensures high { result.high ≡ high_in column at.now table.now }

@@ -2,14 +2,21 @@ use Rattle.std.proofs.Common.{◌≡◌, ◌+◌, IsTrue, arith, rules, sym, ap,
 use Rattle.std.specs.Prelude.{int_lt}
 use Rattle.std.specs.Int.{w64, w128}
 use Rattle.std.proofs.lemmas.Int.{ints}
+use Rattle.linear_formula.specs.LinearSum.{listed_at}
 use Rattle.shadow_elim.specs.Points.{split}
 use Rattle.lia_solver.specs.steps.Solved.{high_in, low_in, floor_in}
+use Rattle.lia_solver.proofs.Bounded.{unlisted}
 use Rattle.lia_solver.proofs.Ranges.{ascending-lower, fits-between}
 use Rattle.lia_solver.proofs.Extending.{extended-crossed, low-between, floor-between, high-between}
 use Rattle.lia_solver.proofs.columnwise.extend.Goals as goal
 
 pub new-at-requires : goal.new-at-requires
 new-at-requires c = ascending-lower (c.args.column + 1) 0 c.args.values (omega arith) c.requires.ascending
+
+pub bounds_of-low-requires-clause-zero : goal.bounds_of-low-requires-clause-zero
+bounds_of-low-requires-clause-zero c =
+    ap (listed_at c.args.column) c.new-at.ensures.value
+    ∙ unlisted c.args.column (c.args.column + 1) c.args.values (omega arith) c.requires.ascending
 
 pub overflow_cast-result : goal.overflow_cast-result
 overflow_cast-result c =

@@ -1,33 +1,34 @@
 use Rattle.std.proofs.Common.{◌≡◌, FitsSigned, to_z, of_z, to_z-of_z, ℤ, pos, neg_ℤ, ◌+ℤ◌, ◌-ℤ◌, arith, rules, sym, ap, ◌∙◌}
 use Rattle.std.specs.Int.{w128, int_min, int_max}
 use Rattle.std.proofs.lemmas.Int.{ints}
-use Rattle.linear_formula.specs.LinearSum.{valuation, value_of_parts}
+use Rattle.linear_formula.specs.LinearSum.{valuation}
 use Rattle.shadow_elim.specs.Division.{floor_quotient}
 use Rattle.shadow_elim.specs.Elimination.{size_of}
 use Rattle.shadow_elim.specs.Points.{rest_of}
 use Rattle.lia_solver.specs.steps.Solved.{upper_of, lower_of, floor_of}
 use Rattle.linear_formula.proofs.Limits.{IsTerm-from_test}
 use Rattle.lia_solver.proofs.PairSumsInCode.{row_of}
-use Rattle.lia_solver.proofs.Bounded.{with-above, with-below, size-above, size-below}
+use Rattle.lia_solver.proofs.Bounded.{with-above, with-below, size-above, size-below, value-above, value-below, behind-within}
 use Rattle.lia_solver.proofs.bounds.Bounds.with_row.Goals as goal
 
 pub value-rest-requires-clause-limits : goal.value-rest-requires-clause-limits
-value-rest-requires-clause-limits c = (IsTerm-from_test (row_of c.args.parts.now c.args.constant) c.requires).within.coefficients
+value-rest-requires-clause-limits c =
+    behind-within c.args.parts.now (IsTerm-from_test (row_of c.args.parts.now c.args.constant) c.requires.term).within.coefficients
 
 pub first_size-requires-clause-limits : goal.first_size-requires-clause-limits
-first_size-requires-clause-limits c = (IsTerm-from_test (row_of c.args.parts.now c.args.constant) c.requires).within.coefficients
+first_size-requires-clause-limits c = (IsTerm-from_test (row_of c.args.parts.now c.args.constant) c.requires.term).within.coefficients
 
 pub value-rest-requires-then-bounds_below-clause-limits : goal.value-rest-requires-then-bounds_below-clause-limits
 value-rest-requires-then-bounds_below-clause-limits c =
-    (IsTerm-from_test (row_of c.args.parts.now c.args.constant) c.requires).within.coefficients
+    behind-within c.args.parts.now (IsTerm-from_test (row_of c.args.parts.now c.args.constant) c.requires.term).within.coefficients
 
 pub first_size-requires-then-bounds_below-clause-limits : goal.first_size-requires-then-bounds_below-clause-limits
 first_size-requires-then-bounds_below-clause-limits c =
-    (IsTerm-from_test (row_of c.args.parts.now c.args.constant) c.requires).within.coefficients
+    (IsTerm-from_test (row_of c.args.parts.now c.args.constant) c.requires.term).within.coefficients
 
 pub first_size-requires-then-bounds_below-2-clause-limits : goal.first_size-requires-then-bounds_below-2-clause-limits
 first_size-requires-then-bounds_below-2-clause-limits c =
-    (IsTerm-from_test (row_of c.args.parts.now c.args.constant) c.requires).within.coefficients
+    (IsTerm-from_test (row_of c.args.parts.now c.args.constant) c.requires.term).within.coefficients
 
 less : (z : ℤ) → pos 0 -ℤ z ≡ neg_ℤ z
 less z = omega (arith, ints)
@@ -46,7 +47,7 @@ returns-then-bounds_above c =
     let constant_fits : FitsSigned w128 c.args.constant = search rules in
     let fits : FitsSigned w128 value = search rules in
     let rest : to_z w128 (of_z w128 value) ≡ rest_of at t = to_z-of_z fits ∙ c.value-rest.ensures.value
-    ∙ ap (λ z. value_of_parts (valuation at) c.args.parts.now +ℤ z) (to_z-of_z constant_fits) in
+    ∙ (λ i. value-above (valuation at) x c.args.parts.now above c.requires.zero i +ℤ to_z-of_z constant_fits i) in
     let away_fits : FitsSigned w128 (pos 0 -ℤ to_z w128 (of_z w128 value)) = search rules in
     let away : to_z w128 (of_z w128 (pos 0 -ℤ to_z w128 (of_z w128 value))) ≡ neg_ℤ (rest_of at t) = to_z-of_z away_fits
     ∙ less (to_z w128 (of_z w128 value)) ∙ ap neg_ℤ rest in
@@ -74,7 +75,7 @@ returns-then-bounds_below c =
     let constant_fits : FitsSigned w128 c.args.constant = search rules in
     let fits : FitsSigned w128 value = search rules in
     let rest : to_z w128 (of_z w128 value) ≡ rest_of at t = to_z-of_z fits ∙ c.value-rest-then-bounds_below.ensures.value
-    ∙ ap (λ z. value_of_parts (valuation at) c.args.parts.now +ℤ z) (to_z-of_z constant_fits) in
+    ∙ (λ i. value-below (valuation at) x c.args.parts.now below c.requires.zero i +ℤ to_z-of_z constant_fits i) in
     let away_fits : FitsSigned w128 (pos 0 -ℤ to_z w128 (of_z w128 value)) = search rules in
     let away : to_z w128 (of_z w128 (pos 0 -ℤ to_z w128 (of_z w128 value))) ≡ neg_ℤ (rest_of at t) = to_z-of_z away_fits
     ∙ less (to_z w128 (of_z w128 value)) ∙ ap neg_ℤ rest in
