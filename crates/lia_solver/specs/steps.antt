@@ -9,6 +9,7 @@ pub mod Gathered
 pub mod Implied
 pub mod Lines
 pub mod Numbers
+pub mod Places
 pub mod TwoColumns
 pub mod Searches
 pub mod Solved

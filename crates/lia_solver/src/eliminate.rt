@@ -12,6 +12,7 @@ ghost use Rattle.lia_solver.specs.steps.Tables.{starts_from, passed, AreRows, Is
 
 use crate::one_column::always_holds;
 use crate::pairing::{Made, combine, measure};
+use crate::places::Places;
 use crate::slight::{sizes_at, sizes_of_all};
 use crate::table::{Origin, Table};
 use crate::two_columns::{Sides, is_needless, sides_of};
@@ -24,14 +25,14 @@ use std::alloc::{AllocError, Global};
 #[derive(Drop)]
 pub struct Work {
     parts: Vec<(u32, i128)>,
-    lowers: Vec<usize>,
+    lowers: Places,
 }
 
 impl Work {
     pub fn new(alloc: Global) -> Work {
         Work {
             parts: Vec::new(alloc),
-            lowers: Vec::new(alloc),
+            lowers: Places::new(alloc),
         }
     }
 }
@@ -75,8 +76,8 @@ fn starts_beyond(column: u32, parts: &[(u32, i128)]) -> bool
 
 /// Lists the rows that bound the column from below, and says how many rows name it or an earlier
 /// one.
-fn list_lowers(places: &mut Vec<usize>, column: u32, table: &Table) -> Result<usize, OutOfMemory>
-    ensures places { OnOk result (AreLowerPlaces column table.now places.new.items) }
+fn list_lowers(places: &mut Places, column: u32, table: &Table) -> Result<usize, OutOfMemory>
+    ensures places { OnOk result (AreLowerPlaces column table.now places.new) }
     ensures passed { IfOk result (λ n. n ≡ passed (column + 1) table.now) }
 {
     places.clear();
@@ -287,5 +288,11 @@ pub fn eliminate(work: &mut Work, table: &mut Table, column: u32) -> Result<Elim
     ensures { IfOk result (λ p. IsLeft column table.old table.new p) }
 {
     let behind = list_lowers(&mut work.lowers, column, table)?;
-    add_all(&mut work.parts, column, table, &work.lowers, behind)
+    add_all(
+        &mut work.parts,
+        column,
+        table,
+        work.lowers.as_slice(),
+        behind,
+    )
 }

@@ -15,6 +15,7 @@ mod merge;
 mod narrow;
 mod one_column;
 mod pairing;
+mod places;
 mod search;
 mod slight;
 pub mod solve;

@@ -1,4 +1,4 @@
-use Rattle.std.proofs.Common.{◌∙◌, ◌+◌, ◌<◌, length, ℕ, Vec, Global, arith, sym, ap, subst}
+use Rattle.std.proofs.Common.{◌∙◌, ◌+◌, ◌<◌, length, arith, sym, ap, subst}
 use Rattle.lia_solver.specs.steps.Entries.{no_entry, bounds_below}
 use Rattle.lia_solver.specs.steps.Tables.{starts_from}
 use Rattle.lia_solver.proofs.Lowers.{AreLowersTo, lowers-push, lowers-skip, below-apart, passed-one, passed-none, passed-limit}
@@ -26,22 +26,22 @@ loop-place-preserved c =
     let test = c.starts_beyond.ensures ∙ ap (starts_from (x + 1)) parts in
     elim c.if-not-starts_beyond.branch [
       | then-not-starts_beyond+then-bounds_below+in_ok-push w ↦ (
-        lowers-push x es n c.loop-place.places.items c.if-not-starts_beyond.places.items c.loop-place.invariant.0 inside
+        lowers-push x es n c.loop-place.places c.if-not-starts_beyond.places c.loop-place.invariant.0 inside
             (sym (w.bounds_below.ensures ∙ ap (bounds_below x) parts) ∙ w.if-bounds_below.true)
-            (ap (λ (v : Vec ℕ Global). v.items) w.places-is ∙ w.in_ok-push.ensures.items),
+            (w.places-is ∙ w.in_ok-push.ensures),
         w.passed-is ∙ ap (λ k. k + 1) c.loop-place.invariant.1
             ∙ sym (passed-one (x + 1) es n inside (sym test ∙ w.if-not-starts_beyond.true)),
       )
       | then-not-starts_beyond+else-bounds_below w ↦ (
-        subst (AreLowersTo x es (n + 1)) (sym (ap (λ (v : Vec ℕ Global). v.items) w.places-is))
-            (lowers-skip x es n c.loop-place.places.items c.loop-place.invariant.0
+        subst (AreLowersTo x es (n + 1)) (sym w.places-is)
+            (lowers-skip x es n c.loop-place.places c.loop-place.invariant.0
             (sym (w.bounds_below.ensures ∙ ap (bounds_below x) parts) ∙ w.if-bounds_below.false)),
         w.passed-is ∙ ap (λ k. k + 1) c.loop-place.invariant.1
             ∙ sym (passed-one (x + 1) es n inside (sym test ∙ w.if-not-starts_beyond.true)),
       )
       | else-not-starts_beyond w ↦ (
-        subst (AreLowersTo x es (n + 1)) (sym (ap (λ (v : Vec ℕ Global). v.items) w.places-is))
-            (lowers-skip x es n c.loop-place.places.items c.loop-place.invariant.0
+        subst (AreLowersTo x es (n + 1)) (sym w.places-is)
+            (lowers-skip x es n c.loop-place.places c.loop-place.invariant.0
             (below-apart x _ (sym test ∙ w.if-not-starts_beyond.false))),
         w.passed-is ∙ c.loop-place.invariant.1
             ∙ sym (passed-none (x + 1) es n inside (sym test ∙ w.if-not-starts_beyond.false)),
