@@ -24,6 +24,16 @@ ended-requires-clause-here c =
     c.requires.job in
     subst (λ (x : Shown). c.args.job.id < length x.core.entries) c.self.view_is (sound_here p c.self.invariant.0 c.args.job m.sound)
 
+pub index-requires : goal.index-requires
+index-requires c =
+    let b = c.self.inside in
+    let p : Shown = the_view b in
+    let m : MayBeClosed p c.args.job c.args.how = subst (λ (x : Shown). MayBeClosed x c.args.job c.args.how) (sym c.self.view_is)
+    c.requires.job in
+    let len : length b.forest.entries ≡ length b.slots.items =
+    (board_keeps p c.self.invariant.0).paired.count ∙ length-map b.slots.items node_of in
+    omega (arith, len, sound_here p c.self.invariant.0 c.args.job m.sound, b.slots.ok.0)
+
 pub waiting-requires : goal.waiting-requires
 waiting-requires c =
     let b = c.self.inside in
