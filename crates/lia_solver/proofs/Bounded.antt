@@ -15,10 +15,10 @@ use Rattle.shadow_elim.specs.Elimination.{size_of}
 use Rattle.shadow_elim.specs.Points.{least_value, greatest_value, greatest_of, least_of}
 use Rattle.lia_solver.specs.declared.bounds.Bounds.{Bounds}
 use Rattle.lia_solver.specs.steps.Bounded.{with_row}
-use Rattle.lia_solver.specs.steps.Entries.{Entry, no_entry, entry_at, sum_at, bounds_above, bounds_below}
+use Rattle.lia_solver.specs.steps.Entries.{Entry, no_entry, entry_at, sum_at, first_of, bounds_above, bounds_below}
 use Rattle.lia_solver.specs.steps.Solved.{upper_of, lower_of, floor_of, high_in, low_in, floor_in}
 use Rattle.lia_solver.specs.steps.Tables.{sums_of}
-use Rattle.lia_solver.proofs.FirstColumns.{above-first, below-first}
+use Rattle.lia_solver.proofs.FirstColumns.{above-first, below-first, above-other, below-other}
 
 -- One row
 
@@ -30,6 +30,10 @@ pub with-below : (x : ℕ) (values : List (ℕ × ℤ)) (t : LinearSum) (b : Bou
     bounds_below x t.parts ≡ true → with_row x values t b
     ≡ record b { low = int_max b.low (lower_of x values t); floor = int_max b.floor (floor_of x values t) }
 with-below x values t b h k = rw h (rw k refl)
+
+with-neither : (x : ℕ) (values : List (ℕ × ℤ)) (t : LinearSum) (b : Bounds) → bounds_above x t.parts ≡ false →
+    bounds_below x t.parts ≡ false → with_row x values t b ≡ b
+with-neither x values t b h k = rw h (rw k refl)
 
 pub size-above : (x : ℕ) (t : LinearSum) → IsTrue (bounds_above x t.parts) → unsigned_abs (get_or t.parts 0 (0, pos 0)).1 ≡ size_of x t
 size-above x t h = ap unsigned_abs (above-first x t.parts h).first
@@ -166,6 +170,13 @@ bounds-more x values entries n b c h a e =
         floor = a.floor ∙ sym (ap (greatest_of least_value) (tested-no below (floor_of x values) entries n h g));
         high = a.high ∙ sym (ap (least_of greatest_value) (tested-no above (upper_of x values) entries n h f));
       }
+
+-- one more row, whose first column is another one
+pub bounds-skip : (x : ℕ) (values : List (ℕ × ℤ)) (entries : List Entry) (n : ℕ) (b : Bounds) → n < length entries →
+    AreBounds x values entries n b → (first_of (sum_at entries n).parts ≡ x → ⊥) → AreBounds x values entries (n + 1) b
+bounds-skip x values entries n b h a k =
+    bounds-more x values entries n b b h a (sym (with-neither x values (sum_at entries n) b (above-other x (sum_at entries n).parts k)
+    (below-other x (sum_at entries n).parts k)))
 
 pub bounds-low : (x : ℕ) (values : List (ℕ × ℤ)) (entries : List Entry) (n : ℕ) (b : Bounds) → length entries ≤ n →
     AreBounds x values entries n b → b.low ≡ low_in x values entries

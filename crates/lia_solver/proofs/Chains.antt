@@ -6,6 +6,7 @@ use Rattle.lia_solver.specs.declared.table.Line.{Line}
 use Rattle.lia_solver.specs.declared.table.Origin.{Origin}
 use Rattle.lia_solver.specs.declared.table.Origin.TheVariants.{Given}
 use Rattle.lia_solver.specs.steps.Buckets.{sign_code, next_hash, hash_of, chain_of, bucket_of}
+use Rattle.lia_solver.specs.steps.Entries.{first_of}
 use Rattle.std.specs.Int.{int_min}
 use Rattle.std.specs.List.{slice_range}
 use Rattle.std.proofs.lemmas.List.{get_or-map, get_or-replicate, length-replicate, length-map, length-set, length-drop, length-append, take-append-le, take_all, get_or_append_left, get_or_push, get_or_default, drop-append-le, map-append, get_or-set_same, get_or-set_other}
@@ -53,6 +54,7 @@ pub record AreAlike (pool other : List (ℕ × ℤ)) (lines more : List Line) : 
       × ((get_or more i d).end ≤ length other)
   pub before : (i : ℕ) (d : Line) → i < length lines → (get_or more i d).before ≡ (get_or lines i d).before
   pub hash : (i : ℕ) (d : Line) → i < length lines → (get_or more i d).hash ≡ (get_or lines i d).hash
+  pub first : (i : ℕ) (d : Line) → i < length lines → (get_or more i d).first ≡ (get_or lines i d).first
 
 pub past-alike : (chains : ℕ) (pool other : List (ℕ × ℤ)) (lines more : List Line) (n b past : ℕ) →
     ((i : ℕ) → parts_at other more i ≡ parts_at pool lines i) →
@@ -72,6 +74,9 @@ lines-alike chains pool other lines more heads h a = record {
       hash = λ i d k.
           let q : i < length lines = omega (arith, k, a.count) in
           a.hash i d q ∙ h.chained.lying.hash i d q ∙ sym (ap hash_of (a.parts i));
+      first = λ i d k.
+          let q : i < length lines = omega (arith, k, a.count) in
+          a.first i d q ∙ h.chained.lying.first i d q ∙ sym (ap first_of (a.parts i));
     };
     before = λ i d k.
         let q : i < length lines = omega (arith, k, a.count) in
@@ -98,6 +103,7 @@ no_line = record {
   origin = Given 0;
   before = 0;
   hash = 0;
+  first = 0;
 }
 
 -- the line lies at the same place and in the same chain
@@ -106,9 +112,10 @@ pub record IsLike (l m : Line) : Type 0 where
   pub end : l.end ≡ m.end
   pub before : l.before ≡ m.before
   pub hash : l.hash ≡ m.hash
+  pub first : l.first ≡ m.first
 
 like-same : (l : Line) → IsLike l l
-like-same l = record { start = refl; end = refl; before = refl; hash = refl }
+like-same l = record { start = refl; end = refl; before = refl; hash = refl; first = refl }
 
 line-set : (lines : List Line) (i k : ℕ) (l d : Line) → k < length lines → IsLike l (get_or lines i d) →
     IsLike (get_or (set lines i l) k d) (get_or lines k d)
@@ -124,8 +131,8 @@ joined-same l c o = by_test (int_lt l.constant c) where
   of b = if b then record l { constant = c; least = int_min l.least c; origin = o } else record l { least = int_min l.least c }
 
   by_test : (b : Bool) → IsLike (of b) l
-  by_test true = record { start = refl; end = refl; before = refl; hash = refl }
-  by_test false = record { start = refl; end = refl; before = refl; hash = refl }
+  by_test true = record { start = refl; end = refl; before = refl; hash = refl; first = refl }
+  by_test false = record { start = refl; end = refl; before = refl; hash = refl; first = refl }
 
 range-same : (pool : List (ℕ × ℤ)) (l m : Line) → IsLike l m → parts_of_line pool l ≡ parts_of_line pool m
 range-same pool l m s = ap (λ a. slice_range pool a l.end) s.start ∙ ap (λ b. slice_range pool m.start b) s.end
@@ -143,6 +150,7 @@ lines-joined chains pool lines heads i c o h k = lines-alike chains pool pool li
       (omega (arith, e.start, e.end, b.0), omega (arith, e.end, b.1));
   before = λ j d q. (like j d q).before;
   hash = λ j d q. (like j d q).hash;
+  first = λ j d q. (like j d q).first;
 }) where
   l : Line
   l = joined_line (get_or lines i no_line) c o
@@ -181,6 +189,7 @@ lines-grown chains pool more lines heads h = lines-alike chains pool (pool ++ mo
   inside = λ i d k. ((h.chained.lying.inside i d k).0, omega (arith, (h.chained.lying.inside i d k).1, length-append pool more));
   before = λ i d k. refl;
   hash = λ i d k. refl;
+  first = λ i d k. refl;
 })
 
 -- a line at the end, with these coefficients and in their chain
@@ -189,6 +198,7 @@ pub record IsLastLine (chains : ℕ) (pool parts : List (ℕ × ℤ)) (heads : L
   pub end : l.end ≡ length (pool ++ parts)
   pub before : l.before ≡ get_or heads (bucket_of chains parts) 0
   pub hash : l.hash ≡ hash_of parts
+  pub first : l.first ≡ first_of parts
 
 pub last-parts : (chains : ℕ) (pool parts : List (ℕ × ℤ)) (heads : List ℕ) (l : Line) → IsLastLine chains pool parts heads l →
     parts_of_line (pool ++ parts) l ≡ parts
@@ -219,6 +229,7 @@ lines-pushed chains pool parts lines heads l h n k = record {
     lying = record {
       inside = λ i d q. inside i d (cases_lt i (length lines)) q;
       hash = λ i d q. hash i d (cases_lt i (length lines)) q;
+      first = λ i d q. first i d (cases_lt i (length lines)) q;
     };
     before = λ i d q. before i d (cases_lt i (length lines)) q;
   };
@@ -266,6 +277,15 @@ lines-pushed chains pool parts lines heads l h n k = record {
   hash i d (inr le) q =
       let at : i ≡ length lines = omega (arith, le, q, length-append lines (l ∷ [])) in
       ap (λ (r : Line). r.hash) (get_or_push lines l d i (sym at)) ∙ k.hash ∙ sym (ap hash_of (ap (parts_at all lines') at ∙ new))
+
+  first : (i : ℕ) (d : Line) → (i < length lines) ⊎ (length lines ≤ i) → i < length lines' → (get_or lines' i d).first
+      ≡ first_of (parts_at all lines' i)
+  first i d (inl lt) q =
+      ap (λ (r : Line). r.first) (get_or_append_left lines (l ∷ []) d i lt) ∙ h.chained.lying.first i d lt
+      ∙ sym (ap first_of (old i lt))
+  first i d (inr le) q =
+      let at : i ≡ length lines = omega (arith, le, q, length-append lines (l ∷ [])) in
+      ap (λ (r : Line). r.first) (get_or_push lines l d i (sym at)) ∙ k.first ∙ sym (ap first_of (ap (parts_at all lines') at ∙ new))
 
   -- what is known of the first lines
   past-old : (n b past : ℕ) → n ≤ length lines → IsPast chains pool lines n b past → IsPast chains all lines' n b past
@@ -374,6 +394,7 @@ lines-none chains h k = subst (λ (n : ℕ). AreHeaded n [] [] (replicate chains
     lying = record {
       inside = λ i d q. absurd (omega (arith, q));
       hash = λ i d q. absurd (omega (arith, q));
+      first = λ i d q. absurd (omega (arith, q));
     };
     before = λ i d q. absurd (omega (arith, q));
   };

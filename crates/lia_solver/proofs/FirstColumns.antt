@@ -13,7 +13,7 @@ use Rattle.shadow_elim.specs.Elimination.{is_upper, is_lower, pair_sum}
 use Rattle.shadow_elim.proofs.PairSums.{upper-is, lower-is, pair_sum-term, pair_sum-absent, pair_sum-eliminates}
 use Rattle.shadow_elim.proofs.Tests.{first_true, second_true, at_most_yes, at_most_no}
 use Rattle.shadow_elim.proofs.Tightening.{tightened-term, tightened-absent}
-use Rattle.lia_solver.specs.steps.Entries.{bounds_above, bounds_below}
+use Rattle.lia_solver.specs.steps.Entries.{first_of, bounds_above, bounds_below}
 use Rattle.lia_solver.specs.steps.Tables.{starts_from}
 
 -- the first coefficient is that of the column
@@ -51,6 +51,33 @@ below-lower x t h = of_parts t.parts h where
       ap (λ b. int_lt (if b then p.1 else listed_at x ps) (pos 0)) (first_true (x == p.0) (int_lt p.1 (pos 0)) k)
       ∙ second_true (x == p.0) (int_lt p.1 (pos 0)) k
 
+-- The first column that a row names
+
+above-named : (x : ℕ) (ps : List (ℕ × ℤ)) → IsTrue (bounds_above x ps) → first_of ps ≡ x
+above-named x [] h = absurd (cc)
+above-named x (p ∷ ps) h = sym (eqb-true x p.0 (first_true (x == p.0) (int_lt (pos 0) p.1) h))
+
+below-named : (x : ℕ) (ps : List (ℕ × ℤ)) → IsTrue (bounds_below x ps) → first_of ps ≡ x
+below-named x [] h = absurd (cc)
+below-named x (p ∷ ps) h = sym (eqb-true x p.0 (first_true (x == p.0) (int_lt p.1 (pos 0)) h))
+
+-- a row that bounds x names it first
+pub bounding-named : (x : ℕ) (ps : List (ℕ × ℤ)) → IsTrue (bounds_above x ps) ⊎ IsTrue (bounds_below x ps) → first_of ps ≡ x
+bounding-named x ps (inl h) = above-named x ps h
+bounding-named x ps (inr h) = below-named x ps h
+
+pub above-other : (x : ℕ) (ps : List (ℕ × ℤ)) → (first_of ps ≡ x → ⊥) → bounds_above x ps ≡ false
+above-other x ps h = by_value (bounds_above x ps) refl where
+  by_value : (b : Bool) → bounds_above x ps ≡ b → b ≡ false
+  by_value true e = absurd (h (bounding-named x ps (inl e)))
+  by_value false e = refl
+
+pub below-other : (x : ℕ) (ps : List (ℕ × ℤ)) → (first_of ps ≡ x → ⊥) → bounds_below x ps ≡ false
+below-other x ps h = by_value (bounds_below x ps) refl where
+  by_value : (b : Bool) → bounds_below x ps ≡ b → b ≡ false
+  by_value true e = absurd (h (bounding-named x ps (inr e)))
+  by_value false e = refl
+
 -- Rows that name no column before one
 
 abbrev pub starts : ℕ → LinearSum → Bool
@@ -85,6 +112,11 @@ le-from_test a b h = grind (arith, nat_tests)
 
 lt-from_test : (a b : ℕ) → nat_le a b ≡ false → b < a
 lt-from_test a b h = grind (arith, nat_tests)
+
+-- it names none before y where its first one isn't before y
+pub starts-first : (y : ℕ) (ps : List (ℕ × ℤ)) → y ≤ 4294967296 → nat_le y (first_of ps) ≡ starts_from y ps
+starts-first y [] h = at_most_yes y 4294967296 h
+starts-first y (p ∷ ps) h = refl
 
 -- a row that names no column before y names none before x
 pub starts-lower : (x y : ℕ) (ps : List (ℕ × ℤ)) → x ≤ y → starts_from y ps ≡ true → starts_from x ps ≡ true

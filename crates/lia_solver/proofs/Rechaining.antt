@@ -5,6 +5,7 @@ use Rattle.std.proofs.lemmas.Bool.{cases_lt, cases_eq}
 use Rattle.std.proofs.lemmas.List.{get_or-replicate, get_or_default, length-set, get_or-set_same, get_or-set_other}
 use Rattle.lia_solver.specs.declared.table.Line.{Line}
 use Rattle.lia_solver.specs.steps.Buckets.{hash_of, chain_of}
+use Rattle.lia_solver.specs.steps.Entries.{first_of}
 use Rattle.lia_solver.specs.steps.Lines.{parts_of_line, parts_at, bucket_at, IsPast, AreInPool, IsChainedAnew}
 use Rattle.lia_solver.proofs.Chains.{past-alike, chain-bound, hash-bound}
 use Rattle.lia_solver.proofs.TableEntries.{entry_of_line}
@@ -17,6 +18,7 @@ pub record IsKept (l m : Line) : Type 0 where
   pub least : l.least ≡ m.least
   pub origin : l.origin ≡ m.origin
   pub hash : l.hash ≡ m.hash
+  pub first : l.first ≡ m.first
 
 kept-itself : (l : Line) → IsKept l l
 kept-itself l = record {
@@ -26,6 +28,7 @@ kept-itself l = record {
   least = refl;
   origin = refl;
   hash = refl;
+  first = refl;
 }
 
 -- the first lines are in their chains
@@ -74,6 +77,7 @@ chained-more chains pool old lines heads n d chain some size inside p h e = reco
     least = k.least;
     origin = k.origin;
     hash = k.hash;
+    first = k.first;
   }
 
   there : n < length lines
@@ -159,6 +163,7 @@ chained-all pool old lines heads n some limit e p h = record {
             let b = p.inside i d (below i q) in
             (omega (arith, k.start, k.end, b.0), omega (arith, k.end, b.1));
         hash = λ i d q. (h.kept i d (below i q)).hash ∙ p.hash i d (below i q) ∙ sym (ap hash_of (same i));
+        first = λ i d q. (h.kept i d (below i q)).first ∙ p.first i d (below i q) ∙ sym (ap first_of (same i));
       };
       before = λ i d q.
           subst (λ (b : ℕ). IsPast chains pool lines i b (get_or lines i d).before) (sym (ap (λ ps. bucket ps) (same i)))

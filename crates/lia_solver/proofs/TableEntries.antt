@@ -6,7 +6,7 @@ use Rattle.std.proofs.lemmas.List.{get_or-map, length-map, map-append, map-set}
 use Rattle.linear_formula.specs.LinearSum.{LinearSum}
 use Rattle.lia_solver.specs.declared.table.Line.{Line}
 use Rattle.lia_solver.specs.declared.table.Origin.{Origin}
-use Rattle.lia_solver.specs.steps.Entries.{Entry, entry_of, joined, IsAdded}
+use Rattle.lia_solver.specs.steps.Entries.{Entry, entry_of, first_of, joined, IsAdded}
 use Rattle.lia_solver.specs.steps.Lines.{parts_of_line, entries_of, parts_at, joined_line, AreInPool}
 use Rattle.lia_solver.proofs.Chains.{no_line, map-more, range-more, parts-map, IsLastLine, last-parts}
 
@@ -25,6 +25,15 @@ entry-parts : (pool : List (ℕ × ℤ)) (lines : List Line) (i : ℕ) (e : Entr
     (get_or (entries_of pool lines) i e).sum.parts ≡ parts_at pool lines i
 entry-parts pool lines i e h =
     ap (λ (x : Entry). x.sum.parts) (entry-at pool lines i no_line e h) ∙ sym (parts-map pool lines i no_line h)
+
+-- the first column of a row, as its line keeps it
+pub first-is : (pool : List (ℕ × ℤ)) (lines : List Line) (old : List Entry) (i : ℕ) (d : Line) (e : Entry) → entries_of pool lines ≡ old →
+    AreInPool pool lines → i < length old → (get_or lines i d).first ≡ first_of (get_or old i e).sum.parts
+first-is pool lines old i d e v p h =
+    p.first i d inside ∙ ap first_of (sym (entry-parts pool lines i e inside))
+    ∙ ap (λ (es : List Entry). first_of (get_or es i e).sum.parts) v where
+      inside : i < length lines
+      inside = omega (arith, h, ap (λ (es : List Entry). length es) v, length-map lines (entry_of_line pool))
 
 joined-entry : (pool : List (ℕ × ℤ)) (l : Line) (t : LinearSum) (o : Origin) → parts_of_line pool l ≡ t.parts →
     entry_of_line pool (joined_line l t.constant o) ≡ joined (entry_of_line pool l) t o

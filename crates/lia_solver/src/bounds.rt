@@ -102,7 +102,9 @@ pub fn bounds_of(column: u32, table: &Table, at: &Assignment) -> Bounds
         high: GREATEST,
     };
     for place in 0..table.len() {
-        bounds = bounds.with_row(column, table.parts(place), table.constant(place), at);
+        if table.first(place) == u64::from(column) {
+            bounds = bounds.with_row(column, table.parts(place), table.constant(place), at);
+        }
     }
     bounds
 }

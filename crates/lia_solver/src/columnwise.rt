@@ -42,6 +42,7 @@ fn nearest(low: i128, high: i128) -> i64
 }
 
 /// The values with one for the column, or the split of the column.
+#[inline(always)]
 fn extend(column: u32, table: &Table, values: Values) -> Result<Chosen, OutOfMemory>
     requires rows { AreRows table.now }
     requires ascending { IsTrue (is_ascending_from (column + 1) values) }

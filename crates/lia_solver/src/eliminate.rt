@@ -64,14 +64,29 @@ pub fn bounds_below(column: u32, parts: &[(u32, i128)]) -> bool
     }
 }
 
-/// Whether the row names no column up to this one.
-fn starts_beyond(column: u32, parts: &[(u32, i128)]) -> bool
-    ensures { result ≡ starts_from (column + 1) parts.now }
+/// Whether the row at a place has the column as its first one, and bounds it from above. Most rows
+/// have another one, for which their coefficients aren't looked at.
+pub fn is_upper(column: u32, table: &Table, place: usize) -> bool
+    requires { place < length table.now }
+    ensures { result ≡ bounds_above column (sum_at table.now place).parts }
 {
-    match parts.first() {
-        Some((first, _)) => *first > column,
-        None => true,
-    }
+    table.first(place) == u64::from(column) && bounds_above(column, table.parts(place))
+}
+
+/// The same, from below.
+pub fn is_lower(column: u32, table: &Table, place: usize) -> bool
+    requires { place < length table.now }
+    ensures { result ≡ bounds_below column (sum_at table.now place).parts }
+{
+    table.first(place) == u64::from(column) && bounds_below(column, table.parts(place))
+}
+
+/// Whether the row at a place names no column up to this one.
+fn starts_beyond(column: u32, table: &Table, place: usize) -> bool
+    requires { place < length table.now }
+    ensures { result ≡ starts_from (column + 1) (sum_at table.now place).parts }
+{
+    table.first(place) > u64::from(column)
 }
 
 /// Lists the rows that bound the column from below, and says how many rows name it or an earlier
@@ -83,10 +98,9 @@ fn list_lowers(places: &mut Places, column: u32, table: &Table) -> Result<usize,
     places.clear();
     let mut passed = 0;
     for place in 0..table.len() {
-        let parts = table.parts(place);
-        if !starts_beyond(column, parts) {
+        if !starts_beyond(column, table, place) {
             passed += 1;
-            if bounds_below(column, parts) {
+            if is_lower(column, table, place) {
                 places.push(place)?;
             }
         }
@@ -186,7 +200,7 @@ fn add_sums_of(
         ArePaired column table.old place lower → IsSummed column table.new place lower) }
     ensures wide { IfOk result (λ b. b ≡ false → HasWide column table.old) }
 {
-    if bounds_above(column, table.parts(place)) {
+    if is_upper(column, table, place) {
         add_sums(parts, column, table, place, lowers)
     } else {
         Ok(true)
@@ -240,7 +254,7 @@ fn are_all_narrow(
 {
     let sizes = sizes_of_all(table, lowers);
     for upper in 0..table.len() {
-        if bounds_above(column, table.parts(upper))
+        if is_upper(column, table, upper)
             && !are_narrow(parts, column, table, upper, lowers, sizes)?
         {
             return Ok(false);

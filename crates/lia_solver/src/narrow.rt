@@ -7,7 +7,7 @@ ghost use Rattle.lia_solver.specs.steps.Entries.{sum_at, bounds_above, bounds_be
 ghost use Rattle.lia_solver.specs.steps.Gathered.{AreGathered, AreNarrowWith, AreNarrowBelow, HasWideBelow, IsNarrowFirst, IsWideFirst};
 ghost use Rattle.lia_solver.specs.steps.Tables.{AreRows};
 
-use crate::eliminate::{bounds_above, bounds_below};
+use crate::eliminate::{is_lower, is_upper};
 use crate::pairing::is_least_narrow;
 use crate::table::Table;
 
@@ -33,7 +33,9 @@ fn are_small(column: u32, table: &Table) -> bool
     ensures { result ≡ true → AreNarrowBelow column table.now }
 {
     for place in 0..table.len() {
-        if !is_small(column, table.parts(place), table.least(place)) {
+        if table.first(place) == u64::from(column)
+            && !is_small(column, table.parts(place), table.least(place))
+        {
             return false;
         }
     }
@@ -49,9 +51,7 @@ fn are_sums_narrow(column: u32, table: &Table, upper: usize) -> bool
     ensures wide { result ≡ false → HasWideBelow column table.now }
 {
     for lower in 0..table.len() {
-        if bounds_below(column, table.parts(lower))
-            && !is_least_narrow(column, table, upper, lower)
-        {
+        if is_lower(column, table, lower) && !is_least_narrow(column, table, upper, lower) {
             return false;
         }
     }
@@ -65,7 +65,7 @@ fn are_all_sums_narrow(column: u32, table: &Table) -> bool
     ensures wide { result ≡ false → HasWideBelow column table.now }
 {
     for upper in 0..table.len() {
-        if bounds_above(column, table.parts(upper)) && !are_sums_narrow(column, table, upper) {
+        if is_upper(column, table, upper) && !are_sums_narrow(column, table, upper) {
             return false;
         }
     }

@@ -59,6 +59,7 @@ pub fn sum_of(first: i64, left: i128, second: i64, right: i128) -> Option<i128>
 }
 
 /// Puts the coefficients of the sum of two multiples into the list, and gives its constant.
+#[inline(always)]
 fn sum_into(
     out: &mut Vec<(u32, i128)>,
     first: i64,

@@ -65,6 +65,7 @@ impl Search {
         }
     }
 
+    #[inline(always)]
     fn outcome(&mut self, cube: &Cube) -> Result<BranchOutcome, OutOfMemory>
         requires branch { IsSearchable self.old cube.now.atoms }
         ensures plan { IfOk result (λ o. outcome_of cube.now.atoms ≡ planned o) }

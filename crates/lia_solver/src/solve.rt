@@ -40,6 +40,7 @@ pub fn solve(alloc: Global, cube: &Cube) -> Result<Solved, OutOfMemory>
 }
 
 /// The same, where the columns of the cube are known.
+#[inline(always)]
 pub(crate) fn solve_along(
     alloc: Global,
     cube: &Cube,

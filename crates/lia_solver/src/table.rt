@@ -2,7 +2,7 @@
 
 ghost use Rattle.std.specs.Prelude.{◌≡◌, ◌<◌, ◌≤◌, ◌^◌, ℕ, ℤ, List, [], ◌++◌, length, slice_index_or, slice_set, replicate, IfOk, OnOk, OnErr, MatchOption};
 ghost use Rattle.linear_formula.specs.steps.Order.{AllWithin};
-ghost use Rattle.lia_solver.specs.steps.Entries.{Entry, IsAdded};
+ghost use Rattle.lia_solver.specs.steps.Entries.{Entry, IsAdded, first_of};
 ghost use Rattle.lia_solver.specs.steps.Buckets.{sign_code, hash_of, chain_of};
 ghost use Rattle.lia_solver.specs.steps.Lines.{IsChained, AreInPool, IsChainedAnew, heads_of, parts_at, joined_line};
 
@@ -21,6 +21,9 @@ const MANY: usize = 4096;
 const FULL: usize = 4;
 
 const GROWTH: usize = 16;
+
+/// Beyond all columns.
+const NO_COLUMN: u64 = 1 << 32;
 
 /// How a row follows.
 #[derive(Clone, Copy, Debug)]
@@ -52,6 +55,8 @@ struct Line {
     before: u32,
     /// Of the coefficients.
     hash: u32,
+    /// The first column that is named, or `NO_COLUMN`.
+    first: u64,
 }
 
 /// Rows by their coefficients. With each of them the greatest constant stands, and the least one
@@ -99,6 +104,16 @@ fn hash_of(parts: &[(u32, i128)]) -> u32
         hash = (hash + code) % 4_294_967_296 * 2_654_435_761 % 4_294_967_296;
     }
     hash as u32
+}
+
+/// The first column that the coefficients name, or one beyond all columns.
+fn first_of(parts: &[(u32, i128)]) -> u64
+    ensures { result ≡ first_of parts.now }
+{
+    match parts.first() {
+        Some((column, _)) => u64::from(*column),
+        None => NO_COLUMN,
+    }
 }
 
 /// The chain of a number, by its leading bits.
@@ -243,6 +258,14 @@ impl Table {
         &self.parts[line.start..line.end]
     }
 
+    /// The first column that the row at a place names, or one beyond all columns.
+    pub fn first(&self, place: usize) -> u64
+        requires { place < length self.now }
+        ensures { (e : Entry) → result ≡ first_of (slice_index_or self.now place e).sum.parts }
+    {
+        self.lines[place].first
+    }
+
     pub fn constant(&self, place: usize) -> i128
         requires { place < length self.now }
         ensures { (e : Entry) → result ≡ (slice_index_or self.now place e).sum.constant }
@@ -313,6 +336,7 @@ impl Table {
     }
 
     /// Puts the rows into more chains, unless there are as many as there may be.
+    #[cold]
     fn regroup(&mut self) -> Result<(), OutOfMemory>
         ensures { self.new ≡ self.old }
     {
@@ -324,6 +348,7 @@ impl Table {
     }
 
     /// Adds a row.
+    #[inline(always)]
     pub fn add(
         &mut self,
         parts: &[(u32, i128)],
@@ -341,6 +366,7 @@ impl Table {
     }
 
     /// Joins a row with the one of the same coefficients, or puts it behind the others.
+    #[inline(always)]
     fn put(
         &mut self,
         parts: &[(u32, i128)],
@@ -365,6 +391,7 @@ impl Table {
                 let Ok(number) = u32::try_from(self.lines.len() + 1) else {
                     return Err(AllocError);
                 };
+                let first = first_of(parts);
                 let start = self.parts.len();
                 append(&mut self.parts, parts)?;
                 let end = self.parts.len();
@@ -376,6 +403,7 @@ impl Table {
                     origin,
                     before,
                     hash,
+                    first,
                 })?;
                 set_head(&mut self.few, &mut self.many, chain, number);
                 Ok(())

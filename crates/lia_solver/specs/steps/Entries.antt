@@ -72,6 +72,11 @@ abbrev pub bounds_below : ℕ → List (ℕ × ℤ) → Bool
 bounds_below x [] = false
 bounds_below x (p ∷ ps) = (x == p.0) && int_lt p.1 (pos 0)
 
+-- the first column that the row names, or one beyond all columns
+abbrev pub first_of : List (ℕ × ℤ) → ℕ
+first_of [] = 4294967296
+first_of (p ∷ ps) = p.0
+
 -- how the row of two rows of a column is made
 abbrev pub making_by : ℕ → (upper lower : ℕ) → LinearSum → LinearSum → Making
 making_by x upper lower u l =

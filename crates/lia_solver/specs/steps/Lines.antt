@@ -5,7 +5,7 @@ use Rattle.std.specs.List.{slice_range}
 use Rattle.lia_solver.specs.declared.table.Line.{Line}
 use Rattle.lia_solver.specs.declared.table.Origin.{Origin}
 use Rattle.lia_solver.specs.steps.Buckets.{hash_of, bucket_of}
-use Rattle.lia_solver.specs.steps.Entries.{Entry}
+use Rattle.lia_solver.specs.steps.Entries.{Entry, first_of}
 
 abbrev pub parts_of_line : List (ℕ × ℤ) → Line → List (ℕ × ℤ)
 parts_of_line pool l = slice_range pool l.start l.end
@@ -40,6 +40,8 @@ pub record AreInPool (pool : List (ℕ × ℤ)) (lines : List Line) : Type 0 whe
       × ((slice_index_or lines i d).end ≤ length pool)
   pub hash : (i : ℕ) (d : Line) → i < length lines →
       (slice_index_or lines i d).hash ≡ hash_of (parts_at pool lines i)
+  pub first : (i : ℕ) (d : Line) → i < length lines →
+      (slice_index_or lines i d).first ≡ first_of (parts_at pool lines i)
 
 -- each of them knows the one before it in its chain
 pub record AreInChains (chains : ℕ) (pool : List (ℕ × ℤ)) (lines : List Line) : Type 0 where

@@ -5,7 +5,7 @@ use Rattle.linear_formula.specs.LinearSum.{LinearSum}
 use Rattle.lia_solver.specs.declared.table.Line.{Line}
 use Rattle.lia_solver.specs.declared.table.Origin.{Origin}
 use Rattle.lia_solver.specs.steps.Buckets.{hash_of, chain_of}
-use Rattle.lia_solver.specs.steps.Entries.{IsAdded}
+use Rattle.lia_solver.specs.steps.Entries.{IsAdded, first_of}
 use Rattle.lia_solver.specs.steps.Lines.{AreLines, entries_of, heads_of, parts_at, joined_line}
 use Rattle.lia_solver.proofs.Chains.{no_line, chained-in, lines-joined, lines-grown, lines-added, IsLastLine}
 use Rattle.lia_solver.proofs.TableEntries.{added-joined, added-new}
@@ -62,8 +62,8 @@ invariant_of-self-in_err-push-in-None c =
     (lines-grown (length heads) c.self.inside.parts.items c.args.parts.now c.self.inside.lines.items heads c.self.invariant))
 
 -- the line that is pushed
-abbrev line_of : (start end before hash : ℕ) → ℤ → Origin → Line
-line_of start end before hash c o = record {
+abbrev line_of : (start end before hash first : ℕ) → ℤ → Origin → Line
+line_of start end before hash first c o = record {
   start = start;
   end = end;
   constant = c;
@@ -71,16 +71,19 @@ line_of start end before hash c o = record {
   origin = o;
   before = before;
   hash = hash;
+  first = first;
 }
 
-pushed-line : (chains : ℕ) (pool parts more : List (ℕ × ℤ)) (heads : List ℕ) (start end chain hash before : ℕ) (c : ℤ) (o : Origin) →
+pushed-line : (chains : ℕ) (pool parts more : List (ℕ × ℤ)) (heads : List ℕ) (start end chain hash before first : ℕ) (c : ℤ)
+    (o : Origin) →
     start ≡ length pool → end ≡ length more → more ≡ pool ++ parts → hash ≡ hash_of parts → chain ≡ chain_of chains hash →
-    before ≡ get_or heads chain 0 → IsLastLine chains pool parts heads (line_of start end before hash c o)
-pushed-line chains pool parts more heads start end chain hash before c o e f g h b k = record {
+    before ≡ get_or heads chain 0 → first ≡ first_of parts → IsLastLine chains pool parts heads (line_of start end before hash first c o)
+pushed-line chains pool parts more heads start end chain hash before first c o e f g h b k i = record {
   start = e;
   end = f ∙ ap (λ (ps : List (ℕ × ℤ)). length ps) g;
   before = k ∙ ap (λ (m : ℕ). get_or heads m 0) (b ∙ ap (chain_of chains) h);
   hash = h;
+  first = i;
 }
 
 pub invariant_of-self-in-None : goal.invariant_of-self-in-None
@@ -91,7 +94,8 @@ invariant_of-self-in-None c =
     let parts = c.args.parts.now in
     let hash = c.hash_of-hash.result in
     let before = get_or c.heads_of-heads.result.now c.chain_of-chain.result 0 in
-    let l = line_of c.len-start.result c.len-end.result before hash (to_z w128 (of_z w128 c.args.constant)) c.args.origin in
+    let l = line_of c.len-start.result c.len-end.result before hash c.first_of-first.result (to_z w128 (of_z w128 c.args.constant))
+    c.args.origin in
     let more : c.append.new.pool.items ≡ pool ++ parts = c.in_ok-append-in-None.ensures.items in
     let items : c.push.new.self.items ≡ lines ++ l ∷ [] = c.in_ok-push-in-None.ensures.items in
     let uses : c.heads_of-heads.result.now ≡ heads = c.heads_of-heads.ensures
@@ -100,9 +104,9 @@ invariant_of-self-in-None c =
     ∙ ap (λ (hs : List ℕ). chain_of (length hs) hash) uses in
     let head : before ≡ get_or heads c.chain_of-chain.result 0 = ap (λ hs. get_or hs c.chain_of-chain.result 0) uses in
     let last = pushed-line (length heads) pool parts c.append.new.pool.items heads c.len-start.result c.len-end.result
-    c.chain_of-chain.result hash before (to_z w128 (of_z w128 c.args.constant)) c.args.origin
+    c.chain_of-chain.result hash before c.first_of-first.result (to_z w128 (of_z w128 c.args.constant)) c.args.origin
     (c.len-start.ensures ∙ c.self.inside.parts.ok.0) (c.len-end.ensures ∙ c.append.new.pool.ok.0) more c.hash_of-hash.ensures
-    chain head in
+    chain head c.first_of-first.ensures in
     let number : c.in-Ok.number ≡ length lines + 1 = omega (arith, c.in-Ok.ensures, c.len.ensures, c.self.inside.lines.ok.0) in
     subst (λ (hs : List ℕ). AreLines c.append.new.pool.items c.push.new.self.items hs) (sym c.set_head.ensures)
     (lines-added pool parts c.append.new.pool.items lines c.push.new.self.items heads l c.chain_of-chain.result c.in-Ok.number
@@ -118,7 +122,8 @@ returns-in_ok-push-in-None c =
     let before = get_or c.heads_of-heads.result.now c.chain_of-chain.result 0 in
     let f : FitsSigned w128 c.args.constant = search rules in
     let t : LinearSum = record { parts = parts; constant = c.args.constant } in
-    let l = line_of c.len-start.result c.len-end.result before hash (to_z w128 (of_z w128 c.args.constant)) c.args.origin in
+    let l = line_of c.len-start.result c.len-end.result before hash c.first_of-first.result (to_z w128 (of_z w128 c.args.constant))
+    c.args.origin in
     let more : c.append.new.pool.items ≡ pool ++ parts = c.in_ok-append-in-None.ensures.items in
     let items : c.push.new.self.items ≡ lines ++ l ∷ [] = c.in_ok-push-in-None.ensures.items in
     let uses : c.heads_of-heads.result.now ≡ heads = c.heads_of-heads.ensures
@@ -127,9 +132,9 @@ returns-in_ok-push-in-None c =
     ∙ ap (λ (hs : List ℕ). chain_of (length hs) hash) uses in
     let head : before ≡ get_or heads c.chain_of-chain.result 0 = ap (λ hs. get_or hs c.chain_of-chain.result 0) uses in
     let last = pushed-line (length heads) pool parts c.append.new.pool.items heads c.len-start.result c.len-end.result
-    c.chain_of-chain.result hash before (to_z w128 (of_z w128 c.args.constant)) c.args.origin
+    c.chain_of-chain.result hash before c.first_of-first.result (to_z w128 (of_z w128 c.args.constant)) c.args.origin
     (c.len-start.ensures ∙ c.self.inside.parts.ok.0) (c.len-end.ensures ∙ c.append.new.pool.ok.0) more c.hash_of-hash.ensures
-    chain head in
+    chain head c.first_of-first.ensures in
     let other : (i : ℕ) → i < length lines → parts_at pool lines i ≡ parts → ⊥ =
     λ i k e. c.in-None.ensures i (subst (λ (ls : List Line). i < length ls) (sym c.deref-3.ensures.value) k)
     (ap (λ ls. parts_at c.deref-2.result.now ls i) c.deref-3.ensures.value ∙ ap (λ ps. parts_at ps lines i) c.deref-2.ensures.value ∙ e) in
