@@ -38,7 +38,8 @@ with_those_below() {
 }
 
 # Builds a program, proved, in a copy of the crates that it stands on: its name, the words of its first run, and those
-# crates; its source is standard input. A copy of the same commit and changes is used again. Sets `program`.
+# crates; its source is standard input. A copy of the same commit and changes is used again. Where `unhinted` is set, the
+# copy's functions have no `inline(always)`, so that what each takes can be told apart. Sets `program`.
 build_over() {
     name=$1 words=$2
     shift 2
@@ -54,6 +55,7 @@ build_over() {
             [ -d "$top/crates/$crate/$part" ] && cp -r "$top/crates/$crate/$part" "$work/crates/$crate/"
         done
     done
+    [ -z "${unhinted:-}" ] || sed -i '/^ *#\[inline(always)\]$/d' "$work"/crates/*/src/*.rt
     { cat "$top/crates.txt"; echo "$name: $(with_those_below "$@" | tr '\n' ' ')"; } |
         awk -v root="$work/crates/" '{ name = $0; sub(/[ :].*/, "", name) } /^[a-z]/ && system("test -d " root name) == 0' > "$work/crates.txt"
     cp "$top/HANDLES" "$work/"

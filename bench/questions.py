@@ -1,13 +1,14 @@
 """Asks the questions of files and says what the solver takes for each, and where its instructions go.
 
-usage: questions.py PROGRAM FOLDER
+usage: questions.py PROGRAM APART FOLDER
 
 FOLDER has files NAME.txt with a question a line (a letter, a blank, and rows `COEFFICIENT*COLUMN .. CONSTANT`, each ended by
 `;`), and NAME.answers with what they come to. The program asks those of standard input: with no word it writes the answers,
 with `refutes` it also checks each certificate, with `entails` it asks whether all rows but the last one entail the negation of
 that one, and with `read` it asks nothing; a second word keeps it quiet. Answers are compared line by line. For each file and each
 way of asking it prints how many questions there are and, where valgrind is there, the instructions of a question, less those
-of reading it, with the shares of what they are for. The status is 1 where an answer is another one.
+of reading it, with the shares of what they are for. APART is the same program with no function inlined by a hint: the shares are
+of its instructions, since those of an inlined function count as its caller's. The status is 1 where an answer is another one.
 """
 import collections
 import os
@@ -59,27 +60,32 @@ def is_right(program, word, path, answers):
     return said == wanted
 
 
-def tell(program, word, path, answers):
+def instructions_beyond(program, word, path):
+    """The instructions of asking, by what they are for, without those of reading."""
+    taken = instructions_of([program, word or "solve", "quiet"], path)
+    taken.subtract(instructions_of([program, "read", "quiet"], path))
+    return taken
+
+
+def tell(program, apart, word, path, answers):
     """Asks the questions of a file in one way, and prints a line. Whether the answers are right."""
     if answers and not is_right(program, word, path, answers):
         print(f"{os.path.basename(path)} {word}: other answers")
         return False
     with open(path, encoding="utf-8") as it:
         count = sum(1 for _ in it)
-    ask, read = [program, word or "solve", "quiet"], [program, "read", "quiet"]
     each, shares = "-", ""
     if shutil.which("valgrind"):
-        taken = instructions_of(ask, path)
-        taken.subtract(instructions_of(read, path))
+        each = sum(instructions_beyond(program, word, path).values()) // count
+        taken = instructions_beyond(apart, word, path)
         whole = sum(taken.values())
-        each = whole // count
         shares = ", ".join(f"{part} {100 * it // whole} %" for part, it in taken.most_common() if 100 * it >= whole)
     print(f"{os.path.basename(path):16} {word or 'solve':8} {count:6} {each:>12}  {shares}", flush=True)
     return True
 
 
 def main():
-    program, folder = sys.argv[1:]
+    program, apart, folder = sys.argv[1:]
     print(f"{'file':16} {'asked':8} {'count':>6} {'instructions':>12}  shares")
     right = True
     for name in sorted(it for it in os.listdir(folder) if it.endswith(".txt")):
@@ -87,7 +93,7 @@ def main():
         answers = path.removesuffix(".txt") + ".answers"
         answers = answers if os.path.exists(answers) else None
         for word in ("", "refutes", "entails"):
-            right = tell(program, word, path, answers) and right
+            right = tell(program, apart, word, path, answers) and right
     sys.exit(0 if right else 1)
 
 

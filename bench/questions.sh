@@ -1,7 +1,7 @@
 #!/bin/sh
 # The solver on questions of files, as bench/questions.py says: whether its answers are those of the files, how many
 # instructions a question takes, and what they are for. The program that asks is built, proved, in a copy of the crates that it
-# needs.
+# needs, and once more without hints on inlining, by which its instructions are shared out.
 # usage: bench/questions.sh FOLDER [DIRECTORY]   (where the copy is made or found; a temporary one, if none is given)
 . "$(dirname "$0")/common.sh"
 [ -d "$1" ] || { echo "usage: bench/questions.sh FOLDER [DIRECTORY]" >&2; exit 64; }
@@ -178,4 +178,8 @@ PROGRAM
 
 source_of > "$work/source.rt"
 build_over question_bench read lia_solver < "$work/source.rt"
-python3 "$top/bench/questions.py" "$program" "$folder"
+asked=$program
+unhinted=yes work=$work/apart
+mkdir -p "$work" || exit 70
+build_over question_bench read lia_solver < "$work/../source.rt"
+python3 "$top/bench/questions.py" "$asked" "$program" "$folder"
