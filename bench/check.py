@@ -41,7 +41,7 @@ def run(command, path, limit):
 
 
 # The function that is called once for each question to the solver.
-QUESTION = "lia_solver::solve::solve_along"
+QUESTION = "lia_solver::search::Search::question"
 
 
 # The layers, each with the crates whose own instructions are its.
