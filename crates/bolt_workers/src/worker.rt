@@ -4,6 +4,7 @@ ghost use Rattle.std.specs.Prelude.{◌≡◌, ◌≤◌, IfErr, IfOk, IfSome, M
 ghost use Rattle.summary_table.specs.Tables.{StartsWith as FrontOf};
 ghost use Rattle.board_lock.specs.Views.{StartsWith};
 ghost use Rattle.bolt_core.specs.Boards.{Gives, SameProgram};
+ghost use Rattle.bolt_rounds.specs.Moves.{IsMade, WasJustTaken};
 ghost use Rattle.bolt_workers.specs.steps.Desks.{CanGive, CanShow, CanWork, Frees, HasEnded, Holds, IsBack, IsTold, Sits, program_of};
 
 use crate::desk::{Desk, wake};
@@ -12,6 +13,7 @@ use bolt_core::board::Board;
 use bolt_core::job::{Gone, Job, Taken};
 use bolt_rounds::moves::{Made, Worked, hand_in, make};
 use crossbeam_utils::sync::Unparker;
+use flow_graph::graphs::Graphs;
 use linear_formula::error::OutOfMemory;
 use outer_io::Gate;
 use punch_step::memo::Memos;
@@ -200,13 +202,33 @@ fn give<R: Wait, G: Gate>(
     publish_once(rt, lock, desk, &gone, summary, all, gate);
 }
 
-/// Makes the slice of a job, with all that its calls of the board take, while others have the
-/// board,
-/// and gives the job back. Want of memory stops the board.
+/// Makes the slice of a job, with all that its calls of the board take. What the worker remembers
+/// is made for its first job, so that one who gets none takes no memory for it.
+fn make_with(
+    alloc: Global,
+    memos: &mut Option<Memos>,
+    graphs: &Graphs,
+    known: &Table,
+    job: Job,
+) -> Result<Made, OutOfMemory>
+    requires { WasJustTaken graphs.now.graphs known.now.summaries job }
+    ensures { IfOk result (IsMade graphs.now.graphs known.now.summaries job) }
+{
+    if memos.is_none() {
+        *memos = Some(Memos::new(alloc)?);
+    }
+    match memos {
+        Some(memos) => make(alloc, memos, graphs, known, job),
+        None => unreachable!(),
+    }
+}
+
+/// Makes the slice of a job while others have the board, and gives the job back. Want of memory
+/// stops the board.
 fn do_job<R: Wait, G: Gate>(
     rt: &R,
     alloc: Global,
-    memos: &mut Memos,
+    memos: &mut Option<Memos>,
     lock: &BoardLock<Board>,
     desk: &mut Desk,
     job: Job,
@@ -222,7 +244,7 @@ fn do_job<R: Wait, G: Gate>(
     ensures back { OnOk result (IsBack desk.new job) }
     ensures ended { IfErr result (λ _. HasEnded desk.new) }
 {
-    match make(alloc, memos, &desk.graphs, &desk.known, job) {
+    match make_with(alloc, memos, &desk.graphs, &desk.known, job) {
         Ok(made) => {
             give(rt, lock, desk, made, all, gate);
             Ok(())
@@ -234,39 +256,7 @@ fn do_job<R: Wait, G: Gate>(
     }
 }
 
-/// Works until the board is over or stopped.
-fn work_with<R: Wait, G: Gate>(
-    rt: &R,
-    alloc: Global,
-    memos: &mut Memos,
-    lock: &BoardLock<Board>,
-    desk: &mut Desk,
-    all: &[Unparker],
-    gate: &G,
-)
-    requires lock { desk.old.seat.lock ≡ lock.now }
-    requires sits { Sits desk.old }
-    ensures lock { desk.new.seat.lock ≡ desk.old.seat.lock }
-    ensures program { desk.new.seat.view.program ≡ desk.old.seat.view.program }
-    ensures ended { HasEnded desk.new }
-{
-    for _ in rt.forever() {
-        match take_once(rt, lock, desk, all, gate) {
-            Ok(Taken::Job(job)) => {
-                if do_job(rt, alloc, memos, lock, desk, job, all, gate).is_err() {
-                    return;
-                }
-            }
-            Ok(Taken::Idle) => desk.parker.park(rt),
-            Ok(Taken::Over) => return,
-            Err(_) => return,
-        }
-    }
-    unreachable!()
-}
-
-/// Works until the board is over or stopped, and remembers what its slices asked. Where there is no
-/// memory for that, the board is stopped.
+/// Works until the board is over or stopped, and remembers what its slices asked.
 pub(crate) fn run_worker<R: Wait, G: Gate>(
     rt: &R,
     alloc: Global,
@@ -281,8 +271,18 @@ pub(crate) fn run_worker<R: Wait, G: Gate>(
     ensures program { desk.new.seat.view.program ≡ desk.old.seat.view.program }
     ensures ended { HasEnded desk.new }
 {
-    match Memos::new(alloc) {
-        Ok(mut memos) => work_with(rt, alloc, &mut memos, lock, desk, all, gate),
-        Err(_) => stop_once(rt, lock, desk, all, gate),
+    let mut memos = None;
+    for _ in rt.forever() {
+        match take_once(rt, lock, desk, all, gate) {
+            Ok(Taken::Job(job)) => {
+                if do_job(rt, alloc, &mut memos, lock, desk, job, all, gate).is_err() {
+                    return;
+                }
+            }
+            Ok(Taken::Idle) => desk.parker.park(rt),
+            Ok(Taken::Over) => return,
+            Err(_) => return,
+        }
     }
+    unreachable!()
 }

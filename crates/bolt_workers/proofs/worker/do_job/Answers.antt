@@ -3,8 +3,8 @@ use Rattle.flow_graph.specs.declared.graphs.Graphs.{Graphs}
 use Rattle.bolt_workers.proofs.Turns.{back_made, made_gives, made_shows, work_taken}
 use Rattle.bolt_workers.proofs.worker.do_job.Goals as goal
 
-pub make-requires : goal.make-requires
-make-requires g c =
+pub make_with-requires : goal.make_with-requires
+make_with-requires g c =
     work_taken c.args.desk.now c.args.job c.deref.result.now.graphs (ap (λ (x : Graphs). x.graphs) c.deref.ensures) c.requires.job
 
 pub give-requires-clause-may : goal.give-requires-clause-may

@@ -1,6 +1,6 @@
 use Rattle.std.proofs.Common.{◌≡◌}
 use Rattle.bolt_workers.specs.steps.Desks.{Sits}
-use Rattle.bolt_workers.proofs.worker.work_with.Given as goal
+use Rattle.bolt_workers.proofs.worker.run_worker.Given as goal
 
 abbrev pub invariant-loop : goal.invariant-loop
 invariant-loop g l = record {
