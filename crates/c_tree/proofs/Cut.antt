@@ -1,20 +1,21 @@
 -- A counted run that neither starves nor spends its fuel is a run on the inputs that it uses.
-use Rattle.std.proofs.Common.{◌≡◌, ℕ, zero, suc, List, [], ◌∷◌, ◌++◌, Bool, true, false, Option, Some, None, ℤ, ◌+ℤ◌, ◌-ℤ◌, ◌*ℤ◌, neg_ℤ, refl, sym, ap, ◌∙◌, subst}
+use Rattle.std.proofs.Common.{◌≡◌, ℕ, zero, suc, List, [], ◌∷◌, ◌++◌, Bool, true, false, Option, Some, None, ℤ, ◌+ℤ◌, ◌-ℤ◌, ◌*ℤ◌, neg_ℤ, int_div, refl, sym, ap, ◌∙◌, subst}
 use Rattle.std.specs.Prelude.{slice_get}
 use Rattle.c_tree.specs.declared.tree.Op.{Op}
-use Rattle.c_tree.specs.declared.tree.Op.TheVariants.{Add, Subtract, Multiply, Less, LessEqual, Greater, GreaterEqual, Equal, Unequal, And, Or}
-use Rattle.c_tree.specs.Syntax.{Expression, literal, read, input, call, negate, not as not_of, binary, Expressions, no_expressions, expression, Statement, block, set, ignore, assume, assert, if_else, loop, do_while, break, continue, return, Statements, no_statements, statement, PureProcedure, PureProgram}
-use Rattle.c_tree.specs.Meaning.{State, World, Progress, goes, ends, stopped, failed, starved, spent, Ending, Flow, normal, broken, continued, returned, Relation, Gives, Ends, Onward, Then, Ticked, Counted, Choice, is_value, ExactOrStopped, TakesInput, decided, Applied, is_zero, RightSide, Callee, Eval, Evals, AfterNormal, AfterBody, UnlessZero, Turns, DoTurns, Returns, Exec, Execs, entered, Enters, Run, world_of, Outcome, Returned, Stopped, Failed, ComesOut, Runs, Comes, replay_of, Replays}
+use Rattle.c_tree.specs.declared.tree.Op.TheVariants.{Add, Subtract, Multiply, Divide, Remainder, Less, LessEqual, Greater, GreaterEqual, Equal, Unequal, And, Or}
+use Rattle.c_tree.specs.Syntax.{Expression, literal, read, read_global, input, call, negate, not as not_of, binary, Expressions, no_expressions, expression, Statement, block, set, set_global, ignore, assume, assert, if_else, loop, do_while, break, continue, return, Statements, no_statements, statement, PureProcedure, PureProgram}
+use Rattle.c_tree.specs.Meaning.{State, World, Progress, goes, ends, stopped, failed, starved, spent, Ending, Flow, normal, broken, continued, returned, Relation, Gives, Ends, Onward, Then, Ticked, Counted, Choice, is_value, ExactOrStopped, has_quotient, Divided, ReadsGlobal, SetsGlobal, globals_of, TakesInput, decided, Applied, is_zero, RightSide, Callee, Eval, Evals, AfterNormal, AfterBody, UnlessZero, Turns, DoTurns, Returns, Exec, Execs, entered, Enters, Run, world_of, Outcome, Returned, Stopped, Failed, ComesOut, Runs, Comes, replay_of, Replays, started}
 use Rattle.std.proofs.Common.{take, length, length-append, arith}
 use Rattle.std.proofs.lemmas.List.{take_at}
 
-abbrev bare : List ℤ → World
-bare i = record { inputs = i; steps_left = 0 }
+-- the world with other inputs, where no steps are counted
+abbrev bare : World → List ℤ → World
+bare w i = record { inputs = i; globals = w.globals; steps_left = 0 }
 
--- the result, in another world
-abbrev moved : {A : Type 0} → Progress A → World → Progress A
-moved (goes w v) u = goes u v
-moved (ends w e) u = ends u e
+-- the result, with other inputs left
+abbrev moved : {A : Type 0} → Progress A → List ℤ → Progress A
+moved (goes w v) j = goes (bare w j) v
+moved (ends w e) j = ends (bare w j) e
 
 abbrev pub IsFineEnd : Ending → Type 0
 IsFineEnd stopped = Unit {0}
@@ -29,7 +30,7 @@ IsFine (ends w e) = IsFineEnd e
 -- each fine result of the first is one of the second, without the inputs that it leaves
 abbrev CutAt : {A : Type 0} → Relation A → Relation A → Type 0
 CutAt {A} P Q = (rest j : List ℤ) (w : World) (r : Progress A) → IsFine r → (world_of r).inputs ≡ j ++ rest → P w r → (i : List ℤ)
-    × (w.inputs ≡ i ++ rest) × Q (bare i) (moved r (bare j))
+    × (w.inputs ≡ i ++ rest) × Q (bare w i) (moved r j)
 
 pub record Cuts {A : Type 0} (P Q : Relation A) : Type 0 where
   pub by : CutAt P Q
@@ -38,24 +39,24 @@ abbrev CutsFrom : {A : Type 0} → (State → Relation A) → (State → Relatio
 CutsFrom P Q = (s : State) → Cuts (P s) (Q s)
 
 gives_cuts : {A : Type 0} (v : A) → Cuts (Gives v) (Gives v)
-gives_cuts v = record { by = λ rest j w r fine e h. (j, subst (λ x. (world_of x).inputs ≡ j ++ rest) h e, ap (λ x. moved x (bare j)) h) }
+gives_cuts v = record { by = λ rest j w r fine e h. (j, subst (λ x. (world_of x).inputs ≡ j ++ rest) h e, ap (λ x. moved x j) h) }
 
 ends_cuts : {A : Type 0} (d : Ending) → Cuts (Ends {A = A} d) (Ends d)
-ends_cuts d = record { by = λ rest j w r fine e h. (j, subst (λ x. (world_of x).inputs ≡ j ++ rest) h e, ap (λ x. moved x (bare j)) h) }
+ends_cuts d = record { by = λ rest j w r fine e h. (j, subst (λ x. (world_of x).inputs ≡ j ++ rest) h e, ap (λ x. moved x j) h) }
 
 then_at : {A B : Type 0} (P P' : Relation A) (Q Q' : A → Relation B) → Cuts P P' → ((v : A) → Cuts (Q v) (Q' v)) →
     CutAt (Then P Q) (Then P' Q')
 then_at {A} {B} P P' Q Q' p q rest j w r fine e h = on h.0 h.1 h.2
   where
-    on : (r1 : Progress A) → P w r1 → Onward Q r1 r → (i : List ℤ) × (w.inputs ≡ i ++ rest) × Then P' Q' (bare i) (moved r (bare j))
+    on : (r1 : Progress A) → P w r1 → Onward Q r1 r → (i : List ℤ) × (w.inputs ≡ i ++ rest) × Then P' Q' (bare w i) (moved r j)
     on (goes w1 v) h1 k =
         let c = (q v).by rest j w1 r fine e k in
         let b = p.by rest c.0 w (goes w1 v) tt c.1 h1 in
-        (b.0, b.1, (goes (bare c.0) v, b.2, c.2))
+        (b.0, b.1, (goes (bare w1 c.0) v, b.2, c.2))
     on (ends w1 d) h1 k =
         let fine' = subst IsFine k fine in
         let b = p.by rest j w (ends w1 d) fine' (subst (λ x. (world_of x).inputs ≡ j ++ rest) k e) h1 in
-        (b.0, b.1, (ends (bare j) d, b.2, ap (λ x. moved x (bare j)) k))
+        (b.0, b.1, (ends (bare w1 j) d, b.2, ap (λ x. moved x j) k))
 
 then_cuts : {A B : Type 0} (P P' : Relation A) (Q Q' : A → Relation B) → Cuts P P' → ((v : A) → Cuts (Q v) (Q' v)) →
     Cuts (Then P Q) (Then P' Q')
@@ -64,7 +65,7 @@ then_cuts P P' Q Q' p q = record { by = then_at P P' Q Q' p q }
 counted_at : {A : Type 0} (P P' : Relation A) → Cuts P P' → CutAt (Counted true P) P'
 counted_at {A} P P' p rest j w r fine e h = on w.steps_left h
   where
-    on : (l : ℕ) → Ticked P w l r → (i : List ℤ) × (w.inputs ≡ i ++ rest) × P' (bare i) (moved r (bare j))
+    on : (l : ℕ) → Ticked P w l r → (i : List ℤ) × (w.inputs ≡ i ++ rest) × P' (bare w i) (moved r j)
     on zero k = absurd (subst IsFine k fine)
     on (suc n) k = p.by rest j (record w { steps_left = n }) r fine e k
 
@@ -78,14 +79,23 @@ choice_cuts false P P' Q Q' p q = q
 kept_cuts : (z : ℤ) → Cuts (ExactOrStopped z) (ExactOrStopped z)
 kept_cuts z = choice_cuts (is_value z) (Gives z) (Gives z) (Ends stopped) (Ends stopped) (gives_cuts z) (ends_cuts stopped)
 
+divided_cuts : (x y : ℤ) (P : Relation ℤ) → Cuts P P → Cuts (Divided x y P) (Divided x y P)
+divided_cuts x y P p = choice_cuts (has_quotient x y) P P (Ends stopped) (Ends stopped) p (ends_cuts stopped)
+
+reads_cuts : (y : ℕ) → Cuts (ReadsGlobal y) (ReadsGlobal y)
+reads_cuts y = record { by = λ rest j w r fine e h. (j, subst (λ x. (world_of x).inputs ≡ j ++ rest) h e, ap (λ x. moved x j) h) }
+
+sets_cuts : (y : ℕ) (v : ℤ) (s : State) → Cuts (SetsGlobal y v s) (SetsGlobal y v s)
+sets_cuts y v s = record { by = λ rest j w r fine e h. (j, subst (λ x. (world_of x).inputs ≡ j ++ rest) h e, ap (λ x. moved x j) h) }
+
 takes_at : CutAt (λ w o. TakesInput w.inputs w o) (λ w o. TakesInput w.inputs w o)
 takes_at rest j w r fine e h = on w.inputs refl h
   where
-    on : (is : List ℤ) → w.inputs ≡ is → TakesInput is w r → (i : List ℤ) × (w.inputs ≡ i ++ rest) × TakesInput i (bare i)
-        (moved r (bare j))
+    on : (is : List ℤ) → w.inputs ≡ is → TakesInput is w r → (i : List ℤ) × (w.inputs ≡ i ++ rest) × TakesInput i (bare w i)
+        (moved r j)
     on [] same k = absurd (subst IsFine k fine)
     on (v ∷ vs) same k =
-        (v ∷ j, same ∙ ap (λ l. v ∷ l) (subst (λ x. (world_of x).inputs ≡ j ++ rest) k.1 e), (k.0, ap (λ x. moved x (bare j)) k.1))
+        (v ∷ j, same ∙ ap (λ l. v ∷ l) (subst (λ x. (world_of x).inputs ≡ j ++ rest) k.1 e), (k.0, ap (λ x. moved x j) k.1))
 
 takes_cuts : Cuts (λ w o. TakesInput w.inputs w o) (λ w o. TakesInput w.inputs w o)
 takes_cuts = record { by = takes_at }
@@ -94,6 +104,8 @@ applied_cuts : (op : Op) (x y : ℤ) → Cuts (Applied op x y) (Applied op x y)
 applied_cuts Add x y = kept_cuts (x +ℤ y)
 applied_cuts Subtract x y = kept_cuts (x -ℤ y)
 applied_cuts Multiply x y = kept_cuts (x *ℤ y)
+applied_cuts Divide x y = divided_cuts x y (ExactOrStopped (int_div x y)) (kept_cuts (int_div x y))
+applied_cuts Remainder x y = divided_cuts x y (Gives (x -ℤ y *ℤ int_div x y)) (gives_cuts _)
 applied_cuts Less x y = gives_cuts _
 applied_cuts LessEqual x y = gives_cuts _
 applied_cuts Greater x y = gives_cuts _
@@ -128,6 +140,7 @@ module _ (C C' : Callee) (call_cuts : (p : ℕ) (args : List ℤ) → Cuts (C p 
     pub eval_cuts : (e : Expression) → CutsFrom (Eval true C e) (Eval false C' e)
     eval_cuts (literal n) s = counted_cuts _ _ (gives_cuts n)
     eval_cuts (read x) s = counted_cuts _ _ (gives_cuts (s x))
+    eval_cuts (read_global y) s = counted_cuts _ _ (reads_cuts y)
     eval_cuts input s = counted_cuts _ _ takes_cuts
     eval_cuts (call p es) s = counted_cuts _ _ (then_cuts (Evals true C es s) (Evals false C' es s) _ _ (evals_cuts es s) (call_cuts p))
     eval_cuts (negate e) s = counted_cuts _ _ (then_cuts (Eval true C e s) (Eval false C' e s) _ _ (eval_cuts e s)
@@ -169,6 +182,8 @@ module _ (C C' : Callee) (call_cuts : (p : ℕ) (args : List ℤ) → Cuts (C p 
     pub exec_cuts : (a : Statement) → CutsFrom (Exec true C a) (Exec false C' a)
     exec_cuts (block ss) s = counted_cuts _ _ (execs_cuts ss s)
     exec_cuts (set x e) s = counted_cuts _ _ (then_cuts (Eval true C e s) (Eval false C' e s) _ _ (eval_cuts e s) (λ v. gives_cuts _))
+    exec_cuts (set_global y e) s = counted_cuts _ _ (then_cuts (Eval true C e s) (Eval false C' e s) _ _ (eval_cuts e s)
+        (λ v. sets_cuts y v s))
     exec_cuts (ignore e) s = counted_cuts _ _ (then_cuts (Eval true C e s) (Eval false C' e s) _ _ (eval_cuts e s) (λ v. gives_cuts _))
     exec_cuts (assume e) s = counted_cuts _ _ (then_cuts (Eval true C e s) (Eval false C' e s) _ _ (eval_cuts e s) (unless_cuts stopped s))
     exec_cuts (assert id e) s = counted_cuts _ _ (then_cuts (Eval true C e s) (Eval false C' e s) _ _ (eval_cuts e s)
@@ -196,19 +211,34 @@ pub run_cuts : (P : PureProgram) (d p : ℕ) (args : List ℤ) → Cuts (Run tru
 run_cuts P zero p args = record { by = λ rest j w r fine e h. absurd h }
 run_cuts P (suc d) p args = enters_cuts (Run true P d) (Run false P d) (run_cuts P d) (slice_get P.procedures p) args
 
-outs_of : (out : Outcome) (r : Progress ℤ) → Comes out ≡ replay_of r → IsFine r × ComesOut out (moved r (bare []))
+outs_of : (out : Outcome) (r : Progress ℤ) → Comes out ≡ replay_of r → IsFine r × ComesOut out (moved r [])
 outs_of out (goes w v) e = (tt, (let same : out ≡ Returned v = cc in same, refl))
 outs_of out (ends w stopped) e = (tt, (let same : out ≡ Stopped = cc in same, refl))
 outs_of out (ends w (failed id)) e = (tt, (let same : out ≡ Failed id = cc in same, refl))
 outs_of out (ends w starved) e = absurd cc
 outs_of out (ends w spent) e = absurd cc
 
+-- the same globals are left
+globals_moved : (P : PureProgram) (r : Progress ℤ) (j : List ℤ) → globals_of P r ≡ globals_of P (moved r j)
+globals_moved P (goes w v) j = refl
+globals_moved P (ends w e) j = refl
+
 -- an outcome of a counted run is one on the inputs that it used
 pub comes_on_used : (P : PureProgram) (ins : List ℤ) (fuel : ℕ) (out : Outcome) (used : ℕ) → Replays P ins fuel (Comes out) used →
-    (d : ℕ) × Runs P d P.main [] (take used ins) out
+    (d : ℕ) × (after : List ℤ) × Runs P d P.main [] P.globals (take used ins) out after
 comes_on_used P ins fuel out used h =
     let o = outs_of out h.1 h.3 in
-    let c = (run_cuts P h.0 P.main []).by (world_of h.1).inputs [] (record { inputs = ins; steps_left = fuel }) h.1 o.0 refl h.2 in
+    let c = (run_cuts P h.0 P.main []).by (world_of h.1).inputs [] (started P.globals ins fuel) h.1 o.0 refl h.2 in
     let n : length c.0 ≡ used = omega (arith, length-append c.0 (world_of h.1).inputs, ap length c.1, h.4) in
     let same : c.0 ≡ take used ins = sym (ap (take used) c.1 ∙ take_at c.0 (world_of h.1).inputs used n) in
-    (h.0, (moved h.1 (bare []), subst (λ i. Run false P h.0 P.main [] (bare i) (moved h.1 (bare []))) same c.2, o.1))
+    let r = moved h.1 [] in (
+      h.0,
+      globals_of P r,
+      (
+        r,
+        subst (λ i. Run false P h.0 P.main [] (started P.globals i 0) r) same c.2,
+        o.1,
+        refl,
+        record { count = refl; opening = λ e. refl },
+      ),
+    )
