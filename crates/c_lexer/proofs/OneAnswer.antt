@@ -8,7 +8,7 @@ use Rattle.c_lexer.specs.declared.token.LexError.{LexError}
 use Rattle.c_lexer.specs.declared.token.LexError.TheVariants.{BadByte}
 use Rattle.c_lexer.specs.Lexing.{after_byte, after, is_blank, is_of_line, is_name_byte, RunEnds, IsLiteral, IsLexeme, IsLongest, IsToken, Parts, HasNoEnd, begins_comment, BeginsInclude, token_at, with_token, IsLexed, end, blank, line_comment, comment, open_comment, include_line, token, wide, glued, bad, IsTokens, HasFault, first_place}
 use Rattle.c_lexer.proofs.Lists.{overlap, same_run, cancel}
-use Rattle.c_lexer.proofs.Lexemes.{lexeme_head, token_lexeme, same_kind, literal_parts, same_text}
+use Rattle.c_lexer.proofs.Lexemes.{lexeme_head, token_lexeme, literal_no_comment, same_kind, literal_parts, same_text}
 
 abbrev pub Answers : Type 0
 Answers = Result (List Token) LexError
@@ -32,16 +32,10 @@ number (line_comment text rest e f l) = 2
 number (comment text rest e l) = 3
 number (open_comment text e) = 3
 number (include_line text rest h i e f l) = 4
-number (token k text rest t long parts l) = 4
+number (token k text rest t long parts none l) = 4
 number (wide n text rest d long ends big) = 4
 number (glued n b text rest d long h) = 4
 number (bad x y z w) = 4
-
-sort_of : (text rest : List ℕ) → IsLexeme text → 4 ≡ sort (text ++ rest)
-sort_of text rest l =
-    let d = lexeme_head text l in
-    sym (ap (λ t. sort (t ++ rest)) d.is ∙ ap (λ x. cond x 1 (cond (d.byte == 47) (slash_sort (d.bytes ++ rest)) 4)) d.blanks
-    ∙ ap (λ x. cond x (slash_sort (d.bytes ++ rest)) 4) d.slash)
 
 by_tests : (x y z : Bool) → (x && (y || z)) ≡ false → other_sort ≡ cond x (cond y 2 (cond z 3 4)) 4
 by_tests false y z h = refl
@@ -57,6 +51,12 @@ no_comment : (b : ℕ) (bytes : List ℕ) → is_blank b ≡ false → begins_co
 no_comment b [] x y = one_way (b == 47) ∙ ap (λ v. cond v 1 (cond (b == 47) 4 4)) (sym x)
 no_comment b (c ∷ cs) x y = by_tests (b == 47) (c == 47) (c == 42) y ∙ ap (λ v. cond v 1 (cond (b == 47) (slash_sort (c ∷ cs)) 4)) (sym x)
 
+sort_of : (text rest : List ℕ) → IsLexeme text → begins_comment (text ++ rest) ≡ false → 4 ≡ sort (text ++ rest)
+sort_of text rest l none =
+    let d = lexeme_head text l in
+    no_comment d.byte (d.bytes ++ rest) d.blanks (sym (ap (λ t. begins_comment (t ++ rest)) d.is) ∙ none)
+    ∙ sym (ap (λ t. sort (t ++ rest)) d.is)
+
 sorted : {p : Place} {xs : List ℕ} {r : Answers} → (l : IsLexed p xs r) → number l ≡ sort xs
 sorted end = refl
 sorted (blank {b = b} {bytes = bytes} h l) = ap (λ x. cond x 1 (cond (b == 47) (slash_sort bytes) 4)) (sym h)
@@ -64,9 +64,9 @@ sorted (line_comment text rest e f l) = refl
 sorted (comment text rest e l) = refl
 sorted (open_comment text e) = refl
 sorted (include_line text rest h i e f l) = ap sort (sym i.whole)
-sorted (token k text rest t long parts l) = sort_of text rest (token_lexeme k text t)
-sorted (wide n text rest d long ends big) = sort_of text rest (inr (inl (n, d)))
-sorted (glued n b text rest d long h) = sort_of text (b ∷ rest) (inr (inl (n, d)))
+sorted (token k text rest t long parts none l) = sort_of text rest (token_lexeme k text t) none
+sorted (wide n text rest d long ends big) = sort_of text rest (inr (inl (n, d))) (literal_no_comment text rest n d)
+sorted (glued n b text rest d long h) = sort_of text (b ∷ rest) (inr (inl (n, d))) (literal_no_comment text (b ∷ rest) n d)
 sorted (bad {b = b} {bytes = bytes} x y z w) = no_comment b bytes x y
 
 moved_to : {p q : Place} {xs : List ℕ} {r : Answers} → p ≡ q → IsLexed p xs r → IsLexed q xs r
@@ -159,38 +159,43 @@ one (open_comment text c) (open_comment other d) e = refl
 one {p} (include_line text rest h i c f l) (include_line other more k j d g m) e =
     let w = same_run is_of_line text other rest more e c d f g in
     one l (moved_to (ap (after p) (sym w.0)) m) w.1
-one (include_line text rest h i c f l) (token k other more u long parts m) e = absurd (include_lexeme (text ++ rest) other more i e
+one (include_line text rest h i c f l) (token k other more u long parts none m) e = absurd (include_lexeme (text ++ rest) other more i e
     (token_lexeme k other u))
 one (include_line text rest h i c f l) (wide n other more d long ends big) e = absurd (include_lexeme (text ++ rest) other more i e
     (inr (inl (n, d))))
 one (include_line text rest h i c f l) (glued n b other more d long q) e = absurd (include_lexeme (text ++ rest) other (b ∷ more) i e
     (inr (inl (n, d))))
 one (include_line text rest h i c f l) (bad x y z w) e = absurd (z h (subst BeginsInclude e i))
-one (token k other more u long parts m) (include_line text rest h i c f l) e = absurd (include_lexeme (text ++ rest) other more i (sym e)
+one (token k other more u long parts none m) (include_line text rest h i c f l) e = absurd
+    (include_lexeme (text ++ rest) other more i (sym e)
     (token_lexeme k other u))
 one (wide n other more d long ends big) (include_line text rest h i c f l) e = absurd (include_lexeme (text ++ rest) other more i (sym e)
     (inr (inl (n, d))))
 one (glued n b other more d long q) (include_line text rest h i c f l) e = absurd (include_lexeme (text ++ rest) other (b ∷ more) i (sym e)
     (inr (inl (n, d))))
 one (bad x y z w) (include_line text rest h i c f l) e = absurd (z h (subst BeginsInclude (sym e) i))
-one {p} (token {r = first} k text rest t long parts l) (token {r = second} j other more u long' parts' m) e =
+one {p} (token {r = first} k text rest t long parts none l) (token {r = second} j other more u long' parts' none' m) e =
     let w = same_text text other rest more e (token_lexeme k text t) long (token_lexeme j other u) long' in
     let q : k ≡ j = same_kind k j text t (subst (λ x. IsToken j x) (sym w.0) u) in
     let i = one l (moved_to (ap (after p) (sym w.0)) m) w.1 in
     ap (λ z. with_token (token_at p k text) z) i ∙ ap (λ z. with_token (token_at p z text) second) q
     ∙ ap (λ z. with_token (token_at p j z) second) w.0
-one (token k text rest t long parts l) (wide n other more d long' ends big) e = absurd (token_wide k n text rest other more e t long parts d
+one (token k text rest t long parts none l) (wide n other more d long' ends big) e = absurd (token_wide k n text rest other more e t long
+    parts d
     long' big)
-one (token k text rest t long parts l) (glued n b other more d long' h) e = absurd (token_glued k n b text rest other more e t long parts d
+one (token k text rest t long parts none l) (glued n b other more d long' h) e = absurd (token_glued k n b text rest other more e t long
+    parts d
     long' h)
-one (token k text rest t long parts l) (bad x y z w) e = absurd (w text rest (sym e) (token_lexeme k text t))
-one (wide n other more d long' ends big) (token k text rest t long parts l) e = absurd (token_wide k n text rest other more (sym e) t long
+one (token k text rest t long parts none l) (bad x y z w) e = absurd (w text rest (sym e) (token_lexeme k text t))
+one (wide n other more d long' ends big) (token k text rest t long parts none l) e = absurd (token_wide k n text rest other more (sym e) t
+    long
     parts d long' big)
 one (wide n text rest d long ends big) (wide n' other more d' long' ends' big') e = refl
 one (wide n text rest d long ends big) (glued n' b other more d' long' h) e = absurd (wide_glued n n' b text rest other more e d long ends
     d' long' h)
 one (wide n text rest d long ends big) (bad x y z w) e = absurd (w text rest (sym e) (inr (inl (n, d))))
-one (glued n b other more d long' h) (token k text rest t long parts l) e = absurd (token_glued k n b text rest other more (sym e) t long
+one (glued n b other more d long' h) (token k text rest t long parts none l) e = absurd (token_glued k n b text rest other more (sym e) t
+    long
     parts d long' h)
 one (glued n b other more d' long' h) (wide n' text rest d long ends big) e = absurd (wide_glued n' n b text rest other more (sym e) d long
     ends d' long' h)
@@ -198,7 +203,7 @@ one {p} (glued n b text rest d long h) (glued n' c other more d' long' h') e =
     let w = same_text text other (b ∷ rest) (c ∷ more) e (inr (inl (n, d))) long (inr (inl (n', d'))) long' in
     ap (λ x. Err (BadByte (after p x).at)) w.0
 one (glued n c text rest d long h) (bad x y z w) e = absurd (w text (c ∷ rest) (sym e) (inr (inl (n, d))))
-one (bad x y z w) (token k text rest t long parts l) e = absurd (w text rest e (token_lexeme k text t))
+one (bad x y z w) (token k text rest t long parts none l) e = absurd (w text rest e (token_lexeme k text t))
 one (bad x y z w) (wide n text rest d long ends big) e = absurd (w text rest e (inr (inl (n, d))))
 one (bad x y z w) (glued n c text rest d long h) e = absurd (w text (c ∷ rest) e (inr (inl (n, d))))
 one (bad x y z w) (bad x' y' z' w') e = refl

@@ -18,7 +18,7 @@ use Rattle.c_lexer.specs.Lexing.{after, is_blank, is_digit, is_letter, is_name_b
 use Rattle.c_lexer.specs.steps.Scanning.{IsRun, IsMarkAt, HasNoMark, HasNoKeyword, IsFirstEnd, IsPiece}
 use Rattle.c_lexer.proofs.Lists.{drop_first, first_of_some, stands, eq_of, both}
 use Rattle.c_lexer.proofs.Words.{mark_sign, mark_size}
-use Rattle.c_lexer.proofs.Lexemes.{mark_some, mark_longest, no_lexeme, run_word}
+use Rattle.c_lexer.proofs.Lexemes.{mark_some, letter_no_comment, literal_no_comment, mark_longest, no_lexeme, run_word}
 use Rattle.c_lexer.proofs.Gaps.{front_of}
 use Rattle.c_lexer.proofs.Numerals.{IsLiteralAt}
 
@@ -43,13 +43,15 @@ module _ (bytes text rest : List ℕ) (len : ℕ) (e : bytes ≡ text ++ rest) (
       IsPiece p bytes (Gap len)
   gap_piece p some go = (some, cut_within, λ r h. subst (λ x. IsLexed p x r) (sym e) (go r (cut_lexed p r h)))
 
-  token_piece : (p : Place) (k : TokenKind) → 0 < len → IsToken k text → IsLongest text rest → Parts k rest → IsPiece p bytes (Token k len)
-  token_piece p k some t l parts = (
+  token_piece : (p : Place) (k : TokenKind) → 0 < len → IsToken k text → IsLongest text rest → Parts k rest → begins_comment bytes ≡ false →
+      IsPiece p bytes (Token k len)
+  token_piece p k some t l parts none = (
     some,
     cut_within,
     λ r h.
         subst (λ x. IsLexed p bytes (with_token (token_at p k x) r)) (sym cut_front)
-        (subst (λ x. IsLexed p x (with_token (token_at p k text) r)) (sym e) (token k text rest t l parts (cut_lexed p r h))),
+        (subst (λ x. IsLexed p x (with_token (token_at p k text) r)) (sym e) (token k text rest t l parts (sym (ap begins_comment e) ∙ none)
+        (cut_lexed p r h))),
   )
 
 pub blank_piece : (p : Place) (bytes : List ℕ) → 0 < length bytes → is_blank (get_or bytes 0 0) ≡ true → IsPiece p bytes (Gap 1)
@@ -71,16 +73,22 @@ module _ (p : Place) (bytes : List ℕ) (len : ℕ) (h : is_letter (get_or bytes
   word_some : 0 < len
   word_some = let w = word_is in omega (arith, w.0, r.size)
 
+  word_no_comment : begins_comment bytes ≡ false
+  word_no_comment =
+      let lt = stands bytes 0 (letter_some (get_or bytes 0 0) h) in
+      ap begins_comment (first_of_some bytes (omega (arith, lt))) ∙ letter_no_comment (get_or bytes 0 0) (drop 1 bytes) h
+
   pub name_piece : HasNoKeyword (take len bytes) → IsPiece p bytes (Token Name len)
   name_piece none =
       let w = word_is in
       token_piece bytes r.text (drop len bytes) len r.whole r.size p Name word_some
-      (w.1, subst HasNoKeyword (front_of is_name_byte bytes len r) none) w.2 tt
+      (w.1, subst HasNoKeyword (front_of is_name_byte bytes len r) none) w.2 tt word_no_comment
 
   pub keyword_piece : (w : Keyword) → take len bytes ≡ keyword_text w → IsPiece p bytes (Token (Word w) len)
   keyword_piece w e =
       let k = word_is in
       token_piece bytes r.text (drop len bytes) len r.whole r.size p (Word w) word_some (sym (front_of is_name_byte bytes len r) ∙ e) k.2 tt
+      word_no_comment
 
 -- literals
 ends_at : (c : ℕ → Bool) (bytes : List ℕ) (n : ℕ) → c (get_or bytes n 0) ≡ false → RunEnds c (drop n bytes)
@@ -105,7 +113,7 @@ module _ (p : Place) (bytes : List ℕ) (len n : ℕ) (l : IsLiteralAt bytes len
   pub literal_piece : (z : ℤ) → is_name_byte (get_or bytes len 0) ≡ false → z ≡ pos n → n < 2 ^ 63 → IsPiece p bytes (Token (Literal z) len)
   literal_piece z q e small =
       token_piece bytes l.text (drop len bytes) len l.whole l.size p (Literal z) l.some (n, l.literal, e, small) l.longest
-      (ends_at is_name_byte bytes len q)
+      (ends_at is_name_byte bytes len q) (ap begins_comment l.whole ∙ literal_no_comment l.text (drop len bytes) n l.literal)
 
   pub wide_fault : is_name_byte (get_or bytes len 0) ≡ false → 2 ^ 63 ≤ n → IsLexed p bytes (Err (TooWide p.at))
   wide_fault q big =
@@ -212,11 +220,12 @@ pub open_fault : (p : Place) (bytes : List ℕ) → begins_comment bytes ≡ tru
 open_fault p bytes h none f = subst (λ x. IsLexed p x (Err (OpenComment p.at))) (sym (star bytes h none)) (open_comment (drop 2 bytes) f)
 
 -- marks
-pub mark_piece : (p : Place) (bytes : List ℕ) (m : Punct) → IsMarkAt bytes m → IsPiece p bytes (Token (Mark m) (length (mark_text m)))
-mark_piece p bytes m h =
+pub mark_piece : (p : Place) (bytes : List ℕ) (m : Punct) → begins_comment bytes ≡ false → IsMarkAt bytes m →
+    IsPiece p bytes (Token (Mark m) (length (mark_text m)))
+mark_piece p bytes m none h =
     let s = mark_size m in
     token_piece bytes (mark_text m) h.rest (length (mark_text m)) h.whole refl p (Mark m) (omega (arith, s.least)) refl
-    (mark_longest m (mark_text m) h.rest refl h.longest) tt
+    (mark_longest m (mark_text m) h.rest refl h.longest) tt none
 
 pub byte_fault : (p : Place) (bytes : List ℕ) → 0 < length bytes → is_blank (get_or bytes 0 0) ≡ false → is_letter (get_or bytes 0 0)
     ≡ false → is_digit (get_or bytes 0 0) ≡ false → (get_or bytes 0 0 ≡ 35 → ⊥) →

@@ -67,7 +67,7 @@ const KEYWORD_PLACES: [u8; 128] = [
 ];
 
 /// The marks.
-const MARKS: [Punct; 24] = [
+const MARKS: [Punct; 28] = [
     Punct::LessEqual,
     Punct::GreaterEqual,
     Punct::Equal,
@@ -92,12 +92,17 @@ const MARKS: [Punct; 24] = [
     Punct::Not,
     Punct::Less,
     Punct::Greater,
+    Punct::Slash,
+    Punct::Percent,
+    Punct::SlashAssign,
+    Punct::PercentAssign,
 ];
 
-/// The places of the marks in `MARKS`, each at its mark's slot, and elsewhere 24.
-const MARK_PLACES: [u8; 48] = [
-    24, 24, 24, 24, 4, 24, 10, 24, 5, 24, 3, 15, 22, 17, 23, 24, 24, 24, 24, 8, 6, 24, 7, 24, 24,
-    24, 9, 13, 24, 14, 24, 24, 24, 21, 24, 24, 24, 0, 2, 1, 11, 12, 20, 18, 16, 19, 24, 24,
+/// The places of the marks in `MARKS`, each at its mark's slot, and elsewhere 28.
+const MARK_PLACES: [u8; 68] = [
+    28, 27, 28, 28, 5, 28, 8, 6, 28, 7, 4, 26, 28, 28, 28, 28, 28, 28, 28, 28, 28, 28, 28, 28, 0,
+    2, 1, 28, 28, 28, 28, 9, 28, 21, 28, 28, 28, 25, 28, 28, 11, 12, 20, 18, 16, 19, 28, 24, 28,
+    28, 28, 28, 28, 10, 28, 13, 28, 14, 28, 15, 22, 17, 23, 28, 28, 3, 28, 28,
 ];
 
 impl Keyword {
@@ -168,6 +173,8 @@ impl Punct {
             Punct::Plus => b"+",
             Punct::Minus => b"-",
             Punct::Star => b"*",
+            Punct::Slash => b"/",
+            Punct::Percent => b"%",
             Punct::Not => b"!",
             Punct::Less => b"<",
             Punct::LessEqual => b"<=",
@@ -180,6 +187,8 @@ impl Punct {
             Punct::PlusAssign => b"+=",
             Punct::MinusAssign => b"-=",
             Punct::StarAssign => b"*=",
+            Punct::SlashAssign => b"/=",
+            Punct::PercentAssign => b"%=",
             Punct::Increment => b"++",
             Punct::Decrement => b"--",
         }
@@ -213,7 +222,7 @@ pub(crate) fn keyword(text: &[u8]) -> Option<Keyword>
 fn mark_slot(first: u8, second: u8) -> usize
     ensures { result ≡ mark_slot_of first second }
 {
-    (first as usize + 13 * second as usize) % 48
+    (first as usize + 44 * second as usize) % 68
 }
 
 /// The mark of these two bytes, or of the first where the second is 0, if it stands at the
