@@ -1,8 +1,9 @@
 -- The tokens of a text can be read.
-use Rattle.std.specs.Prelude.{◌≡◌, ℕ, zero, suc, ◌+◌, ◌-◌, ◌<◌, ◌≤◌, List, [], ◌∷◌, ◌++◌, length, take, true, Some, Result, Ok, Err, All, slice_get, slice_range, codes, refl}
+use Rattle.std.specs.Prelude.{◌≡◌, ℕ, zero, suc, ◌+◌, ◌-◌, ◌<◌, ◌≤◌, List, [], ◌∷◌, ◌++◌, length, take, true, Some, Result, Ok, Err, All, slice_get, slice_range, codes, ℤ, pos, ◌≤ℤ◌, refl}
 use Rattle.std.proofs.Common.{sym, ◌∙◌, ap, subst, arith, drop, append_assoc, length-append}
 use Rattle.std.proofs.Math.Seq.{take-append_seam}
 use Rattle.std.proofs.lemmas.Bool.Decides.{nat_tests}
+use Rattle.std.proofs.lemmas.Int.{ints}
 use Rattle.c_lexer.specs.declared.token.Token as the_token
 use Rattle.c_lexer.specs.declared.token.TokenKind.TheVariants as kind
 use Rattle.c_lexer.specs.declared.token.LexError.{LexError}
@@ -41,9 +42,16 @@ range-middle front text rest =
     ap (λ k. take k (drop (length front) (front ++ (text ++ rest)))) n ∙ ap (take (length text)) (drop-front front (text ++ rest))
     ∙ take-append_seam text rest
 
-abbrev Ascii : List ℕ → List the_token.Token → Type 0
-Ascii bytes ts = (k : ℕ) (t : the_token.Token) → slice_get ts k ≡ Some t → t.kind ≡ kind.Name →
-    All (λ b. b < 128) (slice_range bytes t.from t.to)
+literal_natural : (n : ℤ) (text : List ℕ) → IsToken (kind.Literal n) text → pos 0 ≤ℤ n
+literal_natural n text h = let e : n ≡ pos h.0 = h.2 in omega (arith, ints, e)
+
+-- a name is of ASCII, and a literal isn't below 0
+record IsPlain (bytes : List ℕ) (t : the_token.Token) : Type 0 where
+  ascii : t.kind ≡ kind.Name → All (λ b. b < 128) (slice_range bytes t.from t.to)
+  natural : (n : ℤ) → t.kind ≡ kind.Literal n → pos 0 ≤ℤ n
+
+abbrev ArePlain : List ℕ → List the_token.Token → Type 0
+ArePlain bytes ts = (k : ℕ) (t : the_token.Token) → slice_get ts k ≡ Some t → IsPlain bytes t
 
 no_tokens : (f : LexError) (ts : List the_token.Token) → (let x : Answers = Err f in x) ≡ Ok ts → ⊥
 no_tokens f ts e = cc
@@ -56,36 +64,36 @@ ok_tail t (Ok us) ts e = (us, refl, sym (the_list (t ∷ us) ts e))
     the_list a b e = cc
 ok_tail t (Err f) ts e = cc
 
-none_ascii : (bytes : List ℕ) (ts : List the_token.Token) → (let x : Answers = Ok [] in x) ≡ Ok ts → Ascii bytes ts
-none_ascii bytes [] e k t g i = cc
-none_ascii bytes (x ∷ xs) e k t g i = cc
+none_plain : (bytes : List ℕ) (ts : List the_token.Token) → (let x : Answers = Ok [] in x) ≡ Ok ts → ArePlain bytes ts
+none_plain bytes [] e k t g = cc
+none_plain bytes (x ∷ xs) e k t g = cc
 
 -- behind a text that gives no token
 skipped : (front text rest : List ℕ) (p : Place) (ts : List the_token.Token) → p.offset ≡ length front →
-    ((more : List ℕ) → (after p text).offset ≡ length more → Ascii (more ++ rest) ts) → Ascii (front ++ (text ++ rest)) ts
+    ((more : List ℕ) → (after p text).offset ≡ length more → ArePlain (more ++ rest) ts) → ArePlain (front ++ (text ++ rest)) ts
 skipped front text rest p ts o rec =
     let n : (after p text).offset ≡ length (front ++ text) = after-offset p text ∙ ap (λ m. m + length text) o
     ∙ sym (length-append front text)
     in
-    subst (λ l. Ascii l ts) (append_assoc front text rest) (rec (front ++ text) n)
+    subst (λ l. ArePlain l ts) (append_assoc front text rest) (rec (front ++ text) n)
 
-names_ascii : {p : Place} {xs : List ℕ} {r : Answers} → IsLexed p xs r → (front : List ℕ) → p.offset ≡ length front →
-    (ts : List the_token.Token) → r ≡ Ok ts → Ascii (front ++ xs) ts
-names_ascii end front o ts e = none_ascii (front ++ []) ts e
-names_ascii {p} (blank {b = b} {bytes} h l) front o ts e = skipped front (b ∷ []) bytes p ts o (λ more n. names_ascii l more n ts e)
-names_ascii {p} (line_comment text rest c f l) front o ts e =
-    subst (λ x. Ascii (front ++ x) ts) (append_assoc (codes "//") text rest) (skipped front (codes "//" ++ text) rest p ts o
-    (λ more n. names_ascii l more n ts e))
-names_ascii {p} (comment text rest c l) front o ts e =
-    subst (λ x. Ascii (front ++ x) ts) (append_assoc (codes "/*") (text ++ codes "*/") rest ∙ ap (λ x. codes "/*" ++ x)
+all_plain : {p : Place} {xs : List ℕ} {r : Answers} → IsLexed p xs r → (front : List ℕ) → p.offset ≡ length front →
+    (ts : List the_token.Token) → r ≡ Ok ts → ArePlain (front ++ xs) ts
+all_plain end front o ts e = none_plain (front ++ []) ts e
+all_plain {p} (blank {b = b} {bytes} h l) front o ts e = skipped front (b ∷ []) bytes p ts o (λ more n. all_plain l more n ts e)
+all_plain {p} (line_comment text rest c f l) front o ts e =
+    subst (λ x. ArePlain (front ++ x) ts) (append_assoc (codes "//") text rest) (skipped front (codes "//" ++ text) rest p ts o
+    (λ more n. all_plain l more n ts e))
+all_plain {p} (comment text rest c l) front o ts e =
+    subst (λ x. ArePlain (front ++ x) ts) (append_assoc (codes "/*") (text ++ codes "*/") rest ∙ ap (λ x. codes "/*" ++ x)
     (append_assoc text (codes "*/") rest))
-    (skipped front (codes "/*" ++ (text ++ codes "*/")) rest p ts o (λ more n. names_ascii l more n ts e))
-names_ascii (open_comment text c) front o ts e = absurd (no_tokens _ ts e)
-names_ascii {p} (include_line text rest h i c f l) front o ts e = skipped front text rest p ts o (λ more n. names_ascii l more n ts e)
-names_ascii {p} (token {r = r} k text rest t long parts l) front o ts e =
+    (skipped front (codes "/*" ++ (text ++ codes "*/")) rest p ts o (λ more n. all_plain l more n ts e))
+all_plain (open_comment text c) front o ts e = absurd (no_tokens _ ts e)
+all_plain {p} (include_line text rest h i c f l) front o ts e = skipped front text rest p ts o (λ more n. all_plain l more n ts e)
+all_plain {p} (token {r = r} k text rest t long parts none l) front o ts e =
     let w = ok_tail (token_at p k text) r ts e in
-    let others : Ascii (front ++ (text ++ rest)) w.0 = skipped front text rest p w.0 o (λ more n. names_ascii l more n w.0 w.1) in
-    subst (λ us. Ascii (front ++ (text ++ rest)) us) (sym w.2) (first_of w.0 others)
+    let others : ArePlain (front ++ (text ++ rest)) w.0 = skipped front text rest p w.0 o (λ more n. all_plain l more n w.0 w.1) in
+    subst (λ us. ArePlain (front ++ (text ++ rest)) us) (sym w.2) (first_of w.0 others)
   where
     here : k ≡ kind.Name → All (λ b. b < 128) (slice_range (front ++ (text ++ rest)) p.offset (p.offset + length text))
     here q =
@@ -94,15 +102,16 @@ names_ascii {p} (token {r = r} k text rest t long parts l) front o ts e =
         ≡ text = ap (λ n. slice_range (front ++ (text ++ rest)) n (n + length text)) o ∙ range-middle front text rest in
         subst (λ l. All (λ b. b < 128) l) (sym s) a
 
-    first_of : (us : List the_token.Token) → Ascii (front ++ (text ++ rest)) us → Ascii (front ++ (text ++ rest)) (token_at p k text ∷ us)
-    first_of us others zero u g i =
+    first_of : (us : List the_token.Token) → ArePlain (front ++ (text ++ rest)) us →
+        ArePlain (front ++ (text ++ rest)) (token_at p k text ∷ us)
+    first_of us others zero u g =
         let q : token_at p k text ≡ u = cc in
-        subst (λ (x : the_token.Token). All (λ b. b < 128) (slice_range (front ++ (text ++ rest)) x.from x.to)) q
-        (here (ap (λ (x : the_token.Token). x.kind) q ∙ i))
-    first_of us others (suc j) u g i = others j u g i
-names_ascii (wide n text rest d long ends big) front o ts e = absurd (no_tokens _ ts e)
-names_ascii (glued n b text rest d long h) front o ts e = absurd (no_tokens _ ts e)
-names_ascii (bad x y z w) front o ts e = absurd (no_tokens _ ts e)
+        subst (λ (x : the_token.Token). IsPlain (front ++ (text ++ rest)) x) q
+        (record { ascii = here; natural = λ n i. literal_natural n text (subst (λ x. IsToken x text) i t) })
+    first_of us others (suc j) u g = others j u g
+all_plain (wide n text rest d long ends big) front o ts e = absurd (no_tokens _ ts e)
+all_plain (glued n b text rest d long h) front o ts e = absurd (no_tokens _ ts e)
+all_plain (bad x y z w) front o ts e = absurd (no_tokens _ ts e)
 
 record IsOrdered (n : ℕ) (t : the_token.Token) : Type 0 where
   ordered : t.from ≤ t.to
@@ -118,4 +127,5 @@ stands_ordered a n (x ∷ ts) h (suc k) t e = stands_ordered x.to n ts h.3 k t e
 pub readable : (bytes : List ℕ) (ts : List the_token.Token) → IsTokens bytes ts → AreReadable bytes ts
 readable bytes ts l k t e =
     let o = stands_ordered 0 (length bytes) ts (in_order bytes ts l) k t e in
-    record { ordered = o.ordered; within = o.within; ascii = names_ascii l [] refl ts refl k t e }
+    let p = all_plain l [] refl ts refl k t e in
+    record { ordered = o.ordered; within = o.within; ascii = p.ascii; natural = p.natural }

@@ -10,17 +10,15 @@ use Rattle.c_lexer.specs.declared.token.TokenKind.{TokenKind}
 use Rattle.c_lexer.specs.declared.token.TokenKind.TheVariants as kind
 use Rattle.c_lexer.specs.Pure.{PureToken}
 use Rattle.c_tree.specs.SourceTree as tree
-use Rattle.c_tree.specs.SourceTree.{Identifier, ExpressionTree, ExpressionTrees, no_arguments, argument, SimpleStatement, Declarator, ForInit, no_init, StatementTree, StatementTrees, no_statements, FileItem}
+use Rattle.c_tree.specs.SourceTree.{Identifier, ExpressionTree, ExpressionTrees, no_arguments, argument, SimpleStatement, Declarator, ForInit, no_init, StatementTree, StatementTrees, no_statements}
 use Rattle.c_parser.specs.Grammar.{a_name, IsMark, level, mark_of, counted, IsExpression, IsCall, IsArguments, IsFull, IsOptional, IsType, IsDeclarators, changing_mark, IsSimple, IsOptionalSimple, IsForInit, takes_else, IsTest, IsStatement, IsTypes, IsTypeList, IsParameters, IsParameterList}
 use Rattle.c_parser.specs.Grammar as grammar
 use Rattle.c_parser.specs.steps.Machine.{Frames, Outermost, Within, Part, After, Spot, Site, Purpose, Words, Typed, State, Closed, first_word, next_word, binary_of, also_argument, also_statement, declared_bare, declared_as, Move, typing, closed, declared, ends, finished, pushed, had_mark, had, tick, wanted, wanted_mark, procedure_of, settled, elsed, resumed, move, Guards}
-use Rattle.c_parser.proofs.Reading.{Statement, Items, Conditional, Simply, Declares, Declared', Initial, Optional, OptionalStep, Item, renested, renested_items, more_items, more_declared, Marked, Worded, token, the_mark, the_word, ExternText, absent, present, TitleText, title, Passed, nothing, named, bare, head, Around, outermost, braces, thens, others, bodies, doings, for_bodies, SpotText, alone, first, step', SiteText, in_own, in_inner, in_for, Listed, none_listed, listed, Leads, no_lead, led, Aimed, testing_if, testing_while, testing_do, setting, changing, arguing, initialising, for_testing, returning, Spelled, aimed, after, under, inside, passing, WordsText, all_read, long_read, long_long_read, TypedText, result, parameter, declaration, Reads, begin, externed, voided, typing_words, titled, opened, no_parameters, next_parameter, parameter_named, closed_head, start, done_with, test_if, test_while, test_do, ending, returned, for_open, for_first, for_test, for_step, target, stepping, call_opened, simple, next_name, declared_name, want, operand_named, called, have, Reaches}
+use Rattle.c_parser.proofs.Reading.{Statement, Items, Conditional, Simply, Declares, Declared', Initial, Optional, OptionalStep, Item, renested, renested_items, more_items, more_declared, Marked, Worded, token, the_mark, the_word, ExternText, absent, present, TitleText, title, Passed, nothing, named, bare, head, Around, outermost, braces, thens, others, bodies, doings, for_bodies, SpotText, alone, first, step', SiteText, in_own, in_inner, in_for, Listed, none_listed, listed, Leads, no_lead, led, Aimed, testing_if, testing_while, testing_do, setting, changing, arguing, initialising, for_testing, returning, Spelled, aimed, after, under, inside, passing, WordsText, all_read, long_read, long_long_read, TypedText, result, parameter, declaration, Reads, begin, externed, voided, typing_words, titled, next_global, named_global, assigned_global, signed_global, read_global, opened, no_parameters, next_parameter, parameter_named, closed_head, start, done_with, test_if, test_while, test_do, ending, returned, for_open, for_first, for_test, for_step, target, stepping, call_opened, simple, next_name, declared_name, want, operand_named, called, have, Reaches, reads_at, item_at}
 use Rattle.std.proofs.lemmas.Bool.{leb-true, leb-false}
 use Rattle.c_parser.specs.steps.Machine.{typed, typed_on, parameter_typed, resulted, begun, started, went_on, done_body, declares, block_closed, end_simple, begin_simple}
 use Rattle.c_parser.proofs.Alike.{level-le, one-le}
-
-reads_at : {s : State} {x y : List PureToken} → Reads s x → x ≡ y → Reads s y
-reads_at {s} h e = subst (λ t. Reads s t) e h
+use Rattle.c_parser.proofs.SoundGlobals.{titled_reads, named_reads, read_reads, assigned_reads, signed_reads}
 
 reaches_at : (m : Move) {x y : List PureToken} → Reaches m x → x ≡ y → Reaches m y
 reaches_at m h e = subst (λ t. Reaches m t) e h
@@ -406,6 +404,8 @@ had_mark_reads {ps} {p} {text} {own} {e} s h m c x = go m
     go punct.Plus = operator op.Add
     go punct.Minus = operator op.Subtract
     go punct.Star = operator op.Multiply
+    go punct.Slash = operator op.Divide
+    go punct.Percent = operator op.Remainder
     go m = ended m
 
 had_reads : {ps : List Part} {p : Purpose} {text own : List PureToken} {e : ExpressionTree} → Spelled ps p text → IsExpression 7 own e →
@@ -431,9 +431,6 @@ wanted_reads s (kind.Mark m) c x = wanted_mark_reads s m (tick c (kind.Mark m)) 
 wanted_reads s (kind.Word w) c x = tt
 
 -- Items
-
-item_at : {i : FileItem} {x y : List PureToken} → Item x i → x ≡ y → Item y i
-item_at {i} h e = subst (λ l. Item l i) e h
 
 prototype_item : {outer void : Bool} {n : Identifier} {text ts : List PureToken} {t u v : PureToken} → TitleText outer void n text →
     Marked punct.OpenParenthesis t → IsTypeList ts → Marked punct.CloseParenthesis u → Marked punct.Semicolon v →
@@ -677,7 +674,16 @@ step_reads (voided e h) (kind.Word w) x = tt
 step_reads (voided e h) (kind.Literal n) x = tt
 step_reads (typing_words d h) k x = typing_reads d h k x
 step_reads (titled e) (kind.Mark punct.OpenParenthesis) x = opened e (the_mark punct.OpenParenthesis x)
-step_reads (titled e) _ x = tt
+step_reads (titled e) (kind.Mark m) x = titled_reads e (kind.Mark m) x
+step_reads (titled e) (kind.Literal n) x = titled_reads e (kind.Literal n) x
+step_reads (titled e) (kind.Word w) x = titled_reads e (kind.Word w) x
+step_reads (titled e) kind.Name x = titled_reads e kind.Name x
+step_reads (next_global ty b) kind.Name x = reads_at (named_global ty b) (simp append_assoc)
+step_reads (next_global ty b) _ x = tt
+step_reads (named_global {n = n} ty b) k x = named_reads n ty b k x
+step_reads (assigned_global {n = n} ty b a) k x = assigned_reads n ty b a k x
+step_reads (signed_global {n = n} minus ty b a m) k x = signed_reads n minus ty b a m k x
+step_reads (read_global ty b g) k x = read_reads ty b g k x
 step_reads (opened e o) (kind.Mark punct.CloseParenthesis) x = reads_at (closed_head e o grammar.nothing (λ i. grammar.nothing)
     (the_mark punct.CloseParenthesis x)) (simp append_assoc)
 step_reads (opened e o) (kind.Word keyword.Void) x = reads_at (no_parameters e o (the_word keyword.Void x)) (simp append_assoc)
@@ -754,6 +760,10 @@ step_reads (target {n = n} p) (kind.Mark punct.MinusAssign) x = reads_at
     (want (aimed (changing {n = n} op.Subtract punct.MinusAssign refl p (the_mark punct.MinusAssign x)))) (simp append_assoc)
 step_reads (target {n = n} p) (kind.Mark punct.StarAssign) x = reads_at
     (want (aimed (changing {n = n} op.Multiply punct.StarAssign refl p (the_mark punct.StarAssign x)))) (simp append_assoc)
+step_reads (target {n = n} p) (kind.Mark punct.SlashAssign) x = reads_at
+    (want (aimed (changing {n = n} op.Divide punct.SlashAssign refl p (the_mark punct.SlashAssign x)))) (simp append_assoc)
+step_reads (target {n = n} p) (kind.Mark punct.PercentAssign) x = reads_at
+    (want (aimed (changing {n = n} op.Remainder punct.PercentAssign refl p (the_mark punct.PercentAssign x)))) (simp append_assoc)
 step_reads (target {n = n} p) (kind.Mark punct.Increment) x = reads_at (simple p (name_up n (the_mark punct.Increment x)))
     (simp append_assoc)
 step_reads (target {n = n} p) (kind.Mark punct.Decrement) x = reads_at (simple p (name_down n (the_mark punct.Decrement x)))

@@ -11,7 +11,7 @@ use Rattle.c_lexer.specs.Pure.{PureToken}
 use Rattle.c_tree.specs.SourceTree as tree
 use Rattle.c_tree.specs.SourceTree.{Identifier, ExpressionTree, SimpleStatement, Declarator, ForInit, starting, StatementTree, StatementTrees, statement}
 use Rattle.c_parser.specs.Grammar.{is_nested, takes_else}
-use Rattle.c_parser.specs.steps.Machine.{Frames, Outermost, Within, Then, Otherwise, Body, Doing, ForBody, Spot, Alone, First, Step, Site, InBlock, InFor, DoTest, Initialising, ForTesting, Returning, AllRead, Declaring, State, Typing, Start, Done, Test, Ending, Returned, ForFirst, ForTest, ForStep, Simple, NextName, Declared, Want, Have, is_else, of_token, also_statement, declared_as, Move, no, on, done, declared, ends, had, move, step, is_over, nest, block_nest, start_deep, is_deep, Stops, Deep, limited, FollowsKind, Follows, NoNext}
+use Rattle.c_parser.specs.steps.Machine.{Frames, Outermost, Within, Then, Otherwise, Body, Doing, ForBody, Spot, Alone, First, Step, Site, InBlock, InFor, DoTest, Initialising, ForTesting, Returning, AllRead, Declaring, State, Typing, Start, Done, Test, Ending, Returned, ForFirst, ForTest, ForStep, Simple, NextName, Declared, Want, Have, is_else, of_token, also_statement, declared_as, Move, no, on, done, declared, had, move, step, is_over, nest, block_nest, start_deep, is_deep, Stops, Deep, limited, FollowsKind, Follows, NoNext}
 use Rattle.std.specs.Prelude.{map}
 use Rattle.std.proofs.Common.{drop}
 use Rattle.c_tree.specs.declared.syntax_tree.Declared as tree_code
@@ -53,6 +53,8 @@ declared-initial (t ∷ ts) c e n d ds h = limited-turn t ts (Have c e [] (Initi
     go (kind.Mark punct.Plus) h = absurd (omega arith)
     go (kind.Mark punct.Minus) h = absurd (omega arith)
     go (kind.Mark punct.Star) h = absurd (omega arith)
+    go (kind.Mark punct.Slash) h = absurd (omega arith)
+    go (kind.Mark punct.Percent) h = absurd (omega arith)
     go (kind.Mark m) h = refl
 
 pub initial_leads : (ts : List PureToken) (at next : ℕ) (t : PureToken) (n : Identifier) (e : ExpressionTree) → Stands ts at t →

@@ -3,7 +3,7 @@
 -- its tokens whether it is too deep: past the limit of operators in a full expression, or the first
 -- of a statement that
 -- nests too deep.
-use Rattle.std.specs.Prelude.{◌≡◌, ℕ, ◌+◌, ◌≤◌, nat_le, List, [], ◌∷◌, ◌++◌, Bool, true, false, ◌&&◌, if◌then◌else◌, Option, Some, None, slice_get, option_map, ℤ}
+use Rattle.std.specs.Prelude.{◌≡◌, ℕ, ◌+◌, ◌≤◌, nat_le, List, [], ◌∷◌, ◌++◌, Bool, true, false, ◌&&◌, if◌then◌else◌, Option, Some, None, slice_get, option_map, ℤ, neg_ℤ}
 use Rattle.c_tree.specs.declared.tree.Pos.{Pos}
 use Rattle.c_tree.specs.declared.tree.Op.{Op}
 use Rattle.c_tree.specs.declared.tree.Op.TheVariants as op
@@ -15,7 +15,7 @@ use Rattle.c_lexer.specs.declared.token.TokenKind.{TokenKind}
 use Rattle.c_lexer.specs.declared.token.TokenKind.TheVariants as kind
 use Rattle.c_lexer.specs.Pure.{PureToken}
 use Rattle.c_tree.specs.SourceTree as tree
-use Rattle.c_tree.specs.SourceTree.{Identifier, ExpressionTree, ExpressionTrees, no_arguments, argument, SimpleStatement, Declarator, ForInit, no_init, declaring, starting, StatementTree, StatementTrees, no_statements, statement, FileItem}
+use Rattle.c_tree.specs.SourceTree.{Identifier, ExpressionTree, ExpressionTrees, no_arguments, argument, SimpleStatement, Declarator, ForInit, no_init, declaring, starting, StatementTree, StatementTrees, no_statements, statement, Global, FileItem}
 
 -- Tokens: a name, a literal, a word and a mark at a place. (A word's and a mark's text doesn't
 -- matter here.)
@@ -53,6 +53,8 @@ is_counted_mark punct.OpenParenthesis = true
 is_counted_mark punct.Plus = true
 is_counted_mark punct.Minus = true
 is_counted_mark punct.Star = true
+is_counted_mark punct.Slash = true
+is_counted_mark punct.Percent = true
 is_counted_mark punct.Not = true
 is_counted_mark punct.Less = true
 is_counted_mark punct.LessEqual = true
@@ -71,6 +73,8 @@ is_counted_mark punct.Assign = false
 is_counted_mark punct.PlusAssign = false
 is_counted_mark punct.MinusAssign = false
 is_counted_mark punct.StarAssign = false
+is_counted_mark punct.SlashAssign = false
+is_counted_mark punct.PercentAssign = false
 is_counted_mark punct.Increment = false
 is_counted_mark punct.Decrement = false
 
@@ -110,6 +114,8 @@ level op.GreaterEqual = 4
 level op.Add = 5
 level op.Subtract = 5
 level op.Multiply = 6
+level op.Divide = 6
+level op.Remainder = 6
 
 abbrev pub mark_of : Op → Punct
 mark_of op.Or = punct.Or
@@ -123,6 +129,8 @@ mark_of op.GreaterEqual = punct.GreaterEqual
 mark_of op.Add = punct.Plus
 mark_of op.Subtract = punct.Minus
 mark_of op.Multiply = punct.Star
+mark_of op.Divide = punct.Slash
+mark_of op.Remainder = punct.Percent
 
 pub data Prefix : Type 0 where
   not : Prefix
@@ -238,6 +246,8 @@ abbrev pub changing_mark : Op → Option Punct
 changing_mark op.Add = Some punct.PlusAssign
 changing_mark op.Subtract = Some punct.MinusAssign
 changing_mark op.Multiply = Some punct.StarAssign
+changing_mark op.Divide = Some punct.SlashAssign
+changing_mark op.Remainder = Some punct.PercentAssign
 changing_mark _ = None
 
 -- A set, a change in place, or a call. The list leaves out the first token, which is never past the
@@ -388,6 +398,27 @@ pub data IsParameterList : List PureToken → List Identifier → Type 0 where
   parameters : {ts : List PureToken} {ns : List Identifier} → IsParameters ts ns →
       IsParameterList ts ns
 
+-- a literal with or without a sign
+pub data IsSigned : List PureToken → ℤ → Type 0 where
+  unsigned : {n : ℤ} {at : Pos} {text : List ℕ} → IsSigned (a_literal n at text ∷ []) n
+  after_plus : {n : ℤ} {at : Pos} {text : List ℕ} {t : PureToken} → IsMark punct.Plus t →
+      IsSigned (t ∷ a_literal n at text ∷ []) n
+  after_minus : {n : ℤ} {at : Pos} {text : List ℕ} {t : PureToken} → IsMark punct.Minus t →
+      IsSigned (t ∷ a_literal n at text ∷ []) (neg_ℤ n)
+
+-- the name of a global with or without an opening value
+pub data IsGlobal : List PureToken → Global → Type 0 where
+  bare : {n : Identifier} → IsGlobal (a_name n ∷ []) (record { named = n; value = None })
+  valued : {n : Identifier} {t : PureToken} {ts : List PureToken} {v : ℤ} → IsMark punct.Assign t →
+      IsSigned ts v → IsGlobal (a_name n ∷ t ∷ ts) (record { named = n; value = Some v })
+
+-- globals parted by commas, and the semicolon
+pub data IsGlobals : List PureToken → List Global → Type 0 where
+  last : {ts : List PureToken} {g : Global} → IsGlobal ts g → (t : PureToken) →
+      IsMark punct.Semicolon t → IsGlobals (ts ++ t ∷ []) (g ∷ [])
+  more : {ts us : List PureToken} {g : Global} {gs : List Global} → IsGlobal ts g →
+      (t : PureToken) → IsMark punct.Comma t → IsGlobals us gs → IsGlobals (ts ++ t ∷ us) (g ∷ gs)
+
 -- `extern` or nothing
 pub data IsExtern : List PureToken → Type 0 where
   absent : IsExtern []
@@ -425,6 +456,9 @@ pub data IsItem : List PureToken → List Bool → FileItem → Type 0 where
         body = ss;
         past = past_place (procedure_text rs n t ts u body);
       }))
+  -- neither `extern` nor `void` stands before globals
+  globals : {ts us : List PureToken} {gs : List Global} → IsType ts → IsGlobals us gs →
+      IsItem (ts ++ us) (all_shallow (ts ++ us)) (tree.globals gs)
 
 -- the text is that of the file, and these of its tokens are too deep
 pub data IsFile : List PureToken → List Bool → List FileItem → Type 0 where

@@ -1,6 +1,6 @@
 -- A reader of tokens, one after another: what it waits for, what it makes, and which tokens are too
 -- deep.
-use Rattle.std.specs.Prelude.{◌≡◌, ℕ, ◌+◌, ◌-◌, ◌<◌, ◌≤◌, nat_le, List, [], ◌∷◌, ◌++◌, length, take, Bool, true, false, ◌&&◌, if◌then◌else◌, not, Option, Some, None}
+use Rattle.std.specs.Prelude.{◌≡◌, ℕ, ◌+◌, ◌-◌, ◌<◌, ◌≤◌, nat_le, List, [], ◌∷◌, ◌++◌, length, take, Bool, true, false, ◌&&◌, if◌then◌else◌, not, Option, Some, None, ℤ, neg_ℤ}
 use Rattle.c_tree.specs.declared.tree.Pos.{Pos}
 use Rattle.c_tree.specs.declared.tree.Op.{Op}
 use Rattle.c_tree.specs.declared.tree.Op.TheVariants as op
@@ -11,7 +11,7 @@ use Rattle.c_lexer.specs.declared.token.TokenKind.{TokenKind}
 use Rattle.c_lexer.specs.declared.token.TokenKind.TheVariants as kind
 use Rattle.c_lexer.specs.Pure.{PureToken}
 use Rattle.c_tree.specs.SourceTree as tree
-use Rattle.c_tree.specs.SourceTree.{Identifier, ExpressionTree, ExpressionTrees, no_arguments, argument, SimpleStatement, Declarator, ForInit, no_init, declaring, starting, StatementTree, StatementTrees, no_statements, statement, FileItem}
+use Rattle.c_tree.specs.SourceTree.{Identifier, ExpressionTree, ExpressionTrees, no_arguments, argument, SimpleStatement, Declarator, ForInit, no_init, declaring, starting, StatementTree, StatementTrees, no_statements, statement, Global, FileItem}
 use Rattle.c_parser.specs.Grammar.{Prefix, prefixed, level, is_counted, max_operators, is_nested, past_place}
 use Rattle.c_parser.specs.Grammar as grammar
 
@@ -93,6 +93,16 @@ pub data State : Type 0 where
   Typing : Words → Typed → State
   -- the name of a procedure or a prototype was read
   Titled : Head → State
+  -- a comma was read behind these globals
+  GlobalNext : List Global → State
+  -- the name of a further global was read
+  GlobalNamed : Identifier → List Global → State
+  -- `=` was read there
+  GlobalAssigned : Identifier → List Global → State
+  -- a sign was read there, `-` or `+`
+  GlobalSigned : Bool → Identifier → List Global → State
+  -- globals with their opening values were read
+  GlobalRead : List Global → State
   -- its parenthesis was read
   Opened : Head → State
   -- `void` was read there
@@ -183,6 +193,8 @@ binary_of punct.GreaterEqual = Some op.GreaterEqual
 binary_of punct.Plus = Some op.Add
 binary_of punct.Minus = Some op.Subtract
 binary_of punct.Star = Some op.Multiply
+binary_of punct.Slash = Some op.Divide
+binary_of punct.Percent = Some op.Remainder
 binary_of _ = None
 
 -- a name and the place of a token
@@ -204,6 +216,12 @@ declared_bare n = record { named = n; value = None }
 
 abbrev pub declared_as : Identifier → ExpressionTree → Declarator
 declared_as n e = record { named = n; value = Some e }
+
+abbrev pub global_bare : Identifier → Global
+global_bare n = record { named = n; value = None }
+
+abbrev pub global_as : Identifier → ℤ → Global
+global_as n v = record { named = n; value = Some v }
 
 -- Steps
 
@@ -275,9 +293,42 @@ abbrev pub typed_on : Option Words → Typed → TokenKind → Identifier → Mo
 typed_on (Some w) d k x = on (Typing w d)
 typed_on None d k x = typed d k x
 
+-- behind a global
+abbrev pub global_read : TokenKind → List Global → Move
+global_read (kind.Mark punct.Comma) gs = on (GlobalNext gs)
+global_read (kind.Mark punct.Semicolon) gs = done (tree.globals gs)
+global_read _ gs = no
+
+abbrev pub global_next : TokenKind → Identifier → List Global → Move
+global_next kind.Name x gs = on (GlobalNamed x gs)
+global_next _ x gs = no
+
+abbrev pub global_named : TokenKind → Identifier → List Global → Move
+global_named (kind.Mark punct.Assign) n gs = on (GlobalAssigned n gs)
+global_named k n gs = global_read k (gs ++ global_bare n ∷ [])
+
+abbrev pub signed : Bool → ℤ → ℤ
+signed true n = neg_ℤ n
+signed false n = n
+
+abbrev pub global_signed : Bool → TokenKind → Identifier → List Global → Move
+global_signed minus (kind.Literal v) n gs = on
+    (GlobalRead (gs ++ global_as n (signed minus v) ∷ []))
+global_signed minus _ n gs = no
+
+abbrev pub global_assigned : TokenKind → Identifier → List Global → Move
+global_assigned (kind.Mark punct.Minus) n gs = on (GlobalSigned true n gs)
+global_assigned (kind.Mark punct.Plus) n gs = on (GlobalSigned false n gs)
+global_assigned k n gs = global_signed false k n gs
+
+-- a type and a name may begin globals, where neither `extern` nor `void` stands before
+abbrev pub first_global : Bool → Bool → TokenKind → Identifier → Move
+first_global false false k n = global_named k n []
+first_global _ _ k n = no
+
 abbrev pub titled : Head → TokenKind → Move
 titled h (kind.Mark punct.OpenParenthesis) = on (Opened h)
-titled h _ = no
+titled h k = first_global h.outer h.void k h.named
 
 abbrev pub opened : Head → TokenKind → Move
 opened h (kind.Mark punct.CloseParenthesis) = on (Closed h)
@@ -324,6 +375,8 @@ targeted (kind.Mark punct.Assign) x n p = on (Want 0 [] (Setting n p))
 targeted (kind.Mark punct.PlusAssign) x n p = on (Want 0 [] (Changing op.Add x.at n p))
 targeted (kind.Mark punct.MinusAssign) x n p = on (Want 0 [] (Changing op.Subtract x.at n p))
 targeted (kind.Mark punct.StarAssign) x n p = on (Want 0 [] (Changing op.Multiply x.at n p))
+targeted (kind.Mark punct.SlashAssign) x n p = on (Want 0 [] (Changing op.Divide x.at n p))
+targeted (kind.Mark punct.PercentAssign) x n p = on (Want 0 [] (Changing op.Remainder x.at n p))
 targeted (kind.Mark punct.Increment) x n p = on (Simple (tree.add_one n) p)
 targeted (kind.Mark punct.Decrement) x n p = on (Simple (tree.subtract_one n) p)
 targeted (kind.Mark punct.OpenParenthesis) x n p = on (CallOpened 1 n p)
@@ -555,6 +608,11 @@ move Externed k x = resulted true k
 move (Voided outer) k x = voided outer k x
 move (Typing w d) k x = typed_on (next_word w k) d k x
 move (Titled h) k x = titled h k
+move (GlobalNext gs) k x = global_next k x gs
+move (GlobalNamed n gs) k x = global_named k n gs
+move (GlobalAssigned n gs) k x = global_assigned k n gs
+move (GlobalSigned minus n gs) k x = global_signed minus k n gs
+move (GlobalRead gs) k x = global_read k gs
 move (Opened h) k x = opened h k
 move (NoParameters h) k x = none_closed h k
 move (NextParameter h) k x = typing (first_word k) (Parameter h)
@@ -683,6 +741,7 @@ limited ts s = bounded ts (trace ts s).0 (trace ts s).1
 -- A procedure's place past the limit, by its whole text
 
 abbrev pub with_past : Option Pos → FileItem → FileItem
+with_past p (tree.globals gs) = tree.globals gs
 with_past p (tree.prototype n) = tree.prototype n
 with_past p (tree.procedure q) = tree.procedure
     (record { void = q.void; named = q.named; params = q.params; body = q.body; past = p })

@@ -7,9 +7,10 @@ use Rattle.c_lexer.specs.Pure.{PureToken}
 use Rattle.c_tree.specs.SourceTree.{Identifier, FileItem}
 use Rattle.c_tree.specs.SourceView.{identifier_of}
 use Rattle.c_parser.specs.declared.head.Head as the_head
+use Rattle.c_parser.specs.declared.head.Title as the_title
 use Rattle.c_parser.specs.declared.fault.Fault.{Fault}
 use Rattle.c_parser.specs.Grammar.{past_place}
-use Rattle.c_tree.specs.SourceTree.{no_statements, prototype, procedure}
+use Rattle.c_tree.specs.SourceTree.{no_statements, prototype, procedure, globals}
 use Rattle.c_tree.specs.SourceNodes.{statement_trees_nodes}
 use Rattle.c_parser.specs.steps.Machine.{Outermost, Start, Head, State, Begin, Externed, Voided, Typing, AllRead, Result, Titled, Opened, NextParameter, ParameterNamed, Closed, new_head, with_parameter, without_name, with_past, with_item, filed, Outcome, limited}
 use Rattle.c_parser.specs.steps.Parsing.{Tells}
@@ -40,15 +41,25 @@ abbrev pub FailsResult : List PureToken → ℕ → Fault → Type 0
 FailsResult ts at f = (outer : Bool) → BeginsItem outer (drop at ts) →
     Tells ts f (limited (drop at ts) (entered outer))
 
-pub record ReadsTitle (ts : List PureToken) (at : ℕ) (n : Identifier) (next : ℕ) : Type 0 where
+pub record ReadsName (ts : List PureToken) (at : ℕ) (n : Identifier) (next : ℕ) : Type 0 where
   pub later : at < next
   pub within : next ≤ length ts
   pub leads : (void outer : Bool) → limited (drop at ts) (resulted_state void outer)
       ≡ limited (drop next ts) (Titled (new_head outer void n))
 
-abbrev pub FailsTitle : List PureToken → ℕ → Fault → Type 0
-FailsTitle ts at f = (void outer : Bool) →
+abbrev pub FailsName : List PureToken → ℕ → Fault → Type 0
+FailsName ts at f = (void outer : Bool) →
     Tells ts f (limited (drop at ts) (resulted_state void outer))
+
+-- the beginning of an item, from its type to its name
+pub record ReadsTitle (ts : List PureToken) (at : ℕ) (h : Head) (next : ℕ) : Type 0 where
+  pub later : at < next
+  pub within : next ≤ length ts
+  pub leads : limited (drop at ts) (entered h.outer) ≡ limited (drop next ts) (Titled h)
+
+abbrev pub FailsTitle : List PureToken → ℕ → Bool → Fault → Type 0
+FailsTitle ts at outer f = BeginsItem outer (drop at ts) →
+    Tells ts f (limited (drop at ts) (entered outer))
 
 -- a parameter with or without a name
 abbrev pub after_parameter : Head → Option Identifier → Head
@@ -96,29 +107,26 @@ pub record ReadsParameters (ts : List PureToken) (at : ℕ) (ns : List Identifie
 abbrev pub FailsParameters : List PureToken → ℕ → Fault → Type 0
 FailsParameters ts at f = (h : Head) → Tells ts f (limited (drop at ts) (Opened (headed h [] true)))
 
--- the beginning of an item, from its result's type on
-pub record ReadsHead (ts : List PureToken) (at : ℕ) (h : Head) (next : ℕ) : Type 0 where
-  pub later : at < next
-  pub within : next ≤ length ts
-  pub leads : limited (drop at ts) (entered h.outer) ≡ limited (drop next ts) (Closed h)
-
-abbrev pub FailsHead : List PureToken → ℕ → Bool → Fault → Type 0
-FailsHead ts at outer f = BeginsItem outer (drop at ts) →
-    Tells ts f (limited (drop at ts) (entered outer))
-
--- an item without its place past the limit, and with it
-pub record ReadsFileItem (ts : List PureToken) (at : ℕ) (i : FileItem) (next : ℕ) : Type 0 where
+-- From a state over the last tokens of an item that began at a place: the item without its place
+-- past the limit, and with it.
+pub record EndsItem (ts : List PureToken) (start at : ℕ) (s : State) (i : FileItem) (next : ℕ) :
+    Type 0 where
   pub later : at < next
   pub within : next ≤ length ts
   pub bare : FileItem
-  pub leads : limited (drop at ts) Begin ≡ with_item bare (drop next ts)
-      (limited (drop next ts) Begin)
-  pub whole : i ≡ with_past (past_place (take (next - at) (drop at ts))) bare
+  pub leads : limited (drop at ts) s ≡ with_item bare (drop next ts) (limited (drop next ts) Begin)
+  pub whole : i ≡ with_past (past_place (take (next - start) (drop start ts))) bare
+
+abbrev pub ReadsFileItem : List PureToken → ℕ → FileItem → ℕ → Type 0
+ReadsFileItem ts at i next = EndsItem ts at at Begin i next
 
 abbrev pub FailsFileItem : List PureToken → ℕ → Fault → Type 0
 FailsFileItem ts at f = Tells ts f (limited (drop at ts) Begin)
 
 -- what contracts see of a beginning in the code
+abbrev pub title_of : the_title.Title → Head
+title_of t = new_head t.outer t.void (identifier_of t.named)
+
 abbrev pub head_of : the_head.Head → Head
 head_of h = record {
   outer = h.outer;
@@ -128,32 +136,27 @@ head_of h = record {
   whole = h.parameters.whole;
 }
 
--- behind a procedure's opening brace, and behind an item's closing parenthesis, where the item
--- began at a place
-pub record ReadsProcedure (ts : List PureToken) (start at : ℕ) (h : Head) (i : FileItem)
-    (next : ℕ) :
-    Type 0 where
-  pub later : at < next
-  pub within : next ≤ length ts
-  pub bare : FileItem
-  pub leads : limited (drop at ts) (Start (Outermost h no_statements)) ≡ with_item bare
-      (drop next ts) (limited (drop next ts) Begin)
-  pub whole : i ≡ with_past (past_place (take (next - start) (drop start ts))) bare
+-- behind a procedure's opening brace
+abbrev pub ReadsProcedure : List PureToken → ℕ → ℕ → Head → FileItem → ℕ → Type 0
+ReadsProcedure ts start at h i next = EndsItem ts start at (Start (Outermost h no_statements)) i
+    next
 
 abbrev pub FailsProcedure : List PureToken → ℕ → Head → Fault → Type 0
 FailsProcedure ts at h f = Tells ts f (limited (drop at ts) (Start (Outermost h no_statements)))
 
-pub record ReadsClosed (ts : List PureToken) (start at : ℕ) (h : Head) (i : FileItem) (next : ℕ) :
-    Type 0 where
-  pub later : at < next
-  pub within : next ≤ length ts
-  pub bare : FileItem
-  pub leads : limited (drop at ts) (Closed h) ≡ with_item bare (drop next ts)
-      (limited (drop next ts) Begin)
-  pub whole : i ≡ with_past (past_place (take (next - start) (drop start ts))) bare
+-- behind an item's closing parenthesis
+abbrev pub ReadsClosed : List PureToken → ℕ → ℕ → Head → FileItem → ℕ → Type 0
+ReadsClosed ts start at h i next = EndsItem ts start at (Closed h) i next
 
 abbrev pub FailsClosed : List PureToken → ℕ → Head → Fault → Type 0
 FailsClosed ts at h f = Tells ts f (limited (drop at ts) (Closed h))
+
+-- behind an item's name
+abbrev pub ReadsTitled : List PureToken → ℕ → ℕ → Head → FileItem → ℕ → Type 0
+ReadsTitled ts start at h i next = EndsItem ts start at (Titled h) i next
+
+abbrev pub FailsTitled : List PureToken → ℕ → Head → Fault → Type 0
+FailsTitled ts at h f = Tells ts f (limited (drop at ts) (Titled h))
 
 -- whole items stand before a place
 abbrev pub with_items : List (FileItem × List PureToken) → Outcome → Outcome
@@ -169,6 +172,7 @@ pub record IsFront (ts : List PureToken) (next : ℕ) (is : List FileItem) : Typ
 -- each procedure without a place past the limit becomes few nodes
 abbrev pub IsSmallItem : FileItem → Type 0
 IsSmallItem (prototype n) = Unit {0}
+IsSmallItem (globals gs) = Unit {0}
 IsSmallItem (procedure p) = p.past ≡ None → statement_trees_nodes p.body ≤ 8000
 
 abbrev pub AreSmallItems : List FileItem → Type 0
