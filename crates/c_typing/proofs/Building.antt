@@ -8,10 +8,9 @@ use Rattle.c_tree.specs.Syntax.{Statement, Statements}
 use Rattle.c_tree.specs.View.{statement_of, statements_of}
 use Rattle.c_tree.specs.declared.syntax_tree.ForFirst.{ForFirst}
 use Rattle.c_tree.specs.declared.syntax_tree.ForFirst.TheVariants.{Nothing, Declare, Simple}
-use Rattle.c_tree.specs.SourceTree.{ProcedureTree}
 use Rattle.c_typing.specs.steps.LoweringSteps.{wrapped}
 use Rattle.c_tree.specs.SourceView.{declarator_of, init_of}
-use Rattle.c_typing.specs.Scope.{Scope, with_variable, with_names, names_of}
+use Rattle.c_typing.specs.Scope.{FileScope, Scope, with_variable, with_names, names_of}
 use Rattle.c_typing.specs.Lowering.{joined, lowered_value, lowered_declarators}
 
 pub joined-nil : (ss : Statements) → joined ss program.no_statements ≡ ss
@@ -32,9 +31,9 @@ pub set_pushed : (out o1 : List Stmt) (e : Stmt) (made : Statement) → o1 ≡ o
 set_pushed out o1 e made push is = ap statements_of push ∙ statements-push out e
     ∙ ap (λ m. joined (statements_of out) (program.statement m program.no_statements)) is
 
-module _ (ps : List ProcedureTree) where
+module _ (file : FileScope) where
   abbrev pub sets_left : List Scope → ℕ → List Stmt → List Declared → Statements
-  sets_left ss next out ds = joined (statements_of out) (lowered_declarators ps ss next (map declarator_of ds))
+  sets_left ss next out ds = joined (statements_of out) (lowered_declarators file ss next (map declarator_of ds))
 
   abbrev pub names_left : List Declared → ℕ
   names_left ds = length (names_of (map declarator_of ds))
@@ -45,17 +44,17 @@ module _ (ps : List ProcedureTree) where
   pub sets_turn : (ds : List Declared) (i : ℕ) (d : Declared) (ss s1 : List Scope) (next n1 : ℕ) (out o1 : List Stmt) (goal : Statements) →
       i < length ds →
       (let x = declarator_of (get_or ds i d) in statements_of o1 ≡ joined (statements_of out)
-      (program.statement (program.set next (lowered_value ps ss x.value)) program.no_statements)) →
+      (program.statement (program.set next (lowered_value file ss x.value)) program.no_statements)) →
       s1 ≡ with_variable ss (declarator_of (get_or ds i d)).named.name next → n1 ≡ next + 1 → sets_left ss next out (drop i ds) ≡ goal →
       sets_left s1 n1 o1 (drop (i + 1) ds) ≡ goal
   sets_turn ds i d ss s1 next n1 out o1 goal less push scopes count left =
       let x = declarator_of (get_or ds i d) in
-      let one = program.statement (program.set next (lowered_value ps ss x.value)) program.no_statements in
+      let one = program.statement (program.set next (lowered_value file ss x.value)) program.no_statements in
       let rest = map declarator_of (drop (i + 1) ds) in
-      ap (λ o. joined o (lowered_declarators ps s1 n1 rest)) push
-      ∙ ap (λ u. joined (joined (statements_of out) one) (lowered_declarators ps u n1 rest)) scopes
-      ∙ ap (λ k. joined (joined (statements_of out) one) (lowered_declarators ps (with_variable ss x.named.name next) k rest)) count
-      ∙ joined-joined (statements_of out) one (lowered_declarators ps (with_variable ss x.named.name next) (next + 1) rest)
+      ap (λ o. joined o (lowered_declarators file s1 n1 rest)) push
+      ∙ ap (λ u. joined (joined (statements_of out) one) (lowered_declarators file u n1 rest)) scopes
+      ∙ ap (λ k. joined (joined (statements_of out) one) (lowered_declarators file (with_variable ss x.named.name next) k rest)) count
+      ∙ joined-joined (statements_of out) one (lowered_declarators file (with_variable ss x.named.name next) (next + 1) rest)
       ∙ sym (at_drop_more (sets_left ss next out) ds i d less) ∙ left
 
   pub sets_end : (ds : List Declared) (i : ℕ) (ss : List Scope) (next : ℕ) (out : List Stmt) (goal : Statements) → length ds ≤ i →

@@ -6,9 +6,9 @@ use Rattle.c_tree.specs.declared.syntax_tree.Named.{Named}
 use Rattle.c_tree.specs.declared.syntax_tree.Declared.{Declared}
 use Rattle.c_tree.specs.declared.syntax_tree.StmtTree.{StmtTree}
 use Rattle.c_typing.specs.declared.fault.TypeFault.TheVariants.{Duplicate}
-use Rattle.c_tree.specs.SourceTree.{Identifier, StatementTree, ProcedureTree, block, empty, declare, simple, if_then, if_else, while_loop, do_while, for_loop, break, continue, return}
+use Rattle.c_tree.specs.SourceTree.{Identifier, StatementTree, block, empty, declare, simple, if_then, if_else, while_loop, do_while, for_loop, break, continue, return}
 use Rattle.c_tree.specs.SourceView.{identifier_of, declarator_of, statement_tree_of, statement_trees_of}
-use Rattle.c_typing.specs.Scope.{Scope, with_variable, with_names, names_of, declared_by, declared_in, is_declared_here, is_built_in, asserts_of_optional, asserts_by_declarators, asserts_by, asserts_in}
+use Rattle.c_typing.specs.Scope.{FileScope, Scope, with_variable, with_names, names_of, declared_by, declared_in, is_declared_here, is_built_in, asserts_of_optional, asserts_by_declarators, asserts_by, asserts_in}
 use Rattle.c_typing.specs.Faults.{Fault, fault_if, optional_faults, declared_faults, declarators_faults, scopes_after, statement_faults, statements_faults, parameters_faults}
 use Rattle.c_typing.specs.steps.Tables.{Noted, noted, with_zeros, zeros_after, outer_of}
 use Rattle.c_typing.proofs.Erased.{erased, erased-variable, statements-same}
@@ -39,19 +39,19 @@ outer-after ss (break at) = refl
 outer-after ss (continue at) = refl
 outer-after ss (return at e) = refl
 
-erased-after : (ps : List ProcedureTree) (ss : List Scope) (s : StatementTree) → erased (scopes_after ps ss s) ≡ erased (zeros_after ss s)
-erased-after ps ss (declare ds) = sym (erased-zeros ss ss 0 (names_of ds) refl)
-erased-after ps ss (block a) = refl
-erased-after ps ss empty = refl
-erased-after ps ss (simple s) = refl
-erased-after ps ss (if_then e a) = refl
-erased-after ps ss (if_else e a c) = refl
-erased-after ps ss (while_loop e a) = refl
-erased-after ps ss (do_while a e) = refl
-erased-after ps ss (for_loop f t s a) = refl
-erased-after ps ss (break at) = refl
-erased-after ps ss (continue at) = refl
-erased-after ps ss (return at e) = refl
+erased-after : (file : FileScope) (ss : List Scope) (s : StatementTree) → erased (scopes_after file ss s) ≡ erased (zeros_after ss s)
+erased-after file ss (declare ds) = sym (erased-zeros ss ss 0 (names_of ds) refl)
+erased-after file ss (block a) = refl
+erased-after file ss empty = refl
+erased-after file ss (simple s) = refl
+erased-after file ss (if_then e a) = refl
+erased-after file ss (if_else e a c) = refl
+erased-after file ss (while_loop e a) = refl
+erased-after file ss (do_while a e) = refl
+erased-after file ss (for_loop f t s a) = refl
+erased-after file ss (break at) = refl
+erased-after file ss (continue at) = refl
+erased-after file ss (return at e) = refl
 
 -- the second part has no assertions
 pub noted_last : (n n1 n2 : Noted) (fs gs : List Fault) (ns ms : List Identifier) (places : List Pos) → n1 ≡ noted n fs ns places →
@@ -59,16 +59,17 @@ pub noted_last : (n n1 n2 : Noted) (fs gs : List Fault) (ns ms : List Identifier
 noted_last n n1 n2 fs gs ns ms places p q = noted_two n n1 n2 fs gs ns ms places [] p q ∙ ap (λ a. noted n (fs ++ gs) (ns ++ ms) a)
     (append-nil places)
 
-module _ (ps : List ProcedureTree) where
+module _ (file : FileScope) where
   abbrev pub declarators_left : List Scope → Noted → List Declared → Noted
-  declarators_left ss n ds = noted n (declarators_faults ps ss (map declarator_of ds)) (names_of (map declarator_of ds))
+  declarators_left ss n ds = noted n (declarators_faults file ss (map declarator_of ds)) (names_of (map declarator_of ds))
       (asserts_by_declarators (map declarator_of ds))
 
   abbrev pub zeros_left : List Scope → List Declared → List Scope
   zeros_left ss ds = with_zeros ss (names_of (map declarator_of ds))
 
   pub declarators_turn : (ds : List Declared) (i : ℕ) (d : Declared) (ss s1 : List Scope) (n n1 goal : Noted) → i < length ds →
-      (let x = declarator_of (get_or ds i d) in n1 ≡ noted n (optional_faults ps ss x.value ++ declared_faults ps ss x.named) (x.named ∷ [])
+      (let x = declarator_of (get_or ds i d) in n1 ≡ noted n (optional_faults file ss x.value ++ declared_faults file ss x.named)
+      (x.named ∷ [])
       (asserts_of_optional x.value)) →
       s1 ≡ with_variable ss (declarator_of (get_or ds i d)).named.name 0 → declarators_left ss n (drop i ds) ≡ goal →
       declarators_left s1 n1 (drop (i + 1) ds) ≡ goal
@@ -77,12 +78,12 @@ module _ (ps : List ProcedureTree) where
       let rest = map declarator_of (drop (i + 1) ds) in
       let s2 = with_variable ss x.named.name 0 in
       ap (λ m. declarators_left s1 m (drop (i + 1) ds)) step
-      ∙ ap (λ u. declarators_left u (noted n (optional_faults ps ss x.value ++ declared_faults ps ss x.named) (x.named ∷ [])
+      ∙ ap (λ u. declarators_left u (noted n (optional_faults file ss x.value ++ declared_faults file ss x.named) (x.named ∷ [])
       (asserts_of_optional x.value)) (drop (i + 1) ds)) scopes
-      ∙ noted-append n (optional_faults ps ss x.value ++ declared_faults ps ss x.named) (declarators_faults ps s2 rest) (x.named ∷ [])
+      ∙ noted-append n (optional_faults file ss x.value ++ declared_faults file ss x.named) (declarators_faults file s2 rest) (x.named ∷ [])
       (names_of rest) (asserts_of_optional x.value) (asserts_by_declarators rest)
       ∙ ap (λ f. noted n f (x.named ∷ names_of rest) (asserts_of_optional x.value ++ asserts_by_declarators rest))
-      (append_assoc (optional_faults ps ss x.value) (declared_faults ps ss x.named) (declarators_faults ps s2 rest))
+      (append_assoc (optional_faults file ss x.value) (declared_faults file ss x.named) (declarators_faults file s2 rest))
       ∙ sym (at_drop_more (declarators_left ss n) ds i d less) ∙ left
 
   pub declarators_end : (ds : List Declared) (i : ℕ) (ss : List Scope) (n goal : Noted) → length ds ≤ i → declarators_left ss n (drop i ds)
@@ -101,11 +102,11 @@ module _ (ps : List ProcedureTree) where
 
   module _ (void l : Bool) where
     abbrev pub statements_left : List Scope → Noted → List StmtTree → Noted
-    statements_left ss n as_ = noted n (statements_faults ps void l ss (statement_trees_of as_)) (declared_in (statement_trees_of as_))
+    statements_left ss n as_ = noted n (statements_faults file void l ss (statement_trees_of as_)) (declared_in (statement_trees_of as_))
         (asserts_in (statement_trees_of as_))
 
     pub statements_turn : (as_ : List StmtTree) (i : ℕ) (d : StmtTree) (ss s1 : List Scope) (n n1 goal : Noted) → i < length as_ →
-        (let x = statement_tree_of (get_or as_ i d) in n1 ≡ noted n (statement_faults ps void l ss x) (declared_by x) (asserts_by x)) →
+        (let x = statement_tree_of (get_or as_ i d) in n1 ≡ noted n (statement_faults file void l ss x) (declared_by x) (asserts_by x)) →
         s1 ≡ zeros_after ss (statement_tree_of (get_or as_ i d)) →
         statements_left ss n (drop i as_) ≡ goal → statements_left s1 n1 (drop (i + 1) as_) ≡ goal
     statements_turn as_ i d ss s1 n n1 goal less step scopes left =
@@ -113,11 +114,11 @@ module _ (ps : List ProcedureTree) where
         let rest = statement_trees_of (drop (i + 1) as_) in
         let s2 = zeros_after ss x in
         ap (λ m. statements_left s1 m (drop (i + 1) as_)) step
-        ∙ ap (λ u. statements_left u (noted n (statement_faults ps void l ss x) (declared_by x) (asserts_by x)) (drop (i + 1) as_)) scopes
-        ∙ noted-append n (statement_faults ps void l ss x) (statements_faults ps void l s2 rest) (declared_by x) (declared_in rest)
+        ∙ ap (λ u. statements_left u (noted n (statement_faults file void l ss x) (declared_by x) (asserts_by x)) (drop (i + 1) as_)) scopes
+        ∙ noted-append n (statement_faults file void l ss x) (statements_faults file void l s2 rest) (declared_by x) (declared_in rest)
         (asserts_by x) (asserts_in rest)
-        ∙ ap (λ f. noted n (statement_faults ps void l ss x ++ f) (declared_by x ++ declared_in rest) (asserts_by x ++ asserts_in rest))
-        (sym (statements-same ps void l (scopes_after ps ss x) s2 rest (erased-after ps ss x)))
+        ∙ ap (λ f. noted n (statement_faults file void l ss x ++ f) (declared_by x ++ declared_in rest) (asserts_by x ++ asserts_in rest))
+        (sym (statements-same file void l (scopes_after file ss x) s2 rest (erased-after file ss x)))
         ∙ sym (at_drop_more (statements_left ss n) as_ i d less) ∙ left
 
     pub statements_end : (as_ : List StmtTree) (i : ℕ) (ss : List Scope) (n goal : Noted) → length as_ ≤ i →

@@ -6,7 +6,7 @@ use Rattle.std.specs.Cmp.Lexicographic.{slice_cmp}
 use Rattle.std.specs.Ordering.{nat_cmp}
 use Rattle.c_tree.specs.declared.syntax_tree.ProcTree.{ProcTree}
 use Rattle.c_tree.specs.declared.syntax_tree.Item.{Item}
-use Rattle.c_tree.specs.declared.syntax_tree.Item.TheVariants.{Proto, Proc}
+use Rattle.c_tree.specs.declared.syntax_tree.Item.TheVariants.{Proto, Proc, Globals}
 use Rattle.c_tree.specs.SourceTree.{ProcedureTree}
 use Rattle.c_tree.specs.FileView.{procedure_tree_of}
 use Rattle.c_typing.specs.declared.table.Definition.{Definition}
@@ -74,6 +74,7 @@ proc_turn items i d p n n' o o' x c less at is next kept left =
 no_procedure : (t : Item) (rest : List Item) → ((p : ProcTree) → t ≡ Proc p → ⊥) → procedures_in (t ∷ rest) ≡ procedures_in rest
 no_procedure (Proto n) rest other = refl
 no_procedure (Proc p) rest other = absurd (other p refl)
+no_procedure (Globals gs) rest other = refl
 
 pub plain_turn : (items : List Item) (i : ℕ) (d : Item) (n n' : ℕ) (o o' : Option Definition) (x : List ℕ) (c : Callee) → i < length items →
     d ≡ get_or items i d → ((p : ProcTree) → d ≡ Proc p → ⊥) → n' ≡ n → o' ≡ o →

@@ -6,15 +6,16 @@ use Rattle.c_tree.specs.declared.tree.Pos.{Pos}
 use Rattle.c_tree.specs.declared.syntax_tree.Named.{Named}
 use Rattle.c_typing.specs.declared.fault.TypeFault.TheVariants.{UnknownName}
 use Rattle.c_tree.specs.declared.syntax_tree.Item.{Item}
-use Rattle.c_tree.specs.declared.syntax_tree.Item.TheVariants.{Proto, Proc}
+use Rattle.c_tree.specs.declared.syntax_tree.Item.TheVariants.{Proto, Proc, Globals}
 use Rattle.c_tree.specs.SourceTree.{Identifier, ProcedureTree}
 use Rattle.c_tree.specs.FileView.{item_of}
 use Rattle.c_typing.specs.declared.fault.Which.TheVariants.{Parameters, Variables, Tokens}
-use Rattle.c_typing.specs.Scope.{is_built_in, number_from, number_of, defined, defined_from, variables_of, parameter_scope, asserts_in, asserts_in_file}
+use Rattle.c_typing.specs.Scope.{FileScope, ScopedProcedure, is_built_in, number_from, number_of, defined, defined_from, variables_of, parameter_scope, asserts_in, asserts_in_file}
 use Rattle.c_typing.specs.Faults.{Fault, fault_if, limit_fault, place_of, parameters_faults, statements_faults, procedure_faults, procedures_faults, prototypes_faults}
 use Rattle.c_typing.specs.steps.Least.{least_from}
-use Rattle.c_typing.specs.steps.Tables.{Noted, noted, places_of, procedures_in, number_in, is_defined, is_again, heading_found, procedure_found, procedures_found}
+use Rattle.c_typing.specs.steps.Tables.{Noted, noted, places_of, procedures_in, scoped_in, number_in, is_defined, is_again, heading_found, procedure_found, procedures_found}
 use Rattle.c_typing.proofs.Known.{same-bytes}
+use Rattle.c_typing.proofs.Scoping.{trees, seen, item-trees, length-trees}
 use Rattle.c_typing.proofs.Least.{least-append, least-swap}
 use Rattle.c_typing.proofs.Noting.{noted-append, noted-nil}
 
@@ -46,16 +47,16 @@ defined-is i (p ∷ ps) x = go (bytes_eq p.named.name x) (defined-is (i + 1) ps 
     go false h = h
 
 -- the order in which a procedure's faults are found doesn't matter
-procedure-same : (all : List ProcedureTree) (earlier : List ProcedureTree) (p : ProcedureTree) (again : Bool) (best : Option Fault) →
+procedure-same : (file : FileScope) (earlier : List ProcedureTree) (p : ProcedureTree) (again : Bool) (best : Option Fault) →
     is_some (number_of earlier p.named.name) ≡ again →
-    least_from best (procedure_found all again p) ≡ least_from best (procedure_faults all earlier p)
-procedure-same all earlier p again best e =
+    least_from best (procedure_found file again p) ≡ least_from best (procedure_faults file earlier p)
+procedure-same file earlier p again best e =
     let h = heading_found again p in
     let a = parameters_faults ([] ∷ []) p.params in
     let b = limit_fault Parameters (place_of (slice_get p.params 8)) in
     let v = limit_fault Variables (place_of (slice_get (variables_of p) 24)) in
     let t = limit_fault Tokens p.past in
-    let s = statements_faults all p.void false (parameter_scope p) p.body in
+    let s = statements_faults file p.void false (parameter_scope p) p.body in
     least-append best h ((a ++ (b ++ s)) ++ (v ++ t))
     ∙ ap (λ r. least_from (least_from best h) r) (append_assoc a (b ++ s) (v ++ t)) ∙ least-append (least_from best h) a
     ((b ++ s) ++ (v ++ t))
@@ -70,19 +71,22 @@ procedure-same all earlier p again best e =
     ∙ ap (λ g. least_from best (heading_found g p ++ (a ++ (b ++ (v ++ (t ++ s)))))) (sym e)
 
 -- the faults of the procedures are found by their numbers
-pub procedures-same : (all earlier qs : List ProcedureTree) (number : ℕ) (best : Option Fault) → all ≡ earlier ++ qs →
-    number ≡ length earlier → least_from best (procedures_found all number qs) ≡ least_from best (procedures_faults all earlier qs)
+pub procedures-same : (all earlier : List ProcedureTree) (qs : List ScopedProcedure) (number : ℕ) (best : Option Fault) →
+    all ≡ earlier ++ trees qs → number ≡ length earlier →
+    least_from best (procedures_found all number qs) ≡ least_from best (procedures_faults all earlier qs)
 procedures-same all earlier [] number best e n = refl
-procedures-same all earlier (p ∷ ps) number best e n =
-    let again : is_some (number_of earlier p.named.name) ≡ is_again all number p = again-is 0 earlier p ps p.named.name
+procedures-same all earlier (q ∷ qs) number best e n =
+    let p = q.tree in
+    let again : is_some (number_of earlier p.named.name) ≡ is_again all number p = again-is 0 earlier p (trees qs) p.named.name
     (same-bytes p.named.name)
-    ∙ ap (λ k. nat_lt (number_in (defined_from 0 (earlier ++ p ∷ ps) p.named.name)) k) (omega arith)
+    ∙ ap (λ k. nat_lt (number_in (defined_from 0 (earlier ++ p ∷ trees qs) p.named.name)) k) (omega arith)
     ∙ ap (λ r. nat_lt (number_in (defined_from 0 r p.named.name)) number) (sym e) in
-    least-append best (procedure_found all (is_again all number p) p) (procedures_found all (number + 1) ps)
-    ∙ ap (λ b. least_from b (procedures_found all (number + 1) ps)) (procedure-same all earlier p (is_again all number p) best again)
-    ∙ procedures-same all (earlier ++ p ∷ []) ps (number + 1) (least_from best (procedure_faults all earlier p))
-    (e ∙ sym (append_assoc earlier (p ∷ []) ps)) (omega (arith, length-append earlier (p ∷ [])))
-    ∙ sym (least-append best (procedure_faults all earlier p) (procedures_faults all (earlier ++ p ∷ []) ps))
+    least-append best (procedure_found (seen all q) (is_again all number p) p) (procedures_found all (number + 1) qs)
+    ∙ ap (λ b. least_from b (procedures_found all (number + 1) qs)) (procedure-same (seen all q) earlier p (is_again all number p) best
+    again)
+    ∙ procedures-same all (earlier ++ p ∷ []) qs (number + 1) (least_from best (procedure_faults (seen all q) earlier p))
+    (e ∙ sym (append_assoc earlier (p ∷ []) (trees qs))) (omega (arith, length-append earlier (p ∷ [])))
+    ∙ sym (least-append best (procedure_faults (seen all q) earlier p) (procedures_faults all (earlier ++ p ∷ []) qs))
 
 pub places-get : (ns : List Identifier) (i : ℕ) → slice_get (places_of ns) i ≡ place_of (slice_get ns i)
 places-get [] i = refl
@@ -94,35 +98,35 @@ places-get (n ∷ ns) (suc i) = places-get ns i
 pub procedures_in-cons : (x : Item) (xs : List Item) → procedures_in (x ∷ xs) ≡ procedures_in (x ∷ []) ++ procedures_in xs
 procedures_in-cons (Proto n) xs = refl
 procedures_in-cons (Proc p) xs = refl
+procedures_in-cons (Globals gs) xs = refl
 
-found-append : (all : List ProcedureTree) (number : ℕ) (xs ys : List ProcedureTree) → procedures_found all number (xs ++ ys)
+found-append : (all : List ProcedureTree) (number : ℕ) (xs ys : List ScopedProcedure) → procedures_found all number (xs ++ ys)
     ≡ procedures_found all number xs ++ procedures_found all (number + length xs) ys
 found-append all number [] ys = ap (λ k. procedures_found all k ys) (omega arith)
-found-append all number (p ∷ xs) ys =
-    ap (λ r. procedure_found all (is_again all number p) p ++ r) (found-append all (number + 1) xs ys
+found-append all number (q ∷ xs) ys =
+    let here = procedure_found (seen all q) (is_again all number q.tree) q.tree in
+    ap (λ r. here ++ r) (found-append all (number + 1) xs ys
     ∙ ap (λ k. procedures_found all (number + 1) xs ++ procedures_found all k ys) (omega arith))
-    ∙ sym (append_assoc (procedure_found all (is_again all number p) p) (procedures_found all (number + 1) xs)
-    (procedures_found all (number + length (p ∷ xs)) ys))
+    ∙ sym (append_assoc here (procedures_found all (number + 1) xs) (procedures_found all (number + length (q ∷ xs)) ys))
 
 pub asserts_in_file-append : (xs ys : List ProcedureTree) → asserts_in_file (xs ++ ys) ≡ asserts_in_file xs ++ asserts_in_file ys
 asserts_in_file-append [] ys = refl
 asserts_in_file-append (p ∷ xs) ys = ap (λ r. asserts_in p.body ++ r) (asserts_in_file-append xs ys)
     ∙ sym (append_assoc (asserts_in p.body) (asserts_in_file xs) (asserts_in_file ys))
 
-pub items-best : (all : List ProcedureTree) (xs : List Item) (i : ℕ) (d : Item) (number after : ℕ) (best b1 goal : Option Fault) →
-    i < length xs → after ≡ number + length (procedures_in (get_or xs i d ∷ [])) →
-    b1 ≡ least_from best (procedures_found all number (procedures_in (get_or xs i d ∷ []))) →
-    least_from best (procedures_found all number (procedures_in (drop i xs))) ≡ goal →
-    least_from b1 (procedures_found all after (procedures_in (drop (i + 1) xs))) ≡ goal
-items-best all xs i d number after best b1 goal less next step left =
-    let one = procedures_in (get_or xs i d ∷ []) in
-    let rest = procedures_in (drop (i + 1) xs) in
-    ap (λ b. least_from b (procedures_found all after rest)) step ∙ ap (λ k. least_from (least_from best (procedures_found all number one))
-    (procedures_found all k rest)) next
-    ∙ sym (least-append best (procedures_found all number one) (procedures_found all (number + length one) rest)) ∙ ap (least_from best)
-    (sym (found-append all number one rest))
-    ∙ ap (λ r. least_from best (procedures_found all number r)) (sym (procedures_in-cons (get_or xs i d) (drop (i + 1) xs)))
-    ∙ sym (at_drop_more (λ r. least_from best (procedures_found all number (procedures_in r))) xs i d less) ∙ left
+-- one item's procedures and then the others
+pub items-best : (all : List ProcedureTree) (d : Item) (known : List (List ℕ)) (whole more : List ScopedProcedure) (number after : ℕ)
+    (best b1 goal : Option Fault) → whole ≡ scoped_in known (d ∷ []) ++ more → after ≡ number + length (procedures_in (d ∷ [])) →
+    b1 ≡ least_from best (procedures_found all number (scoped_in known (d ∷ []))) →
+    least_from best (procedures_found all number whole) ≡ goal → least_from b1 (procedures_found all after more) ≡ goal
+items-best all d known whole more number after best b1 goal parts next step left =
+    let one = scoped_in known (d ∷ []) in
+    let count : after ≡ number + length one = next ∙ ap (λ k. number + k) (ap (λ r. length r) (sym (item-trees known d)) ∙ length-trees one)
+    in
+    ap (λ b. least_from b (procedures_found all after more)) step ∙ ap (λ k. least_from (least_from best (procedures_found all number one))
+    (procedures_found all k more)) count
+    ∙ sym (least-append best (procedures_found all number one) (procedures_found all (number + length one) more)) ∙ ap (least_from best)
+    (sym (found-append all number one more)) ∙ ap (λ r. least_from best (procedures_found all number r)) (sym parts) ∙ left
 
 pub items-asserts : (xs : List Item) (i : ℕ) (d : Item) (places p1 goal : List Pos) → i < length xs → p1 ≡ places ++ asserts_in_file
     (procedures_in (get_or xs i d ∷ [])) →
@@ -143,6 +147,7 @@ module _ (ps : List ProcedureTree) where
       ++ prototypes_faults ps (map item_of xs)
   prototypes-cons (Proto n) xs = ap (λ r. r ++ prototypes_faults ps (map item_of xs)) (sym (append-nil _))
   prototypes-cons (Proc p) xs = refl
+  prototypes-cons (Globals gs) xs = refl
 
   pub prototypes_turn : (xs : List Item) (i : ℕ) (d : Item) (n n1 goal : Noted) → i < length xs →
       n1 ≡ noted n (prototypes_faults ps (item_of (get_or xs i d) ∷ [])) [] [] → prototypes_left n (drop i xs) ≡ goal →
@@ -160,6 +165,7 @@ module _ (ps : List ProcedureTree) where
 pub items-few : (x : Item) (number after i : ℕ) → after ≡ number + length (procedures_in (x ∷ [])) → number ≤ i → after ≤ i + 1
 items-few (Proto n) number after i next few = omega arith
 items-few (Proc p) number after i next few = omega arith
+items-few (Globals gs) number after i next few = omega arith
 
 pub prototype_said : (ps : List ProcedureTree) (n n1 : Noted) (t : Item) (named : Named) (x : List ℕ) (known : Bool) → t ≡ Proto named →
     x ≡ string_bytes named.name → known ≡ (is_built_in x || is_defined (defined_from 0 ps x)) →

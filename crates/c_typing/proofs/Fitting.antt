@@ -6,9 +6,9 @@ use Rattle.c_tree.specs.declared.syntax_tree.StmtTree.{StmtTree, Block, None', S
 use Rattle.c_tree.specs.declared.syntax_tree.StmtTree.TheVariants as code
 use Rattle.c_tree.specs.Syntax as program
 use Rattle.c_tree.specs.Syntax.{Expression, Statement, Statements}
-use Rattle.c_tree.specs.SourceTree.{Identifier, ExpressionTree, SimpleStatement, Declarator, ForInit, no_init, declaring, starting, StatementTree, block, empty, declare, simple, if_then, if_else, while_loop, do_while, for_loop, break, continue, return, ProcedureTree}
+use Rattle.c_tree.specs.SourceTree.{Identifier, ExpressionTree, SimpleStatement, Declarator, ForInit, no_init, declaring, starting, StatementTree, block, empty, declare, simple, if_then, if_else, while_loop, do_while, for_loop, break, continue, return}
 use Rattle.c_tree.specs.SourceView.{statement_tree_of, statement_trees_of}
-use Rattle.c_typing.specs.Scope.{Scope, with_variable, with_names, names_of, declared_by, declared_in, declared_by_init, asserts_of, asserts_of_optional, asserts_by_declarators, asserts_by_init, asserts_by_step, asserts_by, asserts_in}
+use Rattle.c_typing.specs.Scope.{FileScope, Scope, with_variable, with_names, names_of, declared_by, declared_in, declared_by_init, asserts_of, asserts_of_optional, asserts_by_declarators, asserts_by_init, asserts_by_step, asserts_by, asserts_in}
 use Rattle.c_typing.specs.Lowering.{joined, nothing, lowered, lowered_test, lowered_step, lowered_declarators, init_scopes, with_init, scopes_after, spliced, lowered_statement, lowered_statements}
 use Rattle.c_typing.specs.steps.LoweringSteps.{IsQuiet, AreQuiet, HasRoomFor, HasRoomForAll, IsLowered, IsPlaced, AreLowered, init_statements, wrapped}
 use Rattle.c_typing.specs.steps.Tables.{outer_of}
@@ -144,65 +144,68 @@ for_room n i f t s a h =
 pub left_end : (f : List StmtTree → ℕ) (as_ : List StmtTree) (k : ℕ) → length as_ ≤ k → f [] ≡ 0 → f (drop k as_) ≡ 0
 left_end f as_ k past e = at_drop_all f as_ k past ∙ e
 
-module _ (ps : List ProcedureTree) where
+module _ (file : FileScope) where
   pub placed_at : (ss s1 : List Scope) (n i n1 i1 : ℕ) (x : StmtTree) (as_ : List StmtTree) (k : ℕ) (old new : Statements) →
-      x ≡ get_or as_ k x → IsPlaced ps ss s1 n i n1 i1 (statement_tree_of x) old new → IsPlaced ps ss s1 n i n1 i1
+      x ≡ get_or as_ k x → IsPlaced file ss s1 n i n1 i1 (statement_tree_of x) old new → IsPlaced file ss s1 n i n1 i1
       (statement_tree_of (get_or as_ k x)) old new
-  placed_at ss s1 n i n1 i1 x as_ k old new e h = subst (λ (y : StmtTree). IsPlaced ps ss s1 n i n1 i1 (statement_tree_of y) old new) e h
+  placed_at ss s1 n i n1 i1 x as_ k old new e h = subst (λ (y : StmtTree). IsPlaced file ss s1 n i n1 i1 (statement_tree_of y) old new) e h
 
-  pub same_lowered : (ss s1 : List Scope) (n i n1 i1 : ℕ) (s t : StatementTree) (m : Statement) → s ≡ t → IsLowered ps ss s1 n i n1 i1 s m →
-      IsLowered ps ss s1 n i n1 i1 t m
-  same_lowered ss s1 n i n1 i1 s t m e h = subst (λ x. IsLowered ps ss s1 n i n1 i1 x m) e h
+  pub same_lowered : (ss s1 : List Scope) (n i n1 i1 : ℕ) (s t : StatementTree) (m : Statement) → s ≡ t → IsLowered file ss s1 n i n1 i1 s
+      m →
+      IsLowered file ss s1 n i n1 i1 t m
+  same_lowered ss s1 n i n1 i1 s t m e h = subst (λ x. IsLowered file ss s1 n i n1 i1 x m) e h
 
   pub block_lowered : (ss opened inner s1 : List Scope) (n i n1 i1 : ℕ) (as_ bs : List StmtTree) (made : Statements) (m : Statement) →
       opened ≡ [] ∷ ss → bs ≡ as_ → s1 ≡ outer_of inner → m ≡ program.block made →
-      AreLowered ps opened inner n i n1 i1 (statement_trees_of bs) made → IsLowered ps ss s1 n i n1 i1 (block (statement_trees_of as_)) m
+      AreLowered file opened inner n i n1 i1 (statement_trees_of bs) made → IsLowered file ss s1 n i n1 i1 (block (statement_trees_of as_))
+      m
   block_lowered ss opened inner s1 n i n1 i1 as_ bs made m opens same closes is h = record {
-    statement_is = is ∙ ap program.block (h.statements_are ∙ ap (λ u. lowered_statements ps u n i (statement_trees_of bs)) opens
-        ∙ ap (λ r. lowered_statements ps ([] ∷ ss) n i (statement_trees_of r)) same);
+    statement_is = is ∙ ap program.block (h.statements_are ∙ ap (λ u. lowered_statements file u n i (statement_trees_of bs)) opens
+        ∙ ap (λ r. lowered_statements file ([] ∷ ss) n i (statement_trees_of r)) same);
     next_is = h.next_is ∙ ap (λ r. n + length (declared_in (statement_trees_of r))) same;
     id_is = h.id_is ∙ ap (λ r. i + length (asserts_in (statement_trees_of r))) same;
     scopes = closes ∙ h.outer ∙ ap outer_of opens;
   }
 
   pub declare_lowered : (ss inner : List Scope) (n i n1 i1 : ℕ) (ds : List Declarator) (made : Statements) (m : Statement) → inner ≡ ss →
-      m ≡ program.block made → made ≡ lowered_declarators ps inner n ds → n1 ≡ n + length (names_of ds) → i1 ≡ i → asserts_by_declarators ds
+      m ≡ program.block made → made ≡ lowered_declarators file inner n ds → n1 ≡ n + length (names_of ds) → i1 ≡ i →
+      asserts_by_declarators ds
       ≡ [] →
-      IsLowered ps ss ss n i n1 i1 (declare ds) m
+      IsLowered file ss ss n i n1 i1 (declare ds) m
   declare_lowered ss inner n i n1 i1 ds made m copied is sets next id quiet = record {
-    statement_is = is ∙ ap program.block (sets ∙ ap (λ u. lowered_declarators ps u n ds) copied);
+    statement_is = is ∙ ap program.block (sets ∙ ap (λ u. lowered_declarators file u n ds) copied);
     next_is = next;
     id_is = let none : length (asserts_by_declarators ds) ≡ 0 = ap (λ r. length r) quiet in omega arith;
     scopes = refl;
   }
 
   pub if_then_lowered : (ss s1 : List Scope) (n i n1 i1 : ℕ) (e : ExpressionTree) (a b : StmtTree) (x : Expression) (y o m : Statement) →
-      b ≡ a → asserts_of e ≡ [] → x ≡ lowered ps ss e → o ≡ nothing → m ≡ program.if_else x y o →
-      IsLowered ps ss s1 n i n1 i1 (statement_tree_of b) y → IsLowered ps ss s1 n i n1 i1 (if_then e (statement_tree_of a)) m
+      b ≡ a → asserts_of e ≡ [] → x ≡ lowered file ss e → o ≡ nothing → m ≡ program.if_else x y o →
+      IsLowered file ss s1 n i n1 i1 (statement_tree_of b) y → IsLowered file ss s1 n i n1 i1 (if_then e (statement_tree_of a)) m
   if_then_lowered ss s1 n i n1 i1 e a b x y o m same quiet test bare is h =
       let g = same_lowered ss s1 n i n1 i1 (statement_tree_of b) (statement_tree_of a) y (ap statement_tree_of same) h in
       record {
-        statement_is = is ∙ ap (λ v. program.if_else v y o) test ∙ ap (λ v. program.if_else (lowered ps ss e) v o) g.statement_is
-            ∙ ap (program.if_else (lowered ps ss e) (lowered_statement ps ss n i (statement_tree_of a))) bare;
+        statement_is = is ∙ ap (λ v. program.if_else v y o) test ∙ ap (λ v. program.if_else (lowered file ss e) v o) g.statement_is
+            ∙ ap (program.if_else (lowered file ss e) (lowered_statement file ss n i (statement_tree_of a))) bare;
         next_is = g.next_is;
         id_is = g.id_is ∙ ap (λ k. i + k) (sym (none 0 e (statement_tree_of a) quiet));
         scopes = g.scopes;
       }
 
   pub if_else_lowered : (ss s1 s2 : List Scope) (n i n1 i1 n2 i2 : ℕ) (e : ExpressionTree) (a b c d : StmtTree) (x : Expression)
-      (y z m : Statement) → b ≡ a → d ≡ c → asserts_of e ≡ [] → x ≡ lowered ps ss e → m ≡ program.if_else x y z →
-      IsLowered ps ss s1 n i n1 i1 (statement_tree_of b) y → IsLowered ps s1 s2 n1 i1 n2 i2 (statement_tree_of d) z →
-      IsLowered ps ss s2 n i n2 i2 (if_else e (statement_tree_of a) (statement_tree_of c)) m
+      (y z m : Statement) → b ≡ a → d ≡ c → asserts_of e ≡ [] → x ≡ lowered file ss e → m ≡ program.if_else x y z →
+      IsLowered file ss s1 n i n1 i1 (statement_tree_of b) y → IsLowered file s1 s2 n1 i1 n2 i2 (statement_tree_of d) z →
+      IsLowered file ss s2 n i n2 i2 (if_else e (statement_tree_of a) (statement_tree_of c)) m
   if_else_lowered ss s1 s2 n i n1 i1 n2 i2 e a b c d x y z m same other quiet test is h k =
       let s = statement_tree_of a in
       let t = statement_tree_of c in
       let g = same_lowered ss s1 n i n1 i1 (statement_tree_of b) s y (ap statement_tree_of same) h in
       let w = same_lowered s1 s2 n1 i1 n2 i2 (statement_tree_of d) t z (ap statement_tree_of other) k in
       record {
-        statement_is = is ∙ ap (λ v. program.if_else v y z) test ∙ ap (λ v. program.if_else (lowered ps ss e) v z) g.statement_is
-            ∙ ap (program.if_else (lowered ps ss e) (lowered_statement ps ss n i s))
-            (w.statement_is ∙ ap (λ u. lowered_statement ps u n1 i1 t) g.scopes ∙ ap (λ v. lowered_statement ps ss v i1 t) g.next_is
-            ∙ ap (λ v. lowered_statement ps ss (n + length (declared_by s)) v t) g.id_is);
+        statement_is = is ∙ ap (λ v. program.if_else v y z) test ∙ ap (λ v. program.if_else (lowered file ss e) v z) g.statement_is
+            ∙ ap (program.if_else (lowered file ss e) (lowered_statement file ss n i s))
+            (w.statement_is ∙ ap (λ u. lowered_statement file u n1 i1 t) g.scopes ∙ ap (λ v. lowered_statement file ss v i1 t) g.next_is
+            ∙ ap (λ v. lowered_statement file ss (n + length (declared_by s)) v t) g.id_is);
         next_is = let p = g.next_is in let q = w.next_is in omega (arith, length-append (declared_by s) (declared_by t));
         id_is = let p = g.id_is in let q = w.id_is in let none : length (asserts_of e) ≡ 0 = ap (λ r. length r) quiet in
             omega (arith, length-append (asserts_of e) (asserts_by s ++ asserts_by t), length-append (asserts_by s) (asserts_by t));
@@ -210,64 +213,64 @@ module _ (ps : List ProcedureTree) where
       }
 
   pub while_lowered : (ss s1 : List Scope) (n i n1 i1 : ℕ) (e : ExpressionTree) (a b : StmtTree) (x : Expression) (y o m : Statement) →
-      b ≡ a → asserts_of e ≡ [] → x ≡ lowered ps ss e → o ≡ nothing → m ≡ program.loop x o y →
-      IsLowered ps ss s1 n i n1 i1 (statement_tree_of b) y → IsLowered ps ss s1 n i n1 i1 (while_loop e (statement_tree_of a)) m
+      b ≡ a → asserts_of e ≡ [] → x ≡ lowered file ss e → o ≡ nothing → m ≡ program.loop x o y →
+      IsLowered file ss s1 n i n1 i1 (statement_tree_of b) y → IsLowered file ss s1 n i n1 i1 (while_loop e (statement_tree_of a)) m
   while_lowered ss s1 n i n1 i1 e a b x y o m same quiet test bare is h =
       let g = same_lowered ss s1 n i n1 i1 (statement_tree_of b) (statement_tree_of a) y (ap statement_tree_of same) h in
       record {
-        statement_is = is ∙ ap (λ v. program.loop v o y) test ∙ ap (λ v. program.loop (lowered ps ss e) v y) bare
-            ∙ ap (program.loop (lowered ps ss e) nothing) g.statement_is;
+        statement_is = is ∙ ap (λ v. program.loop v o y) test ∙ ap (λ v. program.loop (lowered file ss e) v y) bare
+            ∙ ap (program.loop (lowered file ss e) nothing) g.statement_is;
         next_is = g.next_is;
         id_is = g.id_is ∙ ap (λ k. i + k) (sym (none 0 e (statement_tree_of a) quiet));
         scopes = g.scopes;
       }
 
   pub do_while_lowered : (ss s1 : List Scope) (n i n1 i1 : ℕ) (e : ExpressionTree) (a b : StmtTree) (x : Expression) (y m : Statement) →
-      b ≡ a → asserts_of e ≡ [] → x ≡ lowered ps s1 e → m ≡ program.do_while y x →
-      IsLowered ps ss s1 n i n1 i1 (statement_tree_of b) y → IsLowered ps ss s1 n i n1 i1 (do_while (statement_tree_of a) e) m
+      b ≡ a → asserts_of e ≡ [] → x ≡ lowered file s1 e → m ≡ program.do_while y x →
+      IsLowered file ss s1 n i n1 i1 (statement_tree_of b) y → IsLowered file ss s1 n i n1 i1 (do_while (statement_tree_of a) e) m
   do_while_lowered ss s1 n i n1 i1 e a b x y m same quiet test is h =
       let s = statement_tree_of a in
       let g = same_lowered ss s1 n i n1 i1 (statement_tree_of b) s y (ap statement_tree_of same) h in
       record {
-        statement_is = is ∙ ap (λ v. program.do_while v x) g.statement_is ∙ ap (program.do_while (lowered_statement ps ss n i s))
-            (test ∙ ap (λ u. lowered ps u e) g.scopes);
+        statement_is = is ∙ ap (λ v. program.do_while v x) g.statement_is ∙ ap (program.do_while (lowered_statement file ss n i s))
+            (test ∙ ap (λ u. lowered file u e) g.scopes);
         next_is = g.next_is;
         id_is = let p = g.id_is in let none : length (asserts_of e) ≡ 0 = ap (λ r. length r) quiet in
             omega (arith, length-append (asserts_by s) (asserts_of e));
         scopes = g.scopes;
       }
 
-  wrapped-is : (ss : List Scope) (n i : ℕ) (f : ForInit) (whole : Statement) → wrapped f (init_statements ps ([] ∷ ss) n i f) whole
-      ≡ with_init ps ss n i f whole
+  wrapped-is : (ss : List Scope) (n i : ℕ) (f : ForInit) (whole : Statement) → wrapped f (init_statements file ([] ∷ ss) n i f) whole
+      ≡ with_init file ss n i f whole
   wrapped-is ss n i no_init whole = refl
   wrapped-is ss n i (declaring ds) whole = refl
   wrapped-is ss n i (starting s) whole = refl
 
-  outer-names : (ss : List Scope) (n : ℕ) (f : ForInit) → outer_of (init_scopes ps ss n f) ≡ ss
+  outer-names : (ss : List Scope) (n : ℕ) (f : ForInit) → outer_of (init_scopes file ss n f) ≡ ss
   outer-names ss n f = outer-with_names ([] ∷ ss) n (declared_by_init f)
 
   pub for_lowered : (ss head inner s1 : List Scope) (n i n1 i1 n2 i2 : ℕ) (f : ForInit) (t : Option ExpressionTree)
       (s : Option SimpleStatement) (a b : StmtTree) (before : Statements) (x : Expression) (y z w m : Statement) → b ≡ a →
       asserts_of_optional t ≡ [] →
-      head ≡ init_scopes ps ss n f → before ≡ init_statements ps ([] ∷ ss) n i f → x ≡ lowered_test ps (init_scopes ps ss n f) t →
-      y ≡ lowered_step ps (init_scopes ps ss n f) (i + length (asserts_by_init f)) s →
-      n1 ≡ n + length (declared_by_init f) → i1 ≡ i + length (asserts_by_init f) + length (asserts_by_step s) → IsLowered ps head inner n1
+      head ≡ init_scopes file ss n f → before ≡ init_statements file ([] ∷ ss) n i f → x ≡ lowered_test file (init_scopes file ss n f) t →
+      y ≡ lowered_step file (init_scopes file ss n f) (i + length (asserts_by_init f)) s →
+      n1 ≡ n + length (declared_by_init f) → i1 ≡ i + length (asserts_by_init f) + length (asserts_by_step s) → IsLowered file head inner n1
       i1 n2 i2 (statement_tree_of b) z → s1 ≡ outer_of inner → w ≡ program.loop x y z → m ≡ wrapped f before w →
-      IsLowered ps ss s1 n i n2 i2 (for_loop f t s (statement_tree_of a)) m
+      IsLowered file ss s1 n i n2 i2 (for_loop f t s (statement_tree_of a)) m
   for_lowered ss head inner s1 n i n1 i1 n2 i2 f t s a b before x y z w m same quiet at sets test step next id h closes loop is =
       let body = statement_tree_of a in
-      let scope = init_scopes ps ss n f in
+      let scope = init_scopes file ss n f in
       let g = same_lowered head inner n1 i1 n2 i2 (statement_tree_of b) body z (ap statement_tree_of same) h in
       let id_body = i + length (asserts_by_init f) + length (asserts_by_step s) in
-      let inside : z ≡ lowered_statement ps scope (n + length (declared_by_init f)) id_body body =
-      g.statement_is ∙ ap (λ u. lowered_statement ps u n1 i1 body) at ∙ ap (λ v. lowered_statement ps scope v i1 body) next
-      ∙ ap (λ v. lowered_statement ps scope (n + length (declared_by_init f)) v body) id in
-      let whole = program.loop (lowered_test ps scope t) (lowered_step ps scope (i + length (asserts_by_init f)) s)
-      (lowered_statement ps scope (n + length (declared_by_init f)) id_body body) in
+      let inside : z ≡ lowered_statement file scope (n + length (declared_by_init f)) id_body body =
+      g.statement_is ∙ ap (λ u. lowered_statement file u n1 i1 body) at ∙ ap (λ v. lowered_statement file scope v i1 body) next
+      ∙ ap (λ v. lowered_statement file scope (n + length (declared_by_init f)) v body) id in
+      let whole = program.loop (lowered_test file scope t) (lowered_step file scope (i + length (asserts_by_init f)) s)
+      (lowered_statement file scope (n + length (declared_by_init f)) id_body body) in
       record {
-        statement_is = is ∙ ap (λ v. wrapped f v w) sets ∙ ap (wrapped f (init_statements ps ([] ∷ ss) n i f))
-            (loop ∙ ap (λ v. program.loop v y z) test ∙ ap (λ v. program.loop (lowered_test ps scope t) v z) step
-            ∙ ap (program.loop (lowered_test ps scope t) (lowered_step ps scope (i + length (asserts_by_init f)) s)) inside)
+        statement_is = is ∙ ap (λ v. wrapped f v w) sets ∙ ap (wrapped f (init_statements file ([] ∷ ss) n i f))
+            (loop ∙ ap (λ v. program.loop v y z) test ∙ ap (λ v. program.loop (lowered_test file scope t) v z) step
+            ∙ ap (program.loop (lowered_test file scope t) (lowered_step file scope (i + length (asserts_by_init f)) s)) inside)
             ∙ wrapped-is ss n i f whole;
         next_is = let p = g.next_is in omega (arith, length-append (declared_by_init f) (declared_by body));
         id_is =
@@ -284,7 +287,7 @@ module _ (ps : List ProcedureTree) where
 
   -- a block's statements, one after another
   abbrev pub lowered_left : List Scope → (n i : ℕ) → Statements → List StmtTree → Statements
-  lowered_left ss n i out as_ = joined out (lowered_statements ps ss n i (statement_trees_of as_))
+  lowered_left ss n i out as_ = joined out (lowered_statements file ss n i (statement_trees_of as_))
 
   abbrev pub declared_left : List StmtTree → ℕ
   declared_left as_ = length (declared_in (statement_trees_of as_))
@@ -293,18 +296,18 @@ module _ (ps : List ProcedureTree) where
   asserts_left as_ = length (asserts_in (statement_trees_of as_))
 
   pub lowered_turn : (as_ : List StmtTree) (k : ℕ) (d : StmtTree) (ss s1 : List Scope) (n i n1 i1 : ℕ) (out o1 goal : Statements) →
-      k < length as_ → IsPlaced ps ss s1 n i n1 i1 (statement_tree_of (get_or as_ k d)) out o1 → lowered_left ss n i out (drop k as_)
+      k < length as_ → IsPlaced file ss s1 n i n1 i1 (statement_tree_of (get_or as_ k d)) out o1 → lowered_left ss n i out (drop k as_)
       ≡ goal →
       lowered_left s1 n1 i1 o1 (drop (k + 1) as_) ≡ goal
   lowered_turn as_ k d ss s1 n i n1 i1 out o1 goal less h left =
       let s = statement_tree_of (get_or as_ k d) in
       let rest = statement_trees_of (drop (k + 1) as_) in
-      let here = spliced ps ss n s (lowered_statement ps ss n i s) in
-      ap (λ o. joined o (lowered_statements ps s1 n1 i1 rest)) h.statements_are
-      ∙ ap (λ u. joined (joined out here) (lowered_statements ps u n1 i1 rest)) h.scopes
-      ∙ ap (λ v. joined (joined out here) (lowered_statements ps (scopes_after ps ss n s) v i1 rest)) h.next_is
-      ∙ ap (λ v. joined (joined out here) (lowered_statements ps (scopes_after ps ss n s) (n + length (declared_by s)) v rest)) h.id_is
-      ∙ joined-joined out here (lowered_statements ps (scopes_after ps ss n s) (n + length (declared_by s)) (i + length (asserts_by s))
+      let here = spliced file ss n s (lowered_statement file ss n i s) in
+      ap (λ o. joined o (lowered_statements file s1 n1 i1 rest)) h.statements_are
+      ∙ ap (λ u. joined (joined out here) (lowered_statements file u n1 i1 rest)) h.scopes
+      ∙ ap (λ v. joined (joined out here) (lowered_statements file (scopes_after file ss n s) v i1 rest)) h.next_is
+      ∙ ap (λ v. joined (joined out here) (lowered_statements file (scopes_after file ss n s) (n + length (declared_by s)) v rest)) h.id_is
+      ∙ joined-joined out here (lowered_statements file (scopes_after file ss n s) (n + length (declared_by s)) (i + length (asserts_by s))
       rest)
       ∙ sym (at_drop_more (lowered_left ss n i out) as_ k d less) ∙ left
 
@@ -326,7 +329,7 @@ module _ (ps : List ProcedureTree) where
       IsQuiet (statement_tree_of (get_or as_ k d)) × AreQuiet (statement_trees_of (drop (k + 1) as_))
   quiet_turn as_ k d less h = subst (λ r. AreQuiet r) (at_drop_more statement_trees_of as_ k d less) h
 
-  pub outer-after : (ss : List Scope) (n : ℕ) (s : StatementTree) → outer_of (scopes_after ps ss n s) ≡ outer_of ss
+  pub outer-after : (ss : List Scope) (n : ℕ) (s : StatementTree) → outer_of (scopes_after file ss n s) ≡ outer_of ss
   outer-after ss n (declare ds) = outer-with_names ss n (names_of ds)
   outer-after ss n (block a) = refl
   outer-after ss n empty = refl
@@ -345,17 +348,18 @@ module _ (ps : List ProcedureTree) where
   IsPlain _ = Unit {0}
 
   pub plain_placed : (ss s1 : List Scope) (n i n1 i1 : ℕ) (s : StatementTree) (m : Statement) (old new : Statements) → IsPlain s →
-      new ≡ joined old (program.statement m program.no_statements) → IsLowered ps ss s1 n i n1 i1 s m → IsPlaced ps ss s1 n i n1 i1 s old
+      new ≡ joined old (program.statement m program.no_statements) → IsLowered file ss s1 n i n1 i1 s m → IsPlaced file ss s1 n i n1 i1 s
+      old
       new
   plain_placed ss s1 n i n1 i1 s m old new plain push h = record {
     statements_are = push ∙ ap (λ x. joined old (program.statement x program.no_statements)) h.statement_is ∙ ap (joined old)
-        (sym (alone s plain (lowered_statement ps ss n i s)));
+        (sym (alone s plain (lowered_statement file ss n i s)));
     next_is = h.next_is;
     id_is = h.id_is;
     scopes = h.scopes ∙ sym (still s plain);
   }
     where
-      alone : (s : StatementTree) → IsPlain s → (whole : Statement) → spliced ps ss n s whole ≡ program.statement whole
+      alone : (s : StatementTree) → IsPlain s → (whole : Statement) → spliced file ss n s whole ≡ program.statement whole
           program.no_statements
       alone (declare ds) h whole = absurd h
       alone (block a) h whole = refl
@@ -370,7 +374,7 @@ module _ (ps : List ProcedureTree) where
       alone (continue at) h whole = refl
       alone (return at e) h whole = refl
 
-      still : (s : StatementTree) → IsPlain s → scopes_after ps ss n s ≡ ss
+      still : (s : StatementTree) → IsPlain s → scopes_after file ss n s ≡ ss
       still (declare ds) h = absurd h
       still (block a) h = refl
       still empty h = refl

@@ -21,3 +21,9 @@ pub mod Building
 pub mod Fitting
 pub mod Quieting
 pub mod Programmed
+pub mod Numbered
+pub mod Sides
+pub mod Places
+pub mod Divided
+pub mod Scoping
+pub mod Globally

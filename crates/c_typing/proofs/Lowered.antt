@@ -7,7 +7,7 @@ use Rattle.c_tree.specs.Syntax.{Expression, Expressions, no_expressions, express
 use Rattle.c_tree.specs.View.{expression_of, expressions_of}
 use Rattle.c_tree.specs.SourceTree.{Identifier, ProcedureTree, call}
 use Rattle.c_tree.specs.SourceView.{tree_of, trees_of}
-use Rattle.c_typing.specs.Scope.{Scope, Callee, input, assume, assert, defined, callee_of, defined_from, is_input, is_assume, is_assert}
+use Rattle.c_typing.specs.Scope.{FileScope, Scope, Callee, input, assume, assert, defined, callee_of, defined_from, is_input, is_assume, is_assert}
 use Rattle.c_typing.specs.Lowering.{lowered, lowered_all, lowered_call}
 use Rattle.c_typing.specs.steps.Tables.{number_in}
 
@@ -46,15 +46,15 @@ chained-push : (es : List Expr) (e : Expr) (r : Expressions) → chained (expres
 chained-push [] e r = refl
 chained-push (x ∷ xs) e r = ap (expression (expression_of x)) (chained-push xs e r)
 
-module _ (ps : List ProcedureTree) (ss : List Scope) where
+module _ (file : FileScope) (ss : List Scope) where
   abbrev pub values_left : List Expr → List ExprTree → Expressions
-  values_left out es = chained (expressions_of out) (lowered_all ps ss (trees_of es))
+  values_left out es = chained (expressions_of out) (lowered_all file ss (trees_of es))
 
   pub values_turn : (es : List ExprTree) (i : ℕ) (d : ExprTree) (out o1 : List Expr) (e : Expr) (goal : Expressions) → i < length es →
-      o1 ≡ out ++ e ∷ [] → expression_of e ≡ lowered ps ss (tree_of (get_or es i d)) → values_left out (drop i es) ≡ goal →
+      o1 ≡ out ++ e ∷ [] → expression_of e ≡ lowered file ss (tree_of (get_or es i d)) → values_left out (drop i es) ≡ goal →
       values_left o1 (drop (i + 1) es) ≡ goal
   values_turn es i d out o1 e goal less push made left =
-      let rest = lowered_all ps ss (trees_of (drop (i + 1) es)) in
+      let rest = lowered_all file ss (trees_of (drop (i + 1) es)) in
       ap (λ o. chained (expressions_of o) rest) push ∙ chained-push out e rest ∙ ap (λ x. chained (expressions_of out) (expression x rest))
       made ∙ sym (at_drop_more (values_left out) es i d less) ∙ left
 
@@ -64,11 +64,12 @@ module _ (ps : List ProcedureTree) (ss : List Scope) where
   values_end es i out goal past left = sym (chained-nil (expressions_of out)) ∙ sym (at_drop_all (values_left out) es i past) ∙ left
 
   pub lowered_call_said : (e : Expression) (named : Identifier) (x : List ℕ) (c : Callee) (vs : Expressions) (r es : List ExprTree) →
-      r ≡ es → x ≡ named.name → c ≡ callee_of ps x → vs ≡ lowered_all ps ss (trees_of r) → e ≡ lowered_call c vs →
-      e ≡ lowered ps ss (call named (trees_of es))
+      r ≡ es → x ≡ named.name → c ≡ callee_of file.procedures x → vs ≡ lowered_all file ss (trees_of r) → e ≡ lowered_call c vs →
+      e ≡ lowered file ss (call named (trees_of es))
   lowered_call_said e named x c vs r es same text called values made =
-      made ∙ ap (λ k. lowered_call k vs) (called ∙ ap (callee_of ps) text) ∙ ap (lowered_call (callee_of ps named.name))
-      (values ∙ ap (λ u. lowered_all ps ss (trees_of u)) same)
+      made ∙ ap (λ k. lowered_call k vs) (called ∙ ap (callee_of file.procedures) text)
+      ∙ ap (lowered_call (callee_of file.procedures named.name))
+      (values ∙ ap (λ u. lowered_all file ss (trees_of u)) same)
 
 pub main_small : (ps : List ProcedureTree) (x : List ℕ) (n : ℕ) → length ps ≤ 64 → n ≡ number_in (defined_from 0 ps x) → n < 2 ^ 32
 main_small ps x n few e = let h = defined-small 0 ps x in omega arith

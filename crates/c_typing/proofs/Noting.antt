@@ -1,18 +1,21 @@
 -- What was found, one part of a tree after another.
-use Rattle.std.proofs.Common.{◌≡◌, ℕ, ◌+◌, ◌<◌, ◌≤◌, Bool, true, false, ◌&&◌, ◌||◌, not as not_bool, List, [], ◌∷◌, ◌++◌, length, drop, get_or, Option, refl, ap, sym, ◌∙◌, arith, append_assoc}
+use Rattle.std.proofs.Common.{◌≡◌, ℕ, ◌+◌, ◌<◌, ◌≤◌, Bool, ◌&&◌, ◌||◌, not as not_bool, List, [], ◌∷◌, ◌++◌, length, drop, get_or, Option, refl, ap, sym, ◌∙◌, arith, append_assoc}
 use Rattle.std.proofs.lemmas.List.{append-nil, at_drop_more, at_drop_all}
 use Rattle.c_tree.specs.declared.tree.Pos.{Pos}
 use Rattle.c_tree.specs.declared.syntax_tree.ExprTree.{ExprTree}
 use Rattle.c_tree.specs.declared.tree.Op.{Op}
-use Rattle.c_typing.specs.declared.fault.TypeFault.TheVariants.{NotLinear}
-use Rattle.c_tree.specs.Operators.{is_product}
-use Rattle.c_tree.specs.SourceTree.{Identifier, ProcedureTree, binary}
+use Rattle.c_typing.specs.declared.fault.TypeFault.TheVariants.{NotLinear, BadDivisor}
+use Rattle.c_tree.specs.Operators.{is_division, is_product}
+use Rattle.c_tree.specs.SourceTree.{Identifier, binary}
 use Rattle.c_tree.specs.SourceView.{tree_of, trees_of}
-use Rattle.c_typing.specs.Scope.{Scope, callee_of, if_assert, asserts_of, asserts_of_all}
-use Rattle.c_typing.specs.Faults.{Fault, fault_if, callee_faults, name_faults, is_constant, expression_faults, arguments_faults, argument_count}
+use Rattle.c_typing.specs.Scope.{FileScope, Scope, callee_of, if_assert, asserts_of, asserts_of_all}
+use Rattle.c_typing.specs.Faults.{Fault, fault_if, callee_faults, name_faults, is_constant, operator_faults, expression_faults, arguments_faults, argument_count}
 use Rattle.c_typing.specs.steps.Least.{least_from}
 use Rattle.c_typing.specs.steps.Tables.{Noted, noted, places_of}
 use Rattle.c_typing.proofs.Least.{least-append, least-swap}
+use Rattle.c_typing.specs.declared.check.side.Side.{Side}
+use Rattle.c_typing.specs.steps.Sides.{side_of, is_constant_side, is_divisor_side}
+use Rattle.c_typing.proofs.Sides.{constant_known, told_of_operator}
 
 places-append : (xs ys : List Identifier) → places_of (xs ++ ys) ≡ places_of xs ++ places_of ys
 places-append [] ys = refl
@@ -60,70 +63,74 @@ pub argument_count-trees_of : (es : List ExprTree) → argument_count (trees_of 
 argument_count-trees_of [] = refl
 argument_count-trees_of (e ∷ es) = ap (λ n. 1 + n) (argument_count-trees_of es) ∙ omega arith
 
-module _ (ps : List ProcedureTree) (ss : List Scope) where
+module _ (file : FileScope) (ss : List Scope) where
   -- what is left of a row of arguments
   abbrev pub arguments_left : Noted → List ExprTree → Noted
-  arguments_left n es = noted n (arguments_faults ps ss (trees_of es)) [] (asserts_of_all (trees_of es))
+  arguments_left n es = noted n (arguments_faults file ss (trees_of es)) [] (asserts_of_all (trees_of es))
 
   pub arguments_turn : (es : List ExprTree) (i : ℕ) (d : ExprTree) (n n1 goal : Noted) → i < length es →
-      n1 ≡ noted n (expression_faults ps ss (tree_of (get_or es i d))) [] (asserts_of (tree_of (get_or es i d))) →
+      n1 ≡ noted n (expression_faults file ss (tree_of (get_or es i d))) [] (asserts_of (tree_of (get_or es i d))) →
       arguments_left n (drop i es) ≡ goal → arguments_left n1 (drop (i + 1) es) ≡ goal
   arguments_turn es i d n n1 goal less step left =
       let e = tree_of (get_or es i d) in
       let rest = trees_of (drop (i + 1) es) in
-      ap (λ m. arguments_left m (drop (i + 1) es)) step ∙ noted-append n (expression_faults ps ss e) (arguments_faults ps ss rest) [] []
+      ap (λ m. arguments_left m (drop (i + 1) es)) step ∙ noted-append n (expression_faults file ss e) (arguments_faults file ss rest) [] []
       (asserts_of e) (asserts_of_all rest) ∙ sym (at_drop_more (arguments_left n) es i d less) ∙ left
 
   pub arguments_end : (es : List ExprTree) (i : ℕ) (n goal : Noted) → length es ≤ i → arguments_left n (drop i es) ≡ goal → n ≡ goal
   arguments_end es i n goal past left = sym (noted-nil n) ∙ sym (at_drop_all (arguments_left n) es i past) ∙ left
 
-pub binary_noted : (ps : List ProcedureTree) (ss : List Scope) (n n1 n2 n3 : Noted) (o : Op) (at : Pos) (x y x' y' : ExprTree)
-    (cx cy : Bool) →
+pub binary_noted : (file : FileScope) (ss : List Scope) (n n1 n2 n3 : Noted) (o : Op) (at : Pos) (x y x' y' : ExprTree)
+    (sx sy : Side) →
     x' ≡ x → y' ≡ y →
-    n1 ≡ noted n (expression_faults ps ss (tree_of x')) [] (asserts_of (tree_of x')) → n2 ≡ noted n1 (expression_faults ps ss (tree_of y'))
-    [] (asserts_of (tree_of y')) → cx ≡ is_constant (tree_of x') → cy ≡ is_constant (tree_of y') →
-    n3 ≡ noted n2 (fault_if (is_product o && not_bool (cx || cy)) NotLinear at) [] [] →
-    n3 ≡ noted n (expression_faults ps ss (binary o at (tree_of x) (tree_of y))) [] (asserts_of (tree_of x) ++ asserts_of (tree_of y))
-binary_noted ps ss n n1 n2 n3 o at x y x' y' cx cy ex ey h1 h2 hx hy h3 =
-    noted_product n n1 n2 n3 (expression_faults ps ss (tree_of x)) (expression_faults ps ss (tree_of y))
-    (fault_if (is_product o && not_bool (is_constant (tree_of x) || is_constant (tree_of y))) NotLinear at) (asserts_of (tree_of x))
+    n1 ≡ noted n (expression_faults file ss (tree_of x')) [] (asserts_of (tree_of x')) →
+    n2 ≡ noted n1 (expression_faults file ss (tree_of y'))
+    [] (asserts_of (tree_of y')) → sx ≡ side_of file ss (tree_of x') → sy ≡ side_of file ss (tree_of y') →
+    n3 ≡ noted n2 (fault_if (is_product o && not_bool (is_constant_side sx || is_constant_side sy)) NotLinear at
+    ++ fault_if (is_division o && not_bool (is_divisor_side sy)) BadDivisor at) [] [] →
+    n3 ≡ noted n (expression_faults file ss (binary o at (tree_of x) (tree_of y))) [] (asserts_of (tree_of x) ++ asserts_of (tree_of y))
+binary_noted file ss n n1 n2 n3 o at x y x' y' sx sy ex ey h1 h2 hx hy h3 =
+    let left = hx ∙ ap (λ e. side_of file ss (tree_of e)) ex in
+    let right = hy ∙ ap (λ e. side_of file ss (tree_of e)) ey in
+    let constant = ap (λ b. b || is_constant_side sy) (constant_known file ss (tree_of x) sx left)
+    ∙ ap (λ b. is_constant (tree_of x) || b) (constant_known file ss (tree_of y) sy right) in
+    noted_product n n1 n2 n3 (expression_faults file ss (tree_of x)) (expression_faults file ss (tree_of y))
+    (operator_faults file ss o at (is_constant (tree_of x) || is_constant (tree_of y)) (tree_of y)) (asserts_of (tree_of x))
     (asserts_of (tree_of y))
-    (h1 ∙ ap (λ e. noted n (expression_faults ps ss (tree_of e)) [] (asserts_of (tree_of e))) ex)
-    (h2 ∙ ap (λ e. noted n1 (expression_faults ps ss (tree_of e)) [] (asserts_of (tree_of e))) ey)
-    (h3 ∙ ap (λ b. noted n2 (fault_if (is_product o && not_bool (b || cy)) NotLinear at) [] []) (hx ∙ ap (λ e. is_constant (tree_of e)) ex)
-    ∙ ap (λ b. noted n2 (fault_if (is_product o && not_bool (is_constant (tree_of x) || b)) NotLinear at) [] [])
-    (hy ∙ ap (λ e. is_constant (tree_of e)) ey))
+    (h1 ∙ ap (λ e. noted n (expression_faults file ss (tree_of e)) [] (asserts_of (tree_of e))) ex)
+    (h2 ∙ ap (λ e. noted n1 (expression_faults file ss (tree_of e)) [] (asserts_of (tree_of e))) ey)
+    (h3 ∙ ap (λ f. noted n2 f [] []) (told_of_operator file ss o at (is_constant (tree_of x) || is_constant (tree_of y)) (tree_of y)
+    (is_constant_side sx || is_constant_side sy) sy constant right))
 
-pub call_noted : (ps : List ProcedureTree) (ss : List Scope) (n n1 n2 : Noted) (called : Identifier) (es es' : List ExprTree) (k : ℕ)
+pub call_noted : (file : FileScope) (ss : List Scope) (n n1 n2 : Noted) (called : Identifier) (es es' : List ExprTree) (k : ℕ)
     (used : Bool) → k ≡ length es → es' ≡ es →
-    n1 ≡ noted n (callee_faults (callee_of ps called.name) called k used) [] (if_assert called) →
-    n2 ≡ noted n1 (arguments_faults ps ss (trees_of es')) [] (asserts_of_all (trees_of es')) →
-    n2 ≡ noted n (callee_faults (callee_of ps called.name) called (argument_count (trees_of es)) used ++ arguments_faults ps ss
+    n1 ≡ noted n (callee_faults (callee_of file.procedures called.name) called k used) [] (if_assert called) →
+    n2 ≡ noted n1 (arguments_faults file ss (trees_of es')) [] (asserts_of_all (trees_of es')) →
+    n2 ≡ noted n (callee_faults (callee_of file.procedures called.name) called (argument_count (trees_of es)) used ++ arguments_faults file
+    ss
     (trees_of es))
     [] (if_assert called ++ asserts_of_all (trees_of es))
-call_noted ps ss n n1 n2 called es es' k used count same h1 h2 =
-    noted_two n n1 n2 (callee_faults (callee_of ps called.name) called (argument_count (trees_of es)) used)
-    (arguments_faults ps ss (trees_of es)) [] [] (if_assert called) (asserts_of_all (trees_of es))
-    (h1 ∙ ap (λ c. noted n (callee_faults (callee_of ps called.name) called c used) [] (if_assert called))
+call_noted file ss n n1 n2 called es es' k used count same h1 h2 =
+    noted_two n n1 n2 (callee_faults (callee_of file.procedures called.name) called (argument_count (trees_of es)) used)
+    (arguments_faults file ss (trees_of es)) [] [] (if_assert called) (asserts_of_all (trees_of es))
+    (h1 ∙ ap (λ c. noted n (callee_faults (callee_of file.procedures called.name) called c used) [] (if_assert called))
     (count ∙ sym (argument_count-trees_of es)))
-    (h2 ∙ ap (λ r. noted n1 (arguments_faults ps ss (trees_of r)) [] (asserts_of_all (trees_of r))) same)
+    (h2 ∙ ap (λ r. noted n1 (arguments_faults file ss (trees_of r)) [] (asserts_of_all (trees_of r))) same)
 
-or-same : (b : Bool) → (b || b) ≡ b
-or-same true = refl
-or-same false = refl
-
-pub change_noted : (ps : List ProcedureTree) (ss : List Scope) (n n1 n2 n3 : Noted) (o : Op) (at : Pos) (named : Identifier) (x : ExprTree)
-    (c : Bool) →
-    n1 ≡ noted n (name_faults ss named) [] [] → n2 ≡ noted n1 (expression_faults ps ss (tree_of x)) [] (asserts_of (tree_of x)) →
-    c ≡ is_constant (tree_of x) →
-    n3 ≡ noted n2 (fault_if (is_product o && not_bool (c || c)) NotLinear at) [] [] →
-    n3 ≡ noted n (name_faults ss named ++ (fault_if (is_product o && not_bool (is_constant (tree_of x))) NotLinear at ++ expression_faults
-    ps ss (tree_of x))) [] (asserts_of (tree_of x))
-change_noted ps ss n n1 n2 n3 o at named x c h1 h2 hc h3 =
-    let prod = fault_if (is_product o && not_bool (is_constant (tree_of x))) NotLinear at in
-    let ef = expression_faults ps ss (tree_of x) in
-    let last = h3 ∙ ap (λ b. noted n2 (fault_if (is_product o && not_bool b) NotLinear at) [] []) (or-same c ∙ hc) in
-    let both = noted_two n1 n2 n3 ef prod [] [] (asserts_of (tree_of x)) [] h2 last ∙ noted-swap n1 ef prod []
+pub change_noted : (file : FileScope) (ss : List Scope) (n n1 n2 n3 : Noted) (o : Op) (at : Pos) (named : Identifier) (x : ExprTree)
+    (s : Side) →
+    n1 ≡ noted n (name_faults file ss named) [] [] → n2 ≡ noted n1 (expression_faults file ss (tree_of x)) [] (asserts_of (tree_of x)) →
+    s ≡ side_of file ss (tree_of x) →
+    n3 ≡ noted n2 (fault_if (is_product o && not_bool (is_constant_side s)) NotLinear at
+    ++ fault_if (is_division o && not_bool (is_divisor_side s)) BadDivisor at) [] [] →
+    n3 ≡ noted n (name_faults file ss named ++ (operator_faults file ss o at (is_constant (tree_of x)) (tree_of x) ++ expression_faults
+    file ss (tree_of x))) [] (asserts_of (tree_of x))
+change_noted file ss n n1 n2 n3 o at named x s h1 h2 hs h3 =
+    let told = operator_faults file ss o at (is_constant (tree_of x)) (tree_of x) in
+    let ef = expression_faults file ss (tree_of x) in
+    let last = h3 ∙ ap (λ f. noted n2 f [] []) (told_of_operator file ss o at (is_constant (tree_of x)) (tree_of x) (is_constant_side s) s
+    (constant_known file ss (tree_of x) s hs) hs) in
+    let both = noted_two n1 n2 n3 ef told [] [] (asserts_of (tree_of x)) [] h2 last ∙ noted-swap n1 ef told []
     (asserts_of (tree_of x) ++ [])
-    ∙ ap (λ a. noted n1 (prod ++ ef) [] a) (append-nil (asserts_of (tree_of x))) in
-    noted_two n n1 n3 (name_faults ss named) (prod ++ ef) [] [] [] (asserts_of (tree_of x)) h1 both
+    ∙ ap (λ a. noted n1 (told ++ ef) [] a) (append-nil (asserts_of (tree_of x))) in
+    noted_two n n1 n3 (name_faults file ss named) (told ++ ef) [] [] [] (asserts_of (tree_of x)) h1 both

@@ -2,7 +2,7 @@
 use Rattle.std.proofs.Common.{◌≡◌, ℕ, ◌<◌, true, false, ◌==◌, ◌⊎◌, refl, ap, sym, ◌∙◌, arith, if◌then◌else◌}
 use Rattle.std.proofs.lemmas.Bool.Decides.{nat_tests}
 use Rattle.c_typing.specs.declared.fault.TypeFault.{TypeFault}
-use Rattle.c_typing.specs.declared.fault.TypeFault.TheVariants.{UnknownName, Duplicate, WrongCount, VoidValue, NotLinear, NoMain, MainShape, OutsideLoop, OverLimit}
+use Rattle.c_typing.specs.declared.fault.TypeFault.TheVariants.{UnknownName, Duplicate, WrongCount, VoidValue, NotLinear, NoMain, MainShape, OutsideLoop, OverLimit, BadDivisor}
 use Rattle.c_typing.specs.declared.fault.Which.TheVariants.{Procedures, Parameters, Variables, Tokens, Assertions}
 use Rattle.c_typing.specs.Faults.{Fault}
 use Rattle.c_typing.specs.Answer.{IsBefore, rank}
@@ -38,8 +38,8 @@ fault_by n =
     (if n == 7 then MainShape else
     (if n == 8 then OutsideLoop else
     (if n == 9 then OverLimit Procedures else
-    (if n == 10 then OverLimit Parameters else (if n == 11 then OverLimit Variables else (if n == 12 then OverLimit Tokens else OverLimit
-    Assertions)))))))))))
+    (if n == 10 then OverLimit Parameters else (if n == 11 then OverLimit Variables else (if n == 12 then OverLimit Tokens else
+    (if n == 13 then OverLimit Assertions else BadDivisor))))))))))))
 
 fault_by-rank : (f : TypeFault) → fault_by (rank f) ≡ f
 fault_by-rank UnknownName = refl
@@ -55,6 +55,7 @@ fault_by-rank (OverLimit Parameters) = refl
 fault_by-rank (OverLimit Variables) = refl
 fault_by-rank (OverLimit Tokens) = refl
 fault_by-rank (OverLimit Assertions) = refl
+fault_by-rank BadDivisor = refl
 
 rank-apart : (f g : TypeFault) → rank f ≡ rank g → f ≡ g
 rank-apart f g e = sym (fault_by-rank f) ∙ ap fault_by e ∙ fault_by-rank g

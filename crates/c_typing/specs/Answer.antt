@@ -6,7 +6,7 @@ use Rattle.c_tree.specs.Syntax.{PureProgram}
 use Rattle.c_tree.specs.Whole.{program_of}
 use Rattle.c_tree.specs.SourceTree.{FileItem}
 use Rattle.c_typing.specs.declared.fault.TypeFault.{TypeFault}
-use Rattle.c_typing.specs.declared.fault.TypeFault.TheVariants.{UnknownName, Duplicate, WrongCount, VoidValue, NotLinear, NoMain, MainShape, OutsideLoop, OverLimit}
+use Rattle.c_typing.specs.declared.fault.TypeFault.TheVariants.{UnknownName, Duplicate, WrongCount, VoidValue, NotLinear, NoMain, MainShape, OutsideLoop, OverLimit, BadDivisor}
 use Rattle.c_typing.specs.declared.fault.Which.{Which}
 use Rattle.c_typing.specs.declared.fault.Which.TheVariants.{Procedures, Parameters, Variables, Tokens, Assertions}
 use Rattle.c_typing.specs.declared.fault.TypeError.{TypeError}
@@ -33,6 +33,7 @@ rank NoMain = 6
 rank MainShape = 7
 rank OutsideLoop = 8
 rank (OverLimit w) = 9 + which_rank w
+rank BadDivisor = 14
 
 -- by line, then by column, then by the order of faults
 abbrev pub IsBefore : Fault → Fault → Type 0

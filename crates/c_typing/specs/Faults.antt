@@ -1,14 +1,19 @@
 -- All faults of a tree. They stand in any order; the one that is told is the first by position.
-use Rattle.std.specs.Prelude.{ℕ, ◌+◌, ◌==◌, Bool, true, false, ◌&&◌, ◌||◌, not as not_bool, List, [], ◌∷◌, ◌++◌, length, Option, Some, None, is_some, is_none, slice_get}
+use Rattle.std.specs.Prelude.{ℕ, ℤ, ◌+◌, ◌==◌, Bool, true, false, ◌&&◌, ◌||◌, not as not_bool, List, [], ◌∷◌, ◌++◌, length, Option, Some, None, is_some, is_none, slice_get}
 use Rattle.c_tree.specs.declared.tree.Pos.{Pos}
-use Rattle.c_tree.specs.Operators.{is_arithmetic, is_product}
-use Rattle.c_tree.specs.SourceTree.{Identifier, ExpressionTree, literal, name, call, not, negate, plus, binary, ExpressionTrees, no_arguments, argument, SimpleStatement, set, change, add_one, subtract_one, call_statement, Declarator, ForInit, no_init, declaring, starting, StatementTree, block, empty, declare, simple, if_then, if_else, while_loop, do_while, for_loop, break, continue, return, StatementTrees, no_statements, statement, ProcedureTree, FileItem, prototype, procedure}
-use Rattle.c_typing.specs.declared.fault.TheConstants.{MAX_PROCEDURES, MAX_PARAMETERS, MAX_VARIABLES, MAX_ASSERTIONS}
+use Rattle.c_tree.specs.declared.tree.Op.{Op}
+use Rattle.c_tree.specs.Constants.{constant_value}
+use Rattle.c_tree.specs.Operators.{is_arithmetic, is_division, is_product}
+use Rattle.c_tree.specs.Syntax as program
+use Rattle.c_tree.specs.WellFormed.{is_divisor}
+use Rattle.c_tree.specs.SourceTree.{Identifier, ExpressionTree, literal, name, call, not, negate, plus, binary, ExpressionTrees, no_arguments, argument, SimpleStatement, set, change, add_one, subtract_one, call_statement, Declarator, ForInit, no_init, declaring, starting, StatementTree, block, empty, declare, simple, if_then, if_else, while_loop, do_while, for_loop, break, continue, return, StatementTrees, no_statements, statement, ProcedureTree, Global, FileItem, prototype, procedure, globals}
+use Rattle.c_typing.specs.declared.fault.TheConstants.{MAX_PROCEDURES, MAX_PARAMETERS, MAX_VARIABLES, MAX_GLOBALS, MAX_ASSERTIONS}
 use Rattle.c_typing.specs.declared.fault.TypeFault.{TypeFault}
-use Rattle.c_typing.specs.declared.fault.TypeFault.TheVariants.{UnknownName, Duplicate, WrongCount, VoidValue, NotLinear, MainShape, OutsideLoop, OverLimit}
+use Rattle.c_typing.specs.declared.fault.TypeFault.TheVariants.{UnknownName, Duplicate, WrongCount, VoidValue, NotLinear, MainShape, OutsideLoop, OverLimit, BadDivisor}
 use Rattle.c_typing.specs.declared.fault.Which.{Which}
 use Rattle.c_typing.specs.declared.fault.Which.TheVariants.{Procedures, Parameters, Variables, Tokens, Assertions}
-use Rattle.c_typing.specs.Scope.{is_built_in, is_main, procedures_of, number_of, Callee, input, assume, assert, defined, unknown, callee_of, Scope, slot_of, with_variable, with_names, names_of, is_declared_here, parameter_scope, declared_by_init, variables_of, asserts_in_file}
+use Rattle.c_typing.specs.Scope.{is_built_in, is_main, procedures_of, number_of, globals_of, global_of, FileScope, ScopedProcedure, scoped_procedures, Callee, input, assume, assert, defined, unknown, callee_of, Scope, slot_of, with_variable, with_names, names_of, is_declared_here, parameter_scope, declared_by_init, variables_of, asserts_in_file}
+use Rattle.c_typing.specs.Lowering.{lowered}
 
 pub record Fault : Type 0 where
   pub fault : TypeFault
@@ -46,22 +51,41 @@ callee_faults (defined number params void) n count used =
     ++ (fault_if (used && void) VoidValue n.at ++ fault_if (is_main n.name) MainShape n.at)
 callee_faults unknown n count used = fault_if true UnknownName n.at
 
--- a variable that isn't in scope
-abbrev pub name_faults : List Scope → Identifier → List Fault
-name_faults scopes n = fault_if (is_none (slot_of scopes n.name)) UnknownName n.at
+-- a divisor: a value (without one the run would stop) that isn't 0, and at most 2^40 in magnitude
+abbrev pub may_divide : Option ℤ → Bool
+may_divide None = false
+may_divide (Some n) = is_divisor (program.literal n)
 
-module _ (ps : List ProcedureTree) where
+module _ (file : FileScope) where
+  -- a variable that isn't in scope
+  abbrev pub name_faults : List Scope → Identifier → List Fault
+  name_faults scopes n = fault_if
+      (is_none (slot_of scopes n.name) && is_none (global_of file.globals n.name)) UnknownName n.at
+
+  -- the side of a division is constant, and what it becomes has a value that may divide
+  abbrev pub has_divisor : List Scope → ExpressionTree → Bool
+  has_divisor scopes e = is_constant e && may_divide (constant_value (lowered file scopes e))
+
+  -- an operator, one of whose sides is constant or none, with this right side
+  abbrev pub operator_faults : List Scope → Op → Pos → (constant : Bool) →
+      (right : ExpressionTree) →
+      List Fault
+  operator_faults scopes o at constant right =
+      fault_if (is_product o && not_bool constant) NotLinear at
+      ++ fault_if (is_division o && not_bool (has_divisor scopes right)) BadDivisor at
+
   abbrev mutual
     pub expression_faults : List Scope → ExpressionTree → List Fault
     expression_faults scopes (literal n) = []
     expression_faults scopes (name n) = name_faults scopes n
-    expression_faults scopes (call n es) = callee_faults (callee_of ps n.name) n (argument_count es)
+    expression_faults scopes (call n es) = callee_faults (callee_of file.procedures n.name) n
+        (argument_count es)
         true ++ arguments_faults scopes es
     expression_faults scopes (not e) = expression_faults scopes e
     expression_faults scopes (negate e) = expression_faults scopes e
     expression_faults scopes (plus e) = expression_faults scopes e
     expression_faults scopes (binary o at a b) =
-        fault_if (is_product o && not_bool (is_constant a || is_constant b)) NotLinear at
+        operator_faults scopes o at (is_constant a || is_constant b) b
         ++ (expression_faults scopes a ++ expression_faults scopes b)
 
     pub arguments_faults : List Scope → ExpressionTrees → List Fault
@@ -78,11 +102,11 @@ module _ (ps : List ProcedureTree) where
   abbrev pub simple_faults : List Scope → SimpleStatement → List Fault
   simple_faults scopes (set n e) = name_faults scopes n ++ expression_faults scopes e
   simple_faults scopes (change o at n e) =
-      name_faults scopes n ++ (fault_if (is_product o && not_bool (is_constant e)) NotLinear at
-      ++ expression_faults scopes e)
+      name_faults scopes n
+      ++ (operator_faults scopes o at (is_constant e) e ++ expression_faults scopes e)
   simple_faults scopes (add_one n) = name_faults scopes n
   simple_faults scopes (subtract_one n) = name_faults scopes n
-  simple_faults scopes (call_statement n es) = callee_faults (callee_of ps n.name) n
+  simple_faults scopes (call_statement n es) = callee_faults (callee_of file.procedures n.name) n
       (argument_count es) false ++ arguments_faults scopes es
 
   abbrev pub step_faults : List Scope → Option SimpleStatement → List Fault
@@ -174,19 +198,32 @@ heading_faults earlier p =
     ++ fault_if (is_main p.named.name && (p.void || not_bool (length p.params == 0))) MainShape
     p.named.at
 
-abbrev pub procedure_faults : (all earlier : List ProcedureTree) → ProcedureTree → List Fault
-procedure_faults all earlier p =
+abbrev pub procedure_faults : FileScope → (earlier : List ProcedureTree) → ProcedureTree →
+    List Fault
+procedure_faults file earlier p =
     heading_faults earlier p
     ++ (parameters_faults ([] ∷ []) p.params
     ++ (limit_fault Parameters (place_of (slice_get p.params MAX_PARAMETERS))
     ++ (limit_fault Variables (place_of (slice_get (variables_of p) MAX_VARIABLES))
     ++ (limit_fault Tokens p.past
-    ++ statements_faults all p.void false (parameter_scope p) p.body))))
+    ++ statements_faults file p.void false (parameter_scope p) p.body))))
 
-abbrev pub procedures_faults : (all earlier : List ProcedureTree) → List ProcedureTree → List Fault
+abbrev pub procedures_faults : (all earlier : List ProcedureTree) → List ScopedProcedure →
+    List Fault
 procedures_faults all earlier [] = []
-procedures_faults all earlier (p ∷ ps) = procedure_faults all earlier p ++ procedures_faults all
-    (earlier ++ p ∷ []) ps
+procedures_faults all earlier (q ∷ qs) =
+    procedure_faults (record { procedures = all; globals = q.globals }) earlier q.tree
+    ++ procedures_faults all (earlier ++ q.tree ∷ []) qs
+
+-- a global whose name no variable may have, or an earlier global has
+abbrev pub global_faults : (earlier : List (List ℕ)) → Global → List Fault
+global_faults earlier g = fault_if
+    (is_built_in g.named.name || is_some (global_of earlier g.named.name)) Duplicate g.named.at
+
+abbrev pub globals_faults : (earlier : List (List ℕ)) → List Global → List Fault
+globals_faults earlier [] = []
+globals_faults earlier (g ∷ gs) = global_faults earlier g ++ globals_faults
+    (earlier ++ g.named.name ∷ []) gs
 
 -- a prototype of a name that isn't built in and that no procedure has
 abbrev pub prototypes_faults : List ProcedureTree → List FileItem → List Fault
@@ -195,14 +232,21 @@ prototypes_faults ps (prototype n ∷ is) = fault_if
     (not_bool (is_built_in n.name || is_some (number_of ps n.name))) UnknownName n.at
     ++ prototypes_faults ps is
 prototypes_faults ps (procedure p ∷ is) = prototypes_faults ps is
+prototypes_faults ps (globals gs ∷ is) = prototypes_faults ps is
 
 abbrev pub procedure_place : Option ProcedureTree → Option Pos
 procedure_place None = None
 procedure_place (Some p) = Some p.named.at
 
+abbrev pub global_place : Option Global → Option Pos
+global_place None = None
+global_place (Some g) = Some g.named.at
+
 abbrev pub all_faults : List FileItem → List Fault
 all_faults is =
     prototypes_faults (procedures_of is) is
-    ++ (procedures_faults (procedures_of is) [] (procedures_of is)
+    ++ (globals_faults [] (globals_of is)
+    ++ (procedures_faults (procedures_of is) [] (scoped_procedures [] is)
     ++ (limit_fault Procedures (procedure_place (slice_get (procedures_of is) MAX_PROCEDURES))
-    ++ limit_fault Assertions (slice_get (asserts_in_file (procedures_of is)) MAX_ASSERTIONS)))
+    ++ (limit_fault Variables (global_place (slice_get (globals_of is) MAX_GLOBALS))
+    ++ limit_fault Assertions (slice_get (asserts_in_file (procedures_of is)) MAX_ASSERTIONS)))))

@@ -1,14 +1,44 @@
 -- The program of a tree without faults.
-use Rattle.std.specs.Prelude.{ℕ, ◌+◌, not as not_bool, List, [], ◌∷◌, ◌++◌, length, map, Option, Some, None, unwrap_or, codes, pos}
+use Rattle.std.specs.Prelude.{ℕ, ℤ, ◌+◌, not as not_bool, if◌then◌else◌, List, [], ◌∷◌, ◌++◌, length, map, Option, Some, None, unwrap_or, codes, pos}
+use Rattle.c_tree.specs.declared.tree.Op.{Op}
 use Rattle.c_tree.specs.declared.tree.Op.TheVariants as op
 use Rattle.c_tree.specs.declared.tree.AssertPlace.{AssertPlace}
+use Rattle.c_tree.specs.Constants.{constant_value}
+use Rattle.c_tree.specs.Operators.{is_division}
 use Rattle.c_tree.specs.Syntax as program
 use Rattle.c_tree.specs.Syntax.{Expression, Expressions, no_expressions, expression, Statement, Statements, PureProcedure, PureProgram}
-use Rattle.c_tree.specs.SourceTree.{Identifier, ExpressionTree, literal, name, call, not, negate, plus, binary, ExpressionTrees, no_arguments, argument, SimpleStatement, set, change, add_one, subtract_one, call_statement, Declarator, ForInit, no_init, declaring, starting, StatementTree, block, empty, declare, simple, if_then, if_else, while_loop, do_while, for_loop, break, continue, return, StatementTrees, no_statements, statement, ProcedureTree, FileItem}
-use Rattle.c_typing.specs.Scope.{procedures_of, number_of, Callee, input, assume, assert, defined, unknown, callee_of, Scope, slot_of, with_variable, with_names, names_of, parameter_scope, declared_by, declared_by_init, variables_of, asserts_in, asserts_by, asserts_by_init, asserts_by_step}
+use Rattle.c_tree.specs.SourceTree.{ExpressionTree, literal, name, call, not, negate, plus, binary, ExpressionTrees, no_arguments, argument, SimpleStatement, set, change, add_one, subtract_one, call_statement, Declarator, ForInit, no_init, declaring, starting, StatementTree, block, empty, declare, simple, if_then, if_else, while_loop, do_while, for_loop, break, continue, return, StatementTrees, no_statements, statement, ProcedureTree, Global, FileItem}
+use Rattle.c_typing.specs.Scope.{procedures_of, number_of, globals_of, global_of, FileScope, ScopedProcedure, scoped_procedures, Callee, input, assume, assert, defined, unknown, callee_of, Scope, slot_of, with_variable, with_names, names_of, parameter_scope, declared_by, declared_by_init, variables_of, asserts_in, asserts_by, asserts_by_init, asserts_by_step}
 
-abbrev pub slot : List Scope → Identifier → ℕ
-slot scopes n = unwrap_or (slot_of scopes n.name) 0
+-- what the name of a variable means: a slot of the procedure, or a global by its number
+pub data VariablePlace : Type 0 where
+  local : ℕ → VariablePlace
+  global : ℕ → VariablePlace
+
+-- a variable of the procedure hides a global
+abbrev pub place_from : (slot number : Option ℕ) → VariablePlace
+place_from (Some s) number = local s
+place_from None (Some y) = global y
+place_from None None = local 0
+
+abbrev pub place : FileScope → List Scope → List ℕ → VariablePlace
+place file scopes x = place_from (slot_of scopes x) (global_of file.globals x)
+
+abbrev pub read_of : VariablePlace → Expression
+read_of (local s) = program.read s
+read_of (global y) = program.read_global y
+
+abbrev pub set_of : VariablePlace → Expression → Statement
+set_of (local s) e = program.set s e
+set_of (global y) e = program.set_global y e
+
+-- a variable gets the result of an operator on its value and another one
+abbrev pub changed : VariablePlace → Op → Expression → Statement
+changed v o e = set_of v (program.binary o (read_of v) e)
+
+-- the right side of an operator: a divisor is its value
+abbrev pub right_side : Op → Expression → Expression
+right_side o e = if is_division o then program.literal (unwrap_or (constant_value e) (pos 0)) else e
 
 abbrev pub joined : Statements → Statements → Statements
 joined program.no_statements ss = ss
@@ -38,16 +68,18 @@ called_statement input id es = program.ignore program.input
 called_statement (defined number params void) id es = program.ignore (program.call number es)
 called_statement unknown id es = nothing
 
-module _ (ps : List ProcedureTree) where
+module _ (file : FileScope) where
   abbrev mutual
     pub lowered : List Scope → ExpressionTree → Expression
     lowered scopes (literal n) = program.literal n
-    lowered scopes (name n) = program.read (slot scopes n)
-    lowered scopes (call n es) = lowered_call (callee_of ps n.name) (lowered_all scopes es)
+    lowered scopes (name n) = read_of (place file scopes n.name)
+    lowered scopes (call n es) = lowered_call (callee_of file.procedures n.name)
+        (lowered_all scopes es)
     lowered scopes (not e) = program.not (lowered scopes e)
     lowered scopes (negate e) = program.negate (lowered scopes e)
     lowered scopes (plus e) = lowered scopes e
-    lowered scopes (binary o at a b) = program.binary o (lowered scopes a) (lowered scopes b)
+    lowered scopes (binary o at a b) = program.binary o (lowered scopes a)
+        (right_side o (lowered scopes b))
 
     pub lowered_all : List Scope → ExpressionTrees → Expressions
     lowered_all scopes no_arguments = no_expressions
@@ -69,14 +101,16 @@ module _ (ps : List ProcedureTree) where
 
   -- `id` is the number of the next assertion
   abbrev pub lowered_simple : List Scope → ℕ → SimpleStatement → Statement
-  lowered_simple scopes id (set n e) = program.set (slot scopes n) (lowered scopes e)
-  lowered_simple scopes id (change o at n e) = program.set (slot scopes n)
-      (program.binary o (program.read (slot scopes n)) (lowered scopes e))
-  lowered_simple scopes id (add_one n) = program.set (slot scopes n)
-      (program.binary op.Add (program.read (slot scopes n)) (program.literal (pos 1)))
-  lowered_simple scopes id (subtract_one n) = program.set (slot scopes n)
-      (program.binary op.Subtract (program.read (slot scopes n)) (program.literal (pos 1)))
-  lowered_simple scopes id (call_statement n es) = called_statement (callee_of ps n.name) id
+  lowered_simple scopes id (set n e) = set_of (place file scopes n.name) (lowered scopes e)
+  lowered_simple scopes id (change o at n e) = changed (place file scopes n.name) o
+      (right_side o (lowered scopes e))
+  lowered_simple scopes id (add_one n) = changed (place file scopes n.name) op.Add
+      (program.literal (pos 1))
+  lowered_simple scopes id (subtract_one n) = changed (place file scopes n.name) op.Subtract
+      (program.literal (pos 1))
+  lowered_simple scopes id (call_statement n es) = called_statement
+      (callee_of file.procedures n.name)
+      id
       (lowered_all scopes es)
 
   abbrev pub lowered_step : List Scope → ℕ → Option SimpleStatement → Statement
@@ -159,10 +193,12 @@ module _ (ps : List ProcedureTree) where
     body = lowered_statements (parameter_scope p) (length p.params) id p.body;
   }
 
-  abbrev pub lowered_procedures : (id : ℕ) → List ProcedureTree → List PureProcedure
-  lowered_procedures id [] = []
-  lowered_procedures id (q ∷ qs) = lowered_procedure id q ∷ lowered_procedures
-      (id + length (asserts_in q.body)) qs
+abbrev pub lowered_procedures : (all : List ProcedureTree) → (id : ℕ) → List ScopedProcedure →
+    List PureProcedure
+lowered_procedures all id [] = []
+lowered_procedures all id (q ∷ qs) =
+    lowered_procedure (record { procedures = all; globals = q.globals }) id q.tree
+    ∷ lowered_procedures all (id + length (asserts_in q.tree.body)) qs
 
 -- where the assertions of the procedures from the number `proc` on stand
 abbrev pub assert_places : (proc : ℕ) → List ProcedureTree → List AssertPlace
@@ -170,9 +206,14 @@ assert_places proc [] = []
 assert_places proc (p ∷ ps) = map (λ at. record { at = at; proc = proc }) (asserts_in p.body)
     ++ assert_places (proc + 1) ps
 
+-- a global without a value opens with 0
+abbrev pub opening_values : List Global → List ℤ
+opening_values gs = map (λ (g : Global). unwrap_or g.value (pos 0)) gs
+
 abbrev pub lowered_file : List FileItem → PureProgram
 lowered_file is = record {
-  procedures = lowered_procedures (procedures_of is) 0 (procedures_of is);
+  procedures = lowered_procedures (procedures_of is) 0 (scoped_procedures [] is);
   main = unwrap_or (number_of (procedures_of is) (codes "main")) 0;
   asserts = assert_places 0 (procedures_of is);
+  globals = opening_values (globals_of is);
 }

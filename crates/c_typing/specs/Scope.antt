@@ -1,7 +1,7 @@
 -- Names: procedures, variables and their scopes.
 use Rattle.std.specs.Prelude.{ℕ, ◌+◌, Bool, false, ◌||◌, List, [], ◌∷◌, ◌++◌, length, map, Option, Some, None, is_some, codes, bytes_eq, if◌then◌else◌}
 use Rattle.c_tree.specs.declared.tree.Pos.{Pos}
-use Rattle.c_tree.specs.SourceTree.{Identifier, ExpressionTree, literal, name, call, not, negate, plus, binary, ExpressionTrees, no_arguments, argument, SimpleStatement, set, change, add_one, subtract_one, call_statement, Declarator, ForInit, no_init, declaring, starting, StatementTree, block, empty, declare, simple, if_then, if_else, while_loop, do_while, for_loop, break, continue, return, StatementTrees, no_statements, statement, ProcedureTree, FileItem, prototype, procedure}
+use Rattle.c_tree.specs.SourceTree.{Identifier, ExpressionTree, literal, name, call, not, negate, plus, binary, ExpressionTrees, no_arguments, argument, SimpleStatement, set, change, add_one, subtract_one, call_statement, Declarator, ForInit, no_init, declaring, starting, StatementTree, block, empty, declare, simple, if_then, if_else, while_loop, do_while, for_loop, break, continue, return, StatementTrees, no_statements, statement, ProcedureTree, Global, FileItem, prototype, procedure, globals}
 
 -- Procedures
 
@@ -26,6 +26,7 @@ abbrev pub procedures_of : List FileItem → List ProcedureTree
 procedures_of [] = []
 procedures_of (prototype n ∷ is) = procedures_of is
 procedures_of (procedure p ∷ is) = p ∷ procedures_of is
+procedures_of (globals gs ∷ is) = procedures_of is
 
 -- the number of a procedure: that of the first definition of the name
 abbrev pub number_from : ℕ → List ProcedureTree → List ℕ → Option ℕ
@@ -51,6 +52,46 @@ defined_from i (p ∷ ps) x = if bytes_eq p.named.name x then defined i (length 
 abbrev pub callee_of : List ProcedureTree → List ℕ → Callee
 callee_of ps x = if is_input x then input else
     (if is_assume x then assume else (if is_assert x then assert else defined_from 0 ps x))
+
+-- Globals
+
+-- the globals of a file, in order
+abbrev pub globals_of : List FileItem → List Global
+globals_of [] = []
+globals_of (prototype n ∷ is) = globals_of is
+globals_of (procedure p ∷ is) = globals_of is
+globals_of (globals gs ∷ is) = gs ++ globals_of is
+
+abbrev pub global_names : List Global → List (List ℕ)
+global_names gs = map (λ (g : Global). g.named.name) gs
+
+-- the number of a global: the place of the first one of the name
+abbrev pub global_from : ℕ → List (List ℕ) → List ℕ → Option ℕ
+global_from i [] x = None
+global_from i (y ∷ ys) x = if bytes_eq y x then Some i else global_from (i + 1) ys x
+
+abbrev pub global_of : (known : List (List ℕ)) → List ℕ → Option ℕ
+global_of known x = global_from 0 known x
+
+-- File scope
+
+-- what a procedure sees of its file: all procedures, and the names of the globals before it
+pub record FileScope : Type 0 where
+  pub procedures : List ProcedureTree
+  pub globals : List (List ℕ)
+
+-- a procedure with the names of the globals that are declared before it
+pub record ScopedProcedure : Type 0 where
+  pub tree : ProcedureTree
+  pub globals : List (List ℕ)
+
+-- the procedures of a file behind globals of these names, in order
+abbrev pub scoped_procedures : (known : List (List ℕ)) → List FileItem → List ScopedProcedure
+scoped_procedures known [] = []
+scoped_procedures known (prototype n ∷ is) = scoped_procedures known is
+scoped_procedures known (procedure p ∷ is) = record { tree = p; globals = known }
+    ∷ scoped_procedures known is
+scoped_procedures known (globals gs ∷ is) = scoped_procedures (known ++ global_names gs) is
 
 -- Variables
 

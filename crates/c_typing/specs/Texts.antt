@@ -1,7 +1,7 @@
 -- The texts of faults.
 use Rattle.std.specs.Prelude.{ℕ, List, codes}
 use Rattle.c_typing.specs.declared.fault.TypeFault.{TypeFault}
-use Rattle.c_typing.specs.declared.fault.TypeFault.TheVariants.{UnknownName, Duplicate, WrongCount, VoidValue, NotLinear, NoMain, MainShape, OutsideLoop, OverLimit}
+use Rattle.c_typing.specs.declared.fault.TypeFault.TheVariants.{UnknownName, Duplicate, WrongCount, VoidValue, NotLinear, NoMain, MainShape, OutsideLoop, OverLimit, BadDivisor}
 use Rattle.c_typing.specs.declared.fault.Which.TheVariants.{Procedures, Parameters, Variables, Tokens, Assertions}
 
 abbrev pub type_fault_text : TypeFault → List ℕ
@@ -18,3 +18,4 @@ type_fault_text (OverLimit Parameters) = codes "too many parameters"
 type_fault_text (OverLimit Variables) = codes "too many variables"
 type_fault_text (OverLimit Tokens) = codes "too many tokens"
 type_fault_text (OverLimit Assertions) = codes "too many assertions"
+type_fault_text BadDivisor = codes "divisor not allowed"

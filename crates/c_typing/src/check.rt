@@ -4,6 +4,7 @@ ghost use Rattle.std.specs.Prelude.{◌≡◌, IfOk, Err};
 ghost use Rattle.c_tree.specs.declared.tree.Pos.{Pos};
 ghost use Rattle.c_tree.specs.Syntax.{PureProgram};
 ghost use Rattle.c_tree.specs.Whole.{program_of};
+ghost use Rattle.c_tree.specs.WellFormed.{DividesByLiterals};
 ghost use Rattle.c_tree.specs.FileView.{file_of};
 ghost use Rattle.c_typing.specs.declared.fault.TypeFault.{TypeFault};
 ghost use Rattle.c_typing.specs.Answer.{IsProgram, IsFirstFault, Gives, Refuses};
@@ -11,11 +12,12 @@ ghost use Rattle.c_typing.specs.Answer.{IsProgram, IsFirstFault, Gives, Refuses}
 mod expressions;
 mod notes;
 mod procedures;
+mod side;
 mod statements;
 
 use crate::check::procedures::all;
 use crate::fault::{TypeError, TypeFault};
-use crate::lower::program::parts;
+use crate::lower::program::{opening_values, parts};
 use crate::table::Table;
 use c_tree::syntax_tree::Tree;
 use c_tree::tree::{Pos, Program};
@@ -29,6 +31,7 @@ pub fn check_types(alloc: Global, tree: &Tree) -> Result<Program, TypeError>
         IsFirstFault (file_of tree.now) f p }
     ensures if_fault { (f : TypeFault) (p : Pos) → IsFirstFault (file_of tree.now) f p →
         Refuses result f p }
+    ensures divisors { IfOk result (λ p. DividesByLiterals (program_of p)) }
 {
     let table = Table::new(alloc, &tree.items)?;
     let notes = all(alloc, &table)?;
@@ -38,7 +41,8 @@ pub fn check_types(alloc: Global, tree: &Tree) -> Result<Program, TypeError>
     if !table.is_defined("main") {
         return Err(TypeError::Refused(TypeFault::NoMain, Pos { line: 1, column: 1 }));
     }
+    let globals = opening_values(alloc, &table)?;
     let made = parts(alloc, &table, &notes.asserts)?;
     let main = table.number_of("main") as u32;
-    Ok(Program::new(made.procedures, main, made.places))
+    Ok(Program::new(made.procedures, main, made.places, globals))
 }

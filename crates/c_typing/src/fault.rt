@@ -17,8 +17,14 @@ pub const MAX_PARAMETERS: usize = 8;
 /// How many variables a procedure may have, its parameters among them.
 pub const MAX_VARIABLES: usize = 24;
 
+/// How many globals a file may have.
+pub const MAX_GLOBALS: usize = 16;
+
 /// How many assertions a file may have.
 pub const MAX_ASSERTIONS: usize = 64;
+
+/// The greatest magnitude of a divisor.
+pub const MAX_DIVISOR: u64 = 1_099_511_627_776;
 
 /// A limit of the language.
 #[derive(Clone, Copy, PartialEq, Eq, Debug)]
@@ -27,7 +33,7 @@ pub enum Which {
     Procedures,
     /// `MAX_PARAMETERS`; the place is the first parameter past it.
     Parameters,
-    /// `MAX_VARIABLES`; the place is the first declared name past it.
+    /// `MAX_VARIABLES`, or `MAX_GLOBALS`; the place is the first declared name past it.
     Variables,
     /// The tokens of a procedure, which the parser counts; the place is the first token past them.
     Tokens,
@@ -47,6 +53,7 @@ pub enum TypeFault {
     MainShape,
     OutsideLoop,
     OverLimit(Which),
+    BadDivisor,
 }
 
 impl TypeFault {
@@ -68,6 +75,7 @@ impl TypeFault {
             TypeFault::OverLimit(Which::Variables) => "too many variables",
             TypeFault::OverLimit(Which::Tokens) => "too many tokens",
             TypeFault::OverLimit(Which::Assertions) => "too many assertions",
+            TypeFault::BadDivisor => "divisor not allowed",
         }
     }
 }

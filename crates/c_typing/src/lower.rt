@@ -6,3 +6,4 @@ mod making;
 pub mod program;
 mod state;
 mod statements;
+mod variable;

@@ -1,11 +1,13 @@
-//! The procedures of a file by their names.
+//! The procedures and the globals of a file by their names.
 
-ghost use Rattle.std.specs.Prelude.{◌≡◌, ℕ, List, OnOk, IfOk};
+ghost use Rattle.std.specs.Prelude.{◌≡◌, ℕ, List, take, OnOk, IfOk};
 ghost use Rattle.c_tree.specs.FileView.{procedure_tree_of};
-ghost use Rattle.c_typing.specs.Scope.{is_main, is_built_in, callee_of, defined_from};
+ghost use Rattle.c_typing.specs.Scope.{is_main, is_built_in, callee_of, defined_from, global_of};
+ghost use Rattle.c_typing.specs.steps.Listed.{names_in, AreListed, AreListed-prop};
 ghost use Rattle.c_typing.specs.steps.Meanings.{found_in};
 ghost use Rattle.c_typing.specs.steps.Tables.{procedures_in, callee_from, number_in, is_defined, kept_or, AreDefined, AreDefined-prop};
 
+use crate::globals::Globals;
 use c_tree::syntax_tree::{Item, ProcTree};
 use std::alloc::{AllocError, Global};
 use std::collections::BTreeMap;
@@ -29,11 +31,13 @@ pub struct Definition {
     pub void: bool,
 }
 
-/// The procedures of a file.
+/// The procedures and the globals of a file.
 #[derive(Drop)]
 pub struct Table<'a> {
     pub items: &'a [Item],
+    pub globals: Globals<'a>,
     definitions: BTreeMap<&'a str, Definition>,
+    ghost listed: { AreListed globals.list.items items.now } by { AreListed-prop globals.list.items items.now },
     ghost linked: { AreDefined definitions items.now } by { AreDefined-prop definitions items.now },
 }
 
@@ -73,20 +77,36 @@ fn add<'a>(
     Ok(())
 }
 
+/// The first procedure of each name.
+fn definitions_of<'a>(
+    alloc: Global,
+    items: &'a [Item],
+) -> Result<BTreeMap<&'a str, Definition>, AllocError>
+    ensures { IfOk result (λ definitions. AreDefined definitions items.now) }
+{
+    let mut definitions = BTreeMap::new(alloc);
+    let mut number = 0;
+    for item in items {
+        if let Item::Proc(procedure) = item {
+            add(&mut definitions, number, procedure)?;
+            number += 1;
+        }
+    }
+    Ok(definitions)
+}
+
 impl<'a> Table<'a> {
     /// The table of the items of a file.
     pub fn new(alloc: Global, items: &'a [Item]) -> Result<Table<'a>, AllocError>
         ensures { IfOk result (λ table. table.items.now ≡ items.now) }
     {
-        let mut definitions = BTreeMap::new(alloc);
-        let mut number = 0;
-        for item in items {
-            if let Item::Proc(procedure) = item {
-                add(&mut definitions, number, procedure)?;
-                number += 1;
-            }
-        }
-        Ok(Table { items, definitions })
+        let globals = Globals::new(alloc, items)?;
+        let definitions = definitions_of(alloc, items)?;
+        Ok(Table {
+            items,
+            globals,
+            definitions,
+        })
     }
 
     /// What is called by a name.
@@ -125,6 +145,13 @@ impl<'a> Table<'a> {
         }
     }
 
+    /// The number of the global of a name, where so many are known.
+    pub fn global_of(&self, name: &str, known: usize) -> Option<usize>
+        ensures { result ≡ global_of (take known (names_in self.now.items.now)) name.now }
+    {
+        self.globals.number_of(name, known)
+    }
+
     /// The first procedure of a name.
     fn defined(&self, name: &str) -> Called
         ensures { callee_from result ≡ defined_from 0 (procedures_in self.now.items.now) name.now }
@@ -133,5 +160,30 @@ impl<'a> Table<'a> {
             Some(first) => Called::Defined(first.number, first.params, first.void),
             None => Called::Unknown,
         }
+    }
+}
+
+/// What a procedure sees of its file: all procedures, and so many globals, those before it.
+#[derive(Clone, Copy)]
+pub struct FileScope<'t, 'a> {
+    pub table: &'t Table<'a>,
+    pub globals: usize,
+}
+
+impl<'t, 'a> FileScope<'t, 'a> {
+    ghost use Rattle.c_typing.specs.steps.FileScopes.{file_scope};
+
+    /// What is called by a name.
+    pub fn callee_of(&self, name: &str) -> Called
+        ensures { callee_from result ≡ callee_of (file_scope self.now).procedures name.now }
+    {
+        self.table.callee_of(name)
+    }
+
+    /// The number of the global of a name.
+    pub fn global_of(&self, name: &str) -> Option<usize>
+        ensures { result ≡ global_of (file_scope self.now).globals name.now }
+    {
+        self.table.global_of(name, self.globals)
     }
 }

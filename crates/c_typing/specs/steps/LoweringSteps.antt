@@ -6,10 +6,15 @@ use Rattle.c_tree.specs.declared.tree.Pos.{Pos}
 use Rattle.c_tree.specs.declared.tree.AssertPlace.{AssertPlace}
 use Rattle.c_tree.specs.Syntax as program
 use Rattle.c_tree.specs.Syntax.{Statement, Statements}
-use Rattle.c_typing.specs.declared.fault.TheConstants.{MAX_VARIABLES, MAX_ASSERTIONS}
-use Rattle.c_typing.specs.Scope.{Scope, variables_of, declared_by, declared_in, asserts_of, asserts_of_all, asserts_of_optional, asserts_by_declarators, asserts_by, asserts_in}
+use Rattle.c_typing.specs.declared.fault.TheConstants.{MAX_PROCEDURES, MAX_VARIABLES, MAX_GLOBALS, MAX_ASSERTIONS}
+use Rattle.c_typing.specs.Scope.{Scope, FileScope, variables_of, declared_by, declared_in, asserts_of, asserts_of_all, asserts_of_optional, asserts_by_declarators, asserts_by, asserts_in}
 use Rattle.c_typing.specs.Lowering.{joined, lowered_simple, lowered_declarators, spliced, scopes_after, lowered_statement, lowered_statements}
 use Rattle.c_typing.specs.steps.Tables.{outer_of}
+
+-- the numbers of procedures and globals are small
+pub record IsWithinLimits (file : FileScope) : Type 0 where
+  pub procedures : length file.procedures ≤ MAX_PROCEDURES
+  pub globals : length file.globals ≤ MAX_GLOBALS
 
 abbrev pub IsQuietSimple : SimpleStatement → Type 0
 IsQuietSimple (set n e) = asserts_of e ≡ []
@@ -59,34 +64,34 @@ pub record HasRoomForAll (next id : ℕ) (ss : StatementTrees) : Type 0 where
   pub quiet : AreQuiet ss
 
 -- what a statement becomes, and the numbers and scopes behind it
-pub record IsLowered (ps : List ProcedureTree) (before after : List Scope) (next id next' id' : ℕ)
+pub record IsLowered (file : FileScope) (before after : List Scope) (next id next' id' : ℕ)
     (s : StatementTree) (made : Statement) : Type 0 where
-  pub statement_is : made ≡ lowered_statement ps before next id s
+  pub statement_is : made ≡ lowered_statement file before next id s
   pub next_is : next' ≡ next + length (declared_by s)
   pub id_is : id' ≡ id + length (asserts_by s)
   pub scopes : after ≡ before
 
 -- the same of a statement of a block, whose statements so far it lengthens
-pub record IsPlaced (ps : List ProcedureTree) (before after : List Scope) (next id next' id' : ℕ)
+pub record IsPlaced (file : FileScope) (before after : List Scope) (next id next' id' : ℕ)
     (s : StatementTree) (old new : Statements) : Type 0 where
   pub statements_are : new
-      ≡ joined old (spliced ps before next s (lowered_statement ps before next id s))
+      ≡ joined old (spliced file before next s (lowered_statement file before next id s))
   pub next_is : next' ≡ next + length (declared_by s)
   pub id_is : id' ≡ id + length (asserts_by s)
-  pub scopes : after ≡ scopes_after ps before next s
+  pub scopes : after ≡ scopes_after file before next s
 
-pub record AreLowered (ps : List ProcedureTree) (before after : List Scope) (next id next' id' : ℕ)
+pub record AreLowered (file : FileScope) (before after : List Scope) (next id next' id' : ℕ)
     (ss : StatementTrees) (made : Statements) : Type 0 where
-  pub statements_are : made ≡ lowered_statements ps before next id ss
+  pub statements_are : made ≡ lowered_statements file before next id ss
   pub next_is : next' ≡ next + length (declared_in ss)
   pub id_is : id' ≡ id + length (asserts_in ss)
   pub outer : outer_of after ≡ outer_of before
 
 -- the statements that the first part of a `for` becomes
-abbrev pub init_statements : List ProcedureTree → List Scope → (next id : ℕ) → ForInit → Statements
-init_statements ps ss next id no_init = program.no_statements
-init_statements ps ss next id (declaring ds) = lowered_declarators ps ss next ds
-init_statements ps ss next id (starting s) = program.statement (lowered_simple ps ss id s)
+abbrev pub init_statements : FileScope → List Scope → (next id : ℕ) → ForInit → Statements
+init_statements file ss next id no_init = program.no_statements
+init_statements file ss next id (declaring ds) = lowered_declarators file ss next ds
+init_statements file ss next id (starting s) = program.statement (lowered_simple file ss id s)
     program.no_statements
 
 -- those statements and then a loop

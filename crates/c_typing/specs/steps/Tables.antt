@@ -19,7 +19,7 @@ use Rattle.c_typing.specs.declared.check.notes.Notes.{Notes}
 use Rattle.c_typing.specs.declared.fault.TheConstants.{MAX_PARAMETERS, MAX_VARIABLES}
 use Rattle.c_typing.specs.declared.fault.TypeFault.TheVariants.{Duplicate, MainShape}
 use Rattle.c_typing.specs.declared.fault.Which.TheVariants.{Parameters, Variables, Tokens}
-use Rattle.c_typing.specs.Scope.{Scope, is_built_in, is_main, defined_from, variables_of, parameter_scope, names_of, procedures_of, with_variable, Callee, input, assume, assert, defined, unknown}
+use Rattle.c_typing.specs.Scope.{Scope, is_built_in, is_main, FileScope, ScopedProcedure, scoped_procedures, defined_from, variables_of, parameter_scope, names_of, procedures_of, with_variable, Callee, input, assume, assert, defined, unknown}
 use Rattle.c_typing.specs.Faults.{Fault, fault_if, limit_fault, place_of, parameters_faults, statements_faults}
 use Rattle.c_typing.specs.steps.Least.{least_from}
 
@@ -45,6 +45,10 @@ IsLonger old new = take (length old.entries.items) new.entries.items ≡ old.ent
 
 abbrev pub procedures_in : List Item → List ProcedureTree
 procedures_in is = procedures_of (map item_of is)
+
+-- behind globals of these names
+abbrev pub scoped_in : (known : List (List ℕ)) → List Item → List ScopedProcedure
+scoped_in known is = scoped_procedures known (map item_of is)
 
 abbrev pub callee_from : Called → Callee
 callee_from called.Input = input
@@ -163,16 +167,15 @@ heading_found again p =
     p.named.at
 
 -- what parameters and body say
-abbrev pub body_found : (all : List ProcedureTree) → ProcedureTree → List Fault
-body_found all p = parameters_faults ([] ∷ []) p.params
+abbrev pub body_found : FileScope → ProcedureTree → List Fault
+body_found file p = parameters_faults ([] ∷ []) p.params
     ++ (limit_fault Parameters (place_of (slice_get p.params MAX_PARAMETERS)) ++ statements_faults
-    all p.void false (parameter_scope p) p.body)
+    file p.void false (parameter_scope p) p.body)
 
-abbrev pub procedure_found : (all : List ProcedureTree) → (again : Bool) → ProcedureTree →
-    List Fault
-procedure_found all again p =
+abbrev pub procedure_found : FileScope → (again : Bool) → ProcedureTree → List Fault
+procedure_found file again p =
     heading_found again p
-    ++ (body_found all p
+    ++ (body_found file p
     ++ (limit_fault Variables (place_of (slice_get (variables_of p) MAX_VARIABLES))
     ++ limit_fault Tokens p.past))
 
@@ -181,7 +184,9 @@ abbrev pub is_again : (all : List ProcedureTree) → ℕ → ProcedureTree → B
 is_again all number p = nat_lt (number_in (defined_from 0 all p.named.name)) number
 
 -- the procedures from a number on
-abbrev pub procedures_found : (all : List ProcedureTree) → ℕ → List ProcedureTree → List Fault
+abbrev pub procedures_found : (all : List ProcedureTree) → ℕ → List ScopedProcedure → List Fault
 procedures_found all number [] = []
-procedures_found all number (p ∷ ps) = procedure_found all (is_again all number p) p
-    ++ procedures_found all (number + 1) ps
+procedures_found all number (q ∷ qs) =
+    procedure_found (record { procedures = all; globals = q.globals })
+    (is_again all number q.tree) q.tree
+    ++ procedures_found all (number + 1) qs

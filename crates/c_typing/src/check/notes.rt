@@ -54,6 +54,7 @@ fn rank(fault: TypeFault) -> u32
         TypeFault::MainShape => 7,
         TypeFault::OutsideLoop => 8,
         TypeFault::OverLimit(which) => 9 + which_rank(which),
+        TypeFault::BadDivisor => 14,
     }
 }
 

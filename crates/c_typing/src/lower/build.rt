@@ -6,29 +6,30 @@ ghost use Rattle.c_tree.specs.Syntax.{set, loop, statement, no_statements};
 ghost use Rattle.c_tree.specs.View.{expression_of, statement_of, statements_of};
 ghost use Rattle.c_typing.specs.Scope.{with_variable, with_names, names_of, declared_by_init, asserts_by_simple, asserts_by_step, asserts_by_init};
 ghost use Rattle.c_typing.specs.Lowering.{joined, lowered_value, lowered_test, lowered_declarators, lowered_simple, lowered_step, init_scopes};
-ghost use Rattle.c_typing.specs.steps.LoweringSteps.{IsQuietSimple, IsQuietStep, IsQuietInit, init_statements, wrapped};
-ghost use Rattle.c_typing.specs.steps.Tables.{scopes_of, IsLonger, procedures_in};
+ghost use Rattle.c_typing.specs.steps.LoweringSteps.{IsWithinLimits, IsQuietSimple, IsQuietStep, IsQuietInit, init_statements, wrapped};
+ghost use Rattle.c_typing.specs.steps.Tables.{scopes_of, IsLonger};
+ghost use Rattle.c_typing.specs.steps.FileScopes.{file_scope};
 
-use crate::fault::{MAX_ASSERTIONS, MAX_PROCEDURES, MAX_VARIABLES};
+use crate::fault::{MAX_ASSERTIONS, MAX_VARIABLES};
 use crate::lower::expressions::{test, value};
 use crate::lower::making::{asserted, block, boxed, nothing, simple};
 use crate::lower::state::State;
-use crate::table::Table;
+use crate::table::FileScope;
 use c_tree::syntax_tree::{Declared, ExprTree, ForFirst, SimpleTree};
 use c_tree::tree::{Expr, Stmt};
 use std::alloc::{AllocError, Global};
 
 /// A declared name becomes a set.
 fn declarator<'a>(
-    table: &Table<'_>,
+    file: &FileScope<'_, '_>,
     state: &mut State<'a>,
     out: &mut Vec<Stmt>,
     tree: &'a Declared,
 ) -> Result<(), AllocError>
-    requires few { length (procedures_in table.now.items.now) ≤ MAX_PROCEDURES }
+    requires few { IsWithinLimits (file_scope file.now) }
     requires room { state.old.next < MAX_VARIABLES }
     ensures out { OnOk result (statements_of out.new.items ≡ joined (statements_of out.old.items)
-        (statement (set state.old.next (lowered_value (procedures_in table.now.items.now)
+        (statement (set state.old.next (lowered_value (file_scope file.now)
         (scopes_of state.old.scopes)
         (declarator_of tree.now).value)) no_statements)) }
     ensures next { OnOk result (state.new.next ≡ state.old.next + 1) }
@@ -38,7 +39,7 @@ fn declarator<'a>(
         (declarator_of tree.now).named.name state.old.next) }
     ensures longer { OnOk result (IsLonger state.old.scopes state.new.scopes) }
 {
-    let value = value(state.alloc, table, &state.scopes, &tree.value)?;
+    let value = value(state.alloc, file, &state.scopes, &tree.value)?;
     out.push(Stmt::Set(state.next, value))?;
     state.scopes.declare(tree.named.name.as_str(), state.next)?;
     state.next += 1;
@@ -47,16 +48,16 @@ fn declarator<'a>(
 
 /// A declaration becomes sets.
 pub fn declarators<'a>(
-    table: &Table<'_>,
+    file: &FileScope<'_, '_>,
     state: &mut State<'a>,
     out: &mut Vec<Stmt>,
     trees: &'a [Declared],
 ) -> Result<(), AllocError>
-    requires few { length (procedures_in table.now.items.now) ≤ MAX_PROCEDURES }
+    requires few { IsWithinLimits (file_scope file.now) }
     requires room { state.old.next + length (names_of (map declarator_of trees.now)) ≤
         MAX_VARIABLES }
     ensures out { OnOk result (statements_of out.new.items ≡ joined (statements_of out.old.items)
-        (lowered_declarators (procedures_in table.now.items.now) (scopes_of state.old.scopes)
+        (lowered_declarators (file_scope file.now) (scopes_of state.old.scopes)
         state.old.next (map declarator_of trees.now))) }
     ensures next { OnOk result (state.new.next ≡ state.old.next
         + length (names_of (map declarator_of trees.now))) }
@@ -67,46 +68,46 @@ pub fn declarators<'a>(
     ensures longer { OnOk result (IsLonger state.old.scopes state.new.scopes) }
 {
     for tree in trees {
-        declarator(table, state, out, tree)?;
+        declarator(file, state, out, tree)?;
     }
     Ok(())
 }
 
 /// A simple statement, which counts its assertion.
 pub fn counted(
-    table: &Table<'_>,
+    file: &FileScope<'_, '_>,
     state: &mut State<'_>,
     tree: &SimpleTree,
 ) -> Result<Stmt, AllocError>
-    requires few { length (procedures_in table.now.items.now) ≤ MAX_PROCEDURES }
+    requires few { IsWithinLimits (file_scope file.now) }
     requires room { state.old.id + length (asserts_by_simple (simple_of tree.now)) ≤
         MAX_ASSERTIONS }
     requires quiet { IsQuietSimple (simple_of tree.now) }
     ensures made { IfOk result
-        (λ made. statement_of made ≡ lowered_simple (procedures_in table.now.items.now)
+        (λ made. statement_of made ≡ lowered_simple (file_scope file.now)
         (scopes_of state.old.scopes) state.old.id (simple_of tree.now)) }
     ensures next { OnOk result (state.new.next ≡ state.old.next) }
     ensures id { OnOk result
         (state.new.id ≡ state.old.id + length (asserts_by_simple (simple_of tree.now))) }
     ensures scopes { OnOk result (state.new.scopes ≡ state.old.scopes) }
 {
-    let made = simple(state.alloc, table, &state.scopes, state.id, tree)?;
+    let made = simple(state.alloc, file, &state.scopes, state.id, tree)?;
     state.id += asserted(tree);
     Ok(made)
 }
 
 /// The step of a `for`, which counts its assertion.
 fn counted_step(
-    table: &Table<'_>,
+    file: &FileScope<'_, '_>,
     state: &mut State<'_>,
     tree: &Option<SimpleTree>,
 ) -> Result<Box<Stmt>, AllocError>
-    requires few { length (procedures_in table.now.items.now) ≤ MAX_PROCEDURES }
+    requires few { IsWithinLimits (file_scope file.now) }
     requires room { state.old.id + length (asserts_by_step (optional_simple tree.now)) ≤
         MAX_ASSERTIONS }
     requires quiet { IsQuietStep (optional_simple tree.now) }
     ensures made { IfOk result (λ made. statement_of made.value
-        ≡ lowered_step (procedures_in table.now.items.now)
+        ≡ lowered_step (file_scope file.now)
         (scopes_of state.old.scopes) state.old.id (optional_simple tree.now)) }
     ensures next { OnOk result (state.new.next ≡ state.old.next) }
     ensures id { OnOk result
@@ -115,7 +116,7 @@ fn counted_step(
 {
     match tree {
         Some(tree) => {
-            let made = counted(table, state, tree)?;
+            let made = counted(file, state, tree)?;
             boxed(state.alloc, made)
         }
         None => boxed(state.alloc, nothing(state.alloc)),
@@ -124,16 +125,16 @@ fn counted_step(
 
 /// The statements that the first part of a `for` becomes.
 fn start<'a>(
-    table: &Table<'_>,
+    file: &FileScope<'_, '_>,
     state: &mut State<'a>,
     tree: &'a ForFirst,
 ) -> Result<Vec<Stmt>, AllocError>
-    requires few { length (procedures_in table.now.items.now) ≤ MAX_PROCEDURES }
+    requires few { IsWithinLimits (file_scope file.now) }
     requires names { state.old.next + length (declared_by_init (init_of tree.now)) ≤ MAX_VARIABLES }
     requires room { state.old.id + length (asserts_by_init (init_of tree.now)) ≤ MAX_ASSERTIONS }
     requires quiet { IsQuietInit (init_of tree.now) }
     ensures made { IfOk result (λ made. statements_of made.items ≡ init_statements
-        (procedures_in table.now.items.now)
+        (file_scope file.now)
         (scopes_of state.old.scopes) state.old.next state.old.id (init_of tree.now)) }
     ensures next { OnOk result (state.new.next ≡ state.old.next
         + length (declared_by_init (init_of tree.now))) }
@@ -146,9 +147,9 @@ fn start<'a>(
     let mut made = Vec::new(state.alloc);
     match tree {
         ForFirst::Nothing => {}
-        ForFirst::Declare(trees) => declarators(table, state, &mut made, trees)?,
+        ForFirst::Declare(trees) => declarators(file, state, &mut made, trees)?,
         ForFirst::Simple(tree) => {
-            let first = counted(table, state, tree)?;
+            let first = counted(file, state, tree)?;
             made.push(first)?;
         }
     }
@@ -165,29 +166,29 @@ pub struct Beginning {
 
 /// The parts of a `for` before its body, in a scope that stays open.
 pub fn head<'a>(
-    table: &Table<'_>,
+    file: &FileScope<'_, '_>,
     state: &mut State<'a>,
     tree: &'a ForFirst,
     condition: &Option<ExprTree>,
     next: &Option<SimpleTree>,
 ) -> Result<Box<Beginning>, AllocError>
-    requires few { length (procedures_in table.now.items.now) ≤ MAX_PROCEDURES }
+    requires few { IsWithinLimits (file_scope file.now) }
     requires names { state.old.next + length (declared_by_init (init_of tree.now)) ≤ MAX_VARIABLES }
     requires room { state.old.id + length (asserts_by_init (init_of tree.now))
         + length (asserts_by_step (optional_simple next.now)) ≤ MAX_ASSERTIONS }
     requires quiet { IsQuietInit (init_of tree.now) }
     requires quiet_step { IsQuietStep (optional_simple next.now) }
     ensures before { IfOk result (λ made. statements_of made.value.before.items ≡ init_statements
-        (procedures_in table.now.items.now)
+        (file_scope file.now)
         ([] ∷ scopes_of state.old.scopes) state.old.next state.old.id (init_of tree.now)) }
     ensures test { IfOk result (λ made. expression_of made.value.test
-        ≡ lowered_test (procedures_in table.now.items.now)
-        (init_scopes (procedures_in table.now.items.now) (scopes_of state.old.scopes) state.old.next
+        ≡ lowered_test (file_scope file.now)
+        (init_scopes (file_scope file.now) (scopes_of state.old.scopes) state.old.next
         (init_of tree.now))
         (optional_tree condition.now)) }
     ensures step { IfOk result (λ made. statement_of made.value.step.value
-        ≡ lowered_step (procedures_in table.now.items.now)
-        (init_scopes (procedures_in table.now.items.now) (scopes_of state.old.scopes) state.old.next
+        ≡ lowered_step (file_scope file.now)
+        (init_scopes (file_scope file.now) (scopes_of state.old.scopes) state.old.next
         (init_of tree.now))
         (state.old.id + length (asserts_by_init (init_of tree.now))) (optional_simple next.now)) }
     ensures next { OnOk result (state.new.next ≡ state.old.next
@@ -197,13 +198,13 @@ pub fn head<'a>(
         + length
         (asserts_by_step (optional_simple next.now))) }
     ensures scopes { OnOk result
-        (scopes_of state.new.scopes ≡ init_scopes (procedures_in table.now.items.now)
+        (scopes_of state.new.scopes ≡ init_scopes (file_scope file.now)
         (scopes_of state.old.scopes) state.old.next (init_of tree.now)) }
 {
     state.scopes.open()?;
-    let before = start(table, state, tree)?;
-    let step = counted_step(table, state, next)?;
-    let test = test(state.alloc, table, &state.scopes, condition)?;
+    let before = start(file, state, tree)?;
+    let step = counted_step(file, state, next)?;
+    let test = test(state.alloc, file, &state.scopes, condition)?;
     Ok(Box::new(state.alloc, Beginning { before, test, step })?)
 }
 

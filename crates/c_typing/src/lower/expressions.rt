@@ -1,15 +1,18 @@
 //! The program of a tree without faults.
 
-ghost use Rattle.std.specs.Prelude.{◌≡◌, ◌^◌, ◌<◌, ◌≤◌, length, IfOk};
+ghost use Rattle.std.specs.Prelude.{◌≡◌, ◌^◌, ◌<◌, IfOk};
 ghost use Rattle.c_tree.specs.SourceView.{tree_of, trees_of, optional_tree};
 ghost use Rattle.c_tree.specs.Syntax.{binary};
 ghost use Rattle.c_tree.specs.View.{expression_of, expressions_of, optional_expression};
-ghost use Rattle.c_typing.specs.Lowering.{lowered_call, lowered, lowered_all, lowered_value, lowered_test, lowered_result};
-ghost use Rattle.c_typing.specs.steps.Tables.{scopes_of, procedures_in, callee_from, number_in};
+ghost use Rattle.c_tree.specs.Constants.{constant_value};
+ghost use Rattle.c_typing.specs.Lowering.{right_side, lowered_call, lowered, lowered_all, lowered_value, lowered_test, lowered_result};
+ghost use Rattle.c_typing.specs.steps.Tables.{scopes_of, callee_from, number_in};
+ghost use Rattle.c_typing.specs.steps.LoweringSteps.{IsWithinLimits};
+ghost use Rattle.c_typing.specs.steps.FileScopes.{file_scope};
 
-use crate::fault::MAX_PROCEDURES;
+use crate::lower::variable::variable_named;
 use crate::scopes::Scopes;
-use crate::table::{Called, Table};
+use crate::table::{Called, FileScope};
 use c_tree::syntax_tree::ExprTree;
 use c_tree::tree::{Expr, Op};
 use std::alloc::{AllocError, Global};
@@ -34,6 +37,33 @@ pub fn boxed(alloc: Global, made: Expr) -> Result<Box<Expr>, AllocError>
     Ok(Box::new(alloc, made)?)
 }
 
+/// The value of a constant expression, unless an operation in it stops the run.
+fn constant_value(made: &Expr) -> Option<i64>
+    ensures { result ≡ constant_value (expression_of made.now) }
+{
+    match made {
+        Expr::Literal(value) => Some(*value),
+        Expr::Negate(inner) => constant_value(inner)?.checked_neg(),
+        Expr::Binary(op, left, right) => {
+            let left = constant_value(left)?;
+            let right = constant_value(right)?;
+            op.operation(left, right)
+        }
+        _ => None,
+    }
+}
+
+/// The right side of an operator: a divisor is its value.
+pub fn right_side(op: Op, made: Expr) -> Expr
+    ensures { expression_of result ≡ right_side op (expression_of made) }
+{
+    if op.is_division() {
+        Expr::Literal(constant_value(&made).unwrap_or(0))
+    } else {
+        made
+    }
+}
+
 /// A binary operation.
 pub fn binary(alloc: Global, op: Op, left: Box<Expr>, right: Expr) -> Result<Expr, AllocError>
     ensures { IfOk result (λ made. expression_of made ≡ binary op (expression_of left.value)
@@ -46,39 +76,36 @@ pub fn binary(alloc: Global, op: Op, left: Box<Expr>, right: Expr) -> Result<Exp
 #[cycle(expressions)]
 pub fn expression(
     alloc: Global,
-    table: &Table<'_>,
+    file: &FileScope<'_, '_>,
     scopes: &Scopes<'_>,
     tree: &ExprTree,
 ) -> Result<Expr, AllocError>
-    requires { length (procedures_in table.now.items.now) ≤ MAX_PROCEDURES }
-    ensures { IfOk result (λ made. expression_of made ≡ lowered (procedures_in table.now.items.now)
+    requires { IsWithinLimits (file_scope file.now) }
+    ensures { IfOk result (λ made. expression_of made ≡ lowered (file_scope file.now)
         (scopes_of scopes.now) (tree_of tree.now)) }
 {
     match tree {
         ExprTree::Literal(value) => Ok(Expr::Literal(*value)),
-        ExprTree::Name(named) => {
-            let slot = scopes.slot_of(named.name.as_str()).unwrap_or(0);
-            Ok(Expr::Read(slot))
-        }
+        ExprTree::Name(named) => Ok(variable_named(file, scopes, named).read()),
         ExprTree::Call(named, values) => {
-            let values = arguments(alloc, table, scopes, values)?;
-            let called = table.callee_of(named.name.as_str());
+            let values = arguments(alloc, file, scopes, values)?;
+            let called = file.callee_of(named.name.as_str());
             Ok(call(called, values))
         }
         ExprTree::Not(inner) => {
-            let inner = expression(alloc, table, scopes, inner)?;
+            let inner = expression(alloc, file, scopes, inner)?;
             Ok(Expr::Not(boxed(alloc, inner)?))
         }
         ExprTree::Negate(inner) => {
-            let inner = expression(alloc, table, scopes, inner)?;
+            let inner = expression(alloc, file, scopes, inner)?;
             Ok(Expr::Negate(boxed(alloc, inner)?))
         }
-        ExprTree::Plus(inner) => expression(alloc, table, scopes, inner),
+        ExprTree::Plus(inner) => expression(alloc, file, scopes, inner),
         ExprTree::Binary(op, _, left, right) => {
-            let left = expression(alloc, table, scopes, left)?;
+            let left = expression(alloc, file, scopes, left)?;
             let left = boxed(alloc, left)?;
-            let right = expression(alloc, table, scopes, right)?;
-            binary(alloc, *op, left, right)
+            let right = expression(alloc, file, scopes, right)?;
+            binary(alloc, *op, left, right_side(*op, right))
         }
     }
 }
@@ -87,18 +114,18 @@ pub fn expression(
 #[cycle(expressions)]
 pub fn arguments(
     alloc: Global,
-    table: &Table<'_>,
+    file: &FileScope<'_, '_>,
     scopes: &Scopes<'_>,
     trees: &[ExprTree],
 ) -> Result<Vec<Expr>, AllocError>
-    requires { length (procedures_in table.now.items.now) ≤ MAX_PROCEDURES }
+    requires { IsWithinLimits (file_scope file.now) }
     ensures { IfOk result (λ made. expressions_of made.items
-        ≡ lowered_all (procedures_in table.now.items.now) (scopes_of scopes.now)
+        ≡ lowered_all (file_scope file.now) (scopes_of scopes.now)
         (trees_of trees.now)) }
 {
     let mut made = Vec::new(alloc);
     for tree in trees {
-        let value = expression(alloc, table, scopes, tree)?;
+        let value = expression(alloc, file, scopes, tree)?;
         made.push(value)?;
     }
     Ok(made)
@@ -107,18 +134,18 @@ pub fn arguments(
 /// The value of a declaration, 0 without an initialiser.
 pub fn value(
     alloc: Global,
-    table: &Table<'_>,
+    file: &FileScope<'_, '_>,
     scopes: &Scopes<'_>,
     tree: &Option<ExprTree>,
 ) -> Result<Expr, AllocError>
-    requires { length (procedures_in table.now.items.now) ≤ MAX_PROCEDURES }
+    requires { IsWithinLimits (file_scope file.now) }
     ensures { IfOk result
-        (λ made. expression_of made ≡ lowered_value (procedures_in table.now.items.now)
+        (λ made. expression_of made ≡ lowered_value (file_scope file.now)
         (scopes_of scopes.now)
         (optional_tree tree.now)) }
 {
     match tree {
-        Some(tree) => expression(alloc, table, scopes, tree),
+        Some(tree) => expression(alloc, file, scopes, tree),
         None => Ok(Expr::Literal(0)),
     }
 }
@@ -126,18 +153,18 @@ pub fn value(
 /// The condition of a `for`, 1 without one.
 pub fn test(
     alloc: Global,
-    table: &Table<'_>,
+    file: &FileScope<'_, '_>,
     scopes: &Scopes<'_>,
     tree: &Option<ExprTree>,
 ) -> Result<Expr, AllocError>
-    requires { length (procedures_in table.now.items.now) ≤ MAX_PROCEDURES }
+    requires { IsWithinLimits (file_scope file.now) }
     ensures { IfOk result
-        (λ made. expression_of made ≡ lowered_test (procedures_in table.now.items.now)
+        (λ made. expression_of made ≡ lowered_test (file_scope file.now)
         (scopes_of scopes.now)
         (optional_tree tree.now)) }
 {
     match tree {
-        Some(tree) => expression(alloc, table, scopes, tree),
+        Some(tree) => expression(alloc, file, scopes, tree),
         None => Ok(Expr::Literal(1)),
     }
 }
@@ -145,17 +172,17 @@ pub fn test(
 /// What a `return` returns.
 pub fn returned(
     alloc: Global,
-    table: &Table<'_>,
+    file: &FileScope<'_, '_>,
     scopes: &Scopes<'_>,
     tree: &Option<ExprTree>,
 ) -> Result<Option<Expr>, AllocError>
-    requires { length (procedures_in table.now.items.now) ≤ MAX_PROCEDURES }
+    requires { IsWithinLimits (file_scope file.now) }
     ensures { IfOk result (λ made. optional_expression made ≡ lowered_result
-        (procedures_in table.now.items.now) (scopes_of scopes.now)
+        (file_scope file.now) (scopes_of scopes.now)
         (optional_tree tree.now)) }
 {
     match tree {
-        Some(tree) => Ok(Some(expression(alloc, table, scopes, tree)?)),
+        Some(tree) => Ok(Some(expression(alloc, file, scopes, tree)?)),
         None => Ok(None),
     }
 }

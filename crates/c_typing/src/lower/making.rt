@@ -1,20 +1,22 @@
 //! The statements of a program.
 
 ghost use Rattle.std.specs.Prelude.{◌≡◌, ◌+◌, ◌*◌, ◌^◌, ◌<◌, ◌≤◌, [], ◌∷◌, ◌++◌, length, map, OnOk, IfOk, MatchOption};
-ghost use Rattle.c_tree.specs.SourceView.{identifier_of, tree_of, simple_of};
-ghost use Rattle.c_tree.specs.Syntax.{set, binary, read, block, if_else, loop, do_while};
+ghost use Rattle.c_tree.specs.SourceView.{tree_of, simple_of};
+ghost use Rattle.c_tree.specs.Syntax.{block, if_else, loop, do_while};
 ghost use Rattle.c_tree.specs.View.{expression_of, expressions_of, statement_of, statements_of};
 ghost use Rattle.c_typing.specs.Scope.{asserts_by_simple};
-ghost use Rattle.c_typing.specs.Lowering.{slot, nothing, lowered, first_of, called_statement, lowered_simple};
-ghost use Rattle.c_typing.specs.steps.LoweringSteps.{IsQuietSimple};
-ghost use Rattle.c_typing.specs.steps.Tables.{scopes_of, procedures_in, callee_from, number_in};
+ghost use Rattle.c_typing.specs.Lowering.{changed, nothing, lowered, first_of, called_statement, lowered_simple};
+ghost use Rattle.c_typing.specs.steps.LoweringSteps.{IsWithinLimits, IsQuietSimple};
+ghost use Rattle.c_typing.specs.steps.Tables.{scopes_of, callee_from, number_in};
+ghost use Rattle.c_typing.specs.steps.FileScopes.{file_scope};
+ghost use Rattle.c_typing.specs.steps.Places.{place_of};
 
-use crate::fault::MAX_PROCEDURES;
-use crate::lower::expressions::{self, arguments, call, expression};
+use crate::lower::expressions::{self, arguments, call, expression, right_side};
 use crate::lower::state::State;
+use crate::lower::variable::{Variable, variable_named};
 use crate::scopes::Scopes;
-use crate::table::{Called, Table};
-use c_tree::syntax_tree::{ExprTree, Named, SimpleTree};
+use crate::table::{Called, FileScope};
+use c_tree::syntax_tree::{ExprTree, SimpleTree};
 use c_tree::tree::{Expr, Op, Stmt};
 use std::alloc::{AllocError, Global};
 
@@ -41,68 +43,68 @@ pub fn boxed(alloc: Global, made: Stmt) -> Result<Box<Stmt>, AllocError>
 
 /// A conditional statement.
 pub fn if_else(
-    table: &Table<'_>,
+    file: &FileScope<'_, '_>,
     state: &State<'_>,
     test: &ExprTree,
     then: Box<Stmt>,
     other: Box<Stmt>,
 ) -> Result<Box<Stmt>, AllocError>
-    requires { length (procedures_in table.now.items.now) ≤ MAX_PROCEDURES }
+    requires { IsWithinLimits (file_scope file.now) }
     ensures { IfOk result (λ made. statement_of made.value
-        ≡ if_else (lowered (procedures_in table.now.items.now)
+        ≡ if_else (lowered (file_scope file.now)
         (scopes_of state.now.scopes) (tree_of test.now)) (statement_of then.value) (statement_of
         other.value)) }
 {
-    let test = expression(state.alloc, table, &state.scopes, test)?;
+    let test = expression(state.alloc, file, &state.scopes, test)?;
     boxed(state.alloc, Stmt::If(test, then, other))
 }
 
 /// A conditional statement without an `else`.
 pub fn if_then(
-    table: &Table<'_>,
+    file: &FileScope<'_, '_>,
     state: &State<'_>,
     test: &ExprTree,
     then: Box<Stmt>,
 ) -> Result<Box<Stmt>, AllocError>
-    requires { length (procedures_in table.now.items.now) ≤ MAX_PROCEDURES }
+    requires { IsWithinLimits (file_scope file.now) }
     ensures { IfOk result (λ made. statement_of made.value
-        ≡ if_else (lowered (procedures_in table.now.items.now)
+        ≡ if_else (lowered (file_scope file.now)
         (scopes_of state.now.scopes) (tree_of test.now)) (statement_of then.value) nothing) }
 {
     let other = boxed(state.alloc, nothing(state.alloc))?;
-    if_else(table, state, test, then, other)
+    if_else(file, state, test, then, other)
 }
 
 /// A loop that tests before its body.
 pub fn while_loop(
-    table: &Table<'_>,
+    file: &FileScope<'_, '_>,
     state: &State<'_>,
     test: &ExprTree,
     body: Box<Stmt>,
 ) -> Result<Box<Stmt>, AllocError>
-    requires { length (procedures_in table.now.items.now) ≤ MAX_PROCEDURES }
+    requires { IsWithinLimits (file_scope file.now) }
     ensures { IfOk result (λ made. statement_of made.value
-        ≡ loop (lowered (procedures_in table.now.items.now)
+        ≡ loop (lowered (file_scope file.now)
         (scopes_of state.now.scopes) (tree_of test.now)) nothing (statement_of body.value)) }
 {
     let step = boxed(state.alloc, nothing(state.alloc))?;
-    let test = expression(state.alloc, table, &state.scopes, test)?;
+    let test = expression(state.alloc, file, &state.scopes, test)?;
     boxed(state.alloc, Stmt::Loop { test, step, body })
 }
 
 /// A loop that tests behind its body.
 pub fn do_while(
-    table: &Table<'_>,
+    file: &FileScope<'_, '_>,
     state: &State<'_>,
     body: Box<Stmt>,
     test: &ExprTree,
 ) -> Result<Box<Stmt>, AllocError>
-    requires { length (procedures_in table.now.items.now) ≤ MAX_PROCEDURES }
+    requires { IsWithinLimits (file_scope file.now) }
     ensures { IfOk result (λ made. statement_of made.value ≡ do_while (statement_of body.value)
-        (lowered (procedures_in table.now.items.now)
+        (lowered (file_scope file.now)
         (scopes_of state.now.scopes) (tree_of test.now))) }
 {
-    let test = expression(state.alloc, table, &state.scopes, test)?;
+    let test = expression(state.alloc, file, &state.scopes, test)?;
     boxed(state.alloc, Stmt::DoWhile(body, test))
 }
 
@@ -148,68 +150,51 @@ fn called_statement(called: Called, id: u32, values: Vec<Expr>) -> Stmt
     }
 }
 
-/// A set of what a name means.
-fn set(scopes: &Scopes<'_>, named: &Named, value: Expr) -> Stmt
-    ensures { statement_of result ≡ set (slot (scopes_of scopes.now) (identifier_of named.now))
-        (expression_of value) }
+/// A change of a variable by an operation.
+fn change(alloc: Global, variable: Variable, op: Op, value: Expr) -> Result<Stmt, AllocError>
+    ensures { IfOk result (λ made. statement_of made ≡ changed (place_of variable) op
+        (expression_of value)) }
 {
-    let slot = scopes.slot_of(named.name.as_str()).unwrap_or(0);
-    Stmt::Set(slot, value)
-}
-
-/// A change of what a name means by an operation.
-fn change(
-    alloc: Global,
-    scopes: &Scopes<'_>,
-    op: Op,
-    named: &Named,
-    value: Expr,
-) -> Result<Stmt, AllocError>
-    ensures { IfOk result
-        (λ made. statement_of made ≡ set (slot (scopes_of scopes.now) (identifier_of named.now))
-        (binary op (read (slot (scopes_of scopes.now) (identifier_of named.now)))
-        (expression_of value))) }
-{
-    let slot = scopes.slot_of(named.name.as_str()).unwrap_or(0);
     let right = expressions::boxed(alloc, value)?;
-    let left = expressions::boxed(alloc, Expr::Read(slot))?;
-    Ok(Stmt::Set(slot, Expr::Binary(op, left, right)))
+    let left = expressions::boxed(alloc, variable.read())?;
+    Ok(variable.set(Expr::Binary(op, left, right)))
 }
 
 /// A simple statement; so many assertions stand before it.
 pub fn simple(
     alloc: Global,
-    table: &Table<'_>,
+    file: &FileScope<'_, '_>,
     scopes: &Scopes<'_>,
     id: u32,
     tree: &SimpleTree,
 ) -> Result<Stmt, AllocError>
-    requires { length (procedures_in table.now.items.now) ≤ MAX_PROCEDURES }
+    requires { IsWithinLimits (file_scope file.now) }
     ensures { IfOk result
-        (λ made. statement_of made ≡ lowered_simple (procedures_in table.now.items.now)
+        (λ made. statement_of made ≡ lowered_simple (file_scope file.now)
         (scopes_of scopes.now) id
         (simple_of tree.now)) }
 {
     match tree {
         SimpleTree::Set(named, value) => {
-            let value = expression(alloc, table, scopes, value)?;
-            Ok(set(scopes, named, value))
+            let value = expression(alloc, file, scopes, value)?;
+            Ok(variable_named(file, scopes, named).set(value))
         }
         SimpleTree::Change(op, _, named, value) => {
-            let value = expression(alloc, table, scopes, value)?;
-            change(alloc, scopes, *op, named, value)
+            let value = expression(alloc, file, scopes, value)?;
+            let variable = variable_named(file, scopes, named);
+            change(alloc, variable, *op, right_side(*op, value))
         }
-        SimpleTree::AddOne(named) => change(alloc, scopes, Op::Add, named, Expr::Literal(1)),
-        SimpleTree::SubtractOne(named) => change(
-            alloc,
-            scopes,
-            Op::Subtract,
-            named,
-            Expr::Literal(1),
-        ),
+        SimpleTree::AddOne(named) => {
+            let variable = variable_named(file, scopes, named);
+            change(alloc, variable, Op::Add, Expr::Literal(1))
+        }
+        SimpleTree::SubtractOne(named) => {
+            let variable = variable_named(file, scopes, named);
+            change(alloc, variable, Op::Subtract, Expr::Literal(1))
+        }
         SimpleTree::Call(named, values) => {
-            let values = arguments(alloc, table, scopes, values)?;
-            let called = table.callee_of(named.name.as_str());
+            let values = arguments(alloc, file, scopes, values)?;
+            let called = file.callee_of(named.name.as_str());
             Ok(called_statement(called, id, values))
         }
     }

@@ -1,4 +1,4 @@
-use Rattle.std.proofs.Common.{◌≡◌, ◌∙◌, ap, sym, None, map, codes, inl, arith, rules}
+use Rattle.std.proofs.Common.{◌≡◌, ◌∙◌, ap, sym, None, map, codes, inl, rules}
 use Rattle.c_tree.specs.FileView.{file_of, item_of}
 use Rattle.c_typing.specs.declared.fault.TypeError.TheVariants.{Refused}
 use Rattle.c_typing.specs.declared.fault.TypeFault.TheVariants.{NoMain}
@@ -10,9 +10,9 @@ use Rattle.c_typing.specs.steps.Tables.{best_of, procedures_in, is_defined}
 use Rattle.c_tree.specs.View.{program_from}
 use Rattle.c_typing.proofs.Least.{least-none}
 use Rattle.c_typing.proofs.Formed.{faultless_keeps}
-use Rattle.c_typing.proofs.Quieting.{procedures_fit}
+use Rattle.c_typing.proofs.Quieting.{file_fits}
 use Rattle.c_typing.proofs.Lowered.{main_small}
-use Rattle.c_typing.proofs.Programmed.{whole, whole_formed, made_program}
+use Rattle.c_typing.proofs.Programmed.{whole, whole_formed, whole_divides, made_program}
 use Rattle.c_typing.proofs.Checked.{fault_told, fault_only, fault_no_program, told_as, lacks_main, lacks_only, lacks_program, defines_main, main_first}
 use Rattle.c_typing.proofs.check.check_types.Goals as goal
 
@@ -67,12 +67,15 @@ parts-requires-clause-few c =
     let is = map item_of c.in_ok-table.table.items.now in
     (faultless_keeps is (least-none (all_faults is) (sym c.in_ok-notes.ensures.best ∙ ap best_of c.in_default.is))).few_procedures
 
+pub parts-requires-clause-few_globals : goal.parts-requires-clause-few_globals
+parts-requires-clause-few_globals c =
+    let is = map item_of c.in_ok-table.table.items.now in
+    (faultless_keeps is (least-none (all_faults is) (sym c.in_ok-notes.ensures.best ∙ ap best_of c.in_default.is))).few_globals
+
 pub parts-requires-clause-fits : goal.parts-requires-clause-fits
 parts-requires-clause-fits c =
     let is = map item_of c.in_ok-table.table.items.now in
-    let keeps = faultless_keeps is (least-none (all_faults is) (sym c.in_ok-notes.ensures.best ∙ ap best_of c.in_default.is)) in
-    let few = keeps.few_asserts in
-    procedures_fit (procedures_of is) (procedures_of is) 0 keeps.each (omega arith)
+    file_fits is (least-none (all_faults is) (sym c.in_ok-notes.ensures.best ∙ ap best_of c.in_default.is))
 
 pub overflow_cast-main : goal.overflow_cast-main
 overflow_cast-main c =
@@ -89,8 +92,10 @@ new-requires-2 c =
     let faultless = least-none (all_faults is) (sym c.in_ok-notes.ensures.best ∙ ap best_of c.in_default.is) in
     let main = defines_main is (sym c.is_defined.ensures ∙ c.if-not-is_defined.false) in
     let same = whole r c.in_ok-made.made.procedures.items c.number_of-main.result c.in_ok-made.made.places.items
-    c.in_ok-made.ensures.procedures c.number_of-main.ensures c.in_ok-made.ensures.places in
-    whole_formed r (program_from c.in_ok-made.made.procedures.items c.number_of-main.result c.in_ok-made.made.places.items) same faultless
+    c.in_ok-globals.globals.items
+    c.in_ok-made.ensures.procedures c.number_of-main.ensures c.in_ok-made.ensures.places c.in_ok-globals.ensures in
+    whole_formed r (program_from c.in_ok-made.made.procedures.items c.number_of-main.result c.in_ok-made.made.places.items
+    c.in_ok-globals.globals.items) same faultless
     main
 
 pub returns-clause-ok : goal.returns-clause-ok
@@ -100,15 +105,16 @@ returns-clause-ok c =
     let least = ap (λ x. least_from None (all_faults (map item_of x))) (sym (c.in_ok-table.ensures ∙ c.deref.ensures.value))
     ∙ sym c.in_ok-notes.ensures.best ∙ ap best_of c.in_default.is in
     let same = whole r c.in_ok-made.made.procedures.items c.number_of-main.result c.in_ok-made.made.places.items
-    c.in_ok-made.ensures.procedures c.number_of-main.ensures c.in_ok-made.ensures.places in
+    c.in_ok-globals.globals.items
+    c.in_ok-made.ensures.procedures c.number_of-main.ensures c.in_ok-made.ensures.places c.in_ok-globals.ensures in
     record {
       faultless = least-none (all_faults (map item_of items)) least;
       main = defines_main (map item_of items) (ap (λ x. is_defined (defined_from 0 (procedures_in x) (codes "main")))
           (sym (c.in_ok-table.ensures ∙ c.deref.ensures.value)) ∙ sym c.is_defined.ensures ∙ c.if-not-is_defined.false);
       lowered = made_program items r c.new-2.result.procedures.items c.in_ok-made.made.procedures.items c.new-2.result.main
-          c.number_of-main.result c.new-2.result.asserts.items c.in_ok-made.made.places.items
-          (c.in_ok-table.ensures ∙ c.deref.ensures.value)
-          c.new-2.ensures.procedures c.new-2.ensures.main c.new-2.ensures.asserts same;
+          c.number_of-main.result c.new-2.result.asserts.items c.in_ok-made.made.places.items c.new-2.result.globals.items
+          c.in_ok-globals.globals.items (c.in_ok-table.ensures ∙ c.deref.ensures.value)
+          c.new-2.ensures.procedures c.new-2.ensures.main c.new-2.ensures.asserts c.new-2.ensures.globals same;
     }
 
 pub returns-clause-only : goal.returns-clause-only
@@ -116,10 +122,12 @@ returns-clause-only c P h =
     let r = c.in_ok-table.table.items.now in
     let items = c.args.tree.now.items.items in
     let same = whole r c.in_ok-made.made.procedures.items c.number_of-main.result c.in_ok-made.made.places.items
-    c.in_ok-made.ensures.procedures c.number_of-main.ensures c.in_ok-made.ensures.places in
+    c.in_ok-globals.globals.items
+    c.in_ok-made.ensures.procedures c.number_of-main.ensures c.in_ok-made.ensures.places c.in_ok-globals.ensures in
     made_program items r c.new-2.result.procedures.items c.in_ok-made.made.procedures.items c.new-2.result.main c.number_of-main.result
-    c.new-2.result.asserts.items c.in_ok-made.made.places.items (c.in_ok-table.ensures ∙ c.deref.ensures.value) c.new-2.ensures.procedures
-    c.new-2.ensures.main c.new-2.ensures.asserts same ∙ sym h.lowered
+    c.new-2.result.asserts.items c.in_ok-made.made.places.items c.new-2.result.globals.items c.in_ok-globals.globals.items
+    (c.in_ok-table.ensures ∙ c.deref.ensures.value) c.new-2.ensures.procedures
+    c.new-2.ensures.main c.new-2.ensures.asserts c.new-2.ensures.globals same ∙ sym h.lowered
 
 pub returns-clause-if_fault : goal.returns-clause-if_fault
 returns-clause-if_fault c f p h =
@@ -129,3 +137,19 @@ returns-clause-if_fault c f p h =
     let main = defines_main (map item_of items) (ap (λ x. is_defined (defined_from 0 (procedures_in x) (codes "main")))
     (sym (c.in_ok-table.ensures ∙ c.deref.ensures.value)) ∙ sym c.is_defined.ensures ∙ c.if-not-is_defined.false) in
     main_first (map item_of items) f p least main h
+
+pub returns-clause-divisors : goal.returns-clause-divisors
+returns-clause-divisors c =
+    let r = c.in_ok-table.table.items.now in
+    let items = c.args.tree.now.items.items in
+    let least = ap (λ x. least_from None (all_faults (map item_of x))) (sym (c.in_ok-table.ensures ∙ c.deref.ensures.value))
+    ∙ sym c.in_ok-notes.ensures.best ∙ ap best_of c.in_default.is in
+    let same = whole r c.in_ok-made.made.procedures.items c.number_of-main.result c.in_ok-made.made.places.items
+    c.in_ok-globals.globals.items
+    c.in_ok-made.ensures.procedures c.number_of-main.ensures c.in_ok-made.ensures.places c.in_ok-globals.ensures in
+    whole_divides items _
+    (made_program items r c.new-2.result.procedures.items c.in_ok-made.made.procedures.items c.new-2.result.main
+    c.number_of-main.result c.new-2.result.asserts.items c.in_ok-made.made.places.items c.new-2.result.globals.items
+    c.in_ok-globals.globals.items (c.in_ok-table.ensures ∙ c.deref.ensures.value)
+    c.new-2.ensures.procedures c.new-2.ensures.main c.new-2.ensures.asserts c.new-2.ensures.globals same)
+    (least-none (all_faults (map item_of items)) least)

@@ -13,12 +13,14 @@ loop-tree-init c = built_from c.args.table.now.items.now c.args.asserts.now (map
 
 pub item-requires : goal.item-requires
 item-requires c =
-    let n = next_item (procedures_in c.args.table.now.items.now) c.args.asserts.now c.args.table.now.items.now c.loop-tree.tree-index
-    c.tree-item.result c.loop-tree.id (map procedure_of c.loop-tree.procedures.items) c.loop-tree.places.items c.requires.few
-    c.loop-tree-test.true c.tree-item.is c.loop-tree.invariant in
+    let n = next_item c.args.table.now.items.now c.args.asserts.now c.loop-tree.tree-index
+    c.tree-item.result c.loop-tree.before.asserts c.loop-tree.before.globals (map procedure_of c.loop-tree.procedures.items)
+    c.loop-tree.places.items c.requires.few c.loop-tree-test.true c.tree-item.is c.loop-tree.invariant in
     record {
       few = c.requires.few;
+      few_globals = c.requires.few_globals;
       fits = n.fits;
+      globals = (let g = n.globals in let few = c.requires.few_globals in omega arith);
       room = (let r = n.room in omega (arith, length-map c.loop-tree.procedures.items procedure_of));
       within = n.within;
       own = n.own;
@@ -33,17 +35,18 @@ loop-tree-preserved c =
     (sym (length-map old procedure_of)) in
     let count : length (map procedure_of new) ≡ length (map procedure_of old) + length (procedures_in (c.tree-item.result ∷ [])) = omega
     (arith, length-map old procedure_of, length-map new procedure_of, more.count) in
-    built_item (procedures_in c.args.table.now.items.now) c.args.asserts.now c.args.table.now.items.now c.loop-tree.tree-index
-    c.tree-item.result c.loop-tree.id c.item.new.id (map procedure_of old) (map procedure_of new) c.loop-tree.places.items
+    built_item c.args.table.now.items.now c.args.asserts.now c.loop-tree.tree-index
+    c.tree-item.result c.loop-tree.before.asserts c.item.new.before.asserts c.loop-tree.before.globals c.item.new.before.globals
+    (map procedure_of old) (map procedure_of new) c.loop-tree.places.items
     c.item.new.places.items c.loop-tree-test.true c.tree-item.is
-    c.loop-tree.invariant more.procedures places more.id count
+    c.loop-tree.invariant more.procedures places more.asserts more.globals count
 
 pub returns-clause-procedures : goal.returns-clause-procedures
-returns-clause-procedures c = (built_end (procedures_in c.args.table.now.items.now) c.args.asserts.now c.args.table.now.items.now
-    c.loop-tree.tree-index c.loop-tree.id (map procedure_of c.loop-tree.procedures.items) c.loop-tree.places.items (omega arith)
-    c.loop-tree.invariant).0
+returns-clause-procedures c = (built_end c.args.table.now.items.now c.args.asserts.now
+    c.loop-tree.tree-index c.loop-tree.before.asserts c.loop-tree.before.globals (map procedure_of c.loop-tree.procedures.items)
+    c.loop-tree.places.items (omega arith) c.loop-tree.invariant).0
 
 pub returns-clause-places : goal.returns-clause-places
-returns-clause-places c = (built_end (procedures_in c.args.table.now.items.now) c.args.asserts.now c.args.table.now.items.now
-    c.loop-tree.tree-index c.loop-tree.id (map procedure_of c.loop-tree.procedures.items) c.loop-tree.places.items (omega arith)
-    c.loop-tree.invariant).1
+returns-clause-places c = (built_end c.args.table.now.items.now c.args.asserts.now
+    c.loop-tree.tree-index c.loop-tree.before.asserts c.loop-tree.before.globals (map procedure_of c.loop-tree.procedures.items)
+    c.loop-tree.places.items (omega arith) c.loop-tree.invariant).1

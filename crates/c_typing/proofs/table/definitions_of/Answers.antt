@@ -8,8 +8,8 @@ use Rattle.c_typing.specs.Scope.{defined_from}
 use Rattle.c_typing.specs.steps.Meanings.{found_in}
 use Rattle.c_typing.specs.steps.Tables.{procedures_in}
 use Rattle.c_typing.proofs.Defined.{found_or, found_end, proc_turn, plain_turn}
-use Rattle.c_typing.proofs.table.Table.new.Goals.{in-Proc+in_ok-add, in_default}
-use Rattle.c_typing.proofs.table.Table.new.Goals as goal
+use Rattle.c_typing.proofs.table.definitions_of.Goals.{in-Proc+in_ok-add, in_default}
+use Rattle.c_typing.proofs.table.definitions_of.Goals as goal
 
 pub loop-item-init : goal.loop-item-init
 loop-item-init c = record {
@@ -41,8 +41,6 @@ loop-item-preserved c =
 pub overflow_add-number : goal.overflow_add-number
 overflow_add-number c = let few = c.loop-item.invariant.few in search (rules, few)
 
-pub invariant_of-result : goal.invariant_of-result
-invariant_of-result c = record {
-  linked = λ x. found_end (found_in c.loop-item.definitions x) x c.loop-item.number c.args.items.now c.loop-item.item-index _
-      (drop_of_length-le c.args.items.now (omega arith)) (c.loop-item.invariant.rest x);
-}
+pub returns : goal.returns
+returns c = λ x. found_end (found_in c.loop-item.definitions x) x c.loop-item.number c.args.items.now c.loop-item.item-index _
+    (drop_of_length-le c.args.items.now (omega arith)) (c.loop-item.invariant.rest x)

@@ -3,7 +3,7 @@ use Rattle.c_typing.specs.Scope.{defined_from}
 use Rattle.c_typing.specs.steps.Meanings.{found_in}
 use Rattle.c_typing.specs.steps.Tables.{procedures_in}
 use Rattle.c_typing.proofs.Defined.{found_or}
-use Rattle.c_typing.proofs.table.Table.new.Given as goal
+use Rattle.c_typing.proofs.table.definitions_of.Given as goal
 
 abbrev pub invariant-loop-item : goal.invariant-loop-item
 invariant-loop-item l = record {
