@@ -1,5 +1,5 @@
 -- Each result of a machine after a step is one before it.
-use Rattle.std.proofs.Common.{◌≡◌, ℕ, zero, suc, ◌+◌, ◌-◌, ◌<◌, ◌≤◌, List, [], ◌∷◌, ◌++◌, length, take, drop, get_or, Bool, true, false, cond, ◌==◌, ◌&&◌, not as not_bool, Option, Some, None, ℤ, pos, neg_ℤ, IsTrue, refl, sym, ap, ◌∙◌, subst, arith, append_assoc, append-nil}
+use Rattle.std.proofs.Common.{int_div, ◌≡◌, ℕ, zero, suc, ◌+◌, ◌-◌, ◌<◌, ◌≤◌, List, [], ◌∷◌, ◌++◌, length, take, drop, get_or, Bool, true, false, cond, ◌==◌, ◌&&◌, not as not_bool, Option, Some, None, ℤ, pos, neg_ℤ, IsTrue, refl, sym, ap, ◌∙◌, subst, arith, append_assoc, append-nil}
 use Rattle.std.proofs.lemmas.Bool.{eqb-true}
 use Rattle.std.specs.Prelude.{nat_lt, if◌then◌else◌}
 use Rattle.std.proofs.Math.Seq.{drop-cons}
@@ -16,10 +16,11 @@ use Rattle.run_replay.specs.steps.Machine.{enters_procedure}
 use Rattle.std.specs.Prelude.{slice_get, ◌+ℤ◌, ◌-ℤ◌, ◌*ℤ◌}
 use Rattle.std.proofs.Math.Path.{fun_ext}
 use Rattle.c_tree.specs.declared.tree.Op.{Op}
-use Rattle.c_tree.specs.declared.tree.Op.TheVariants.{Add, Subtract, Multiply, Less, LessEqual, Greater, GreaterEqual, Equal, Unequal, And, Or}
-use Rattle.c_tree.specs.Syntax.{Expression, literal, read, input, call, negate, not, binary, Expressions, no_expressions, expression, Statement, block, set, ignore, assume, assert, if_else, loop, do_while, break, continue, return, Statements, no_statements, statement, PureProcedure, PureProgram}
-use Rattle.c_tree.specs.Meaning.{State, with_slot, World, Progress, goes, ends, Flow, normal, broken, continued, returned, stopped, failed, starved, spent, Relation, Gives, Ends, Then, Counted, Choice, is_value, ExactOrStopped, is_zero, bit, decided, Applied, RightSide, TakesInput, AfterNormal, AfterBody, UnlessZero, Eval, Evals, Exec, Execs, Returns, entered, returned_value, Enters, Comes, Starved, Fuel, Stopped, Failed}
-use Rattle.run_replay.specs.steps.Machine.{Waiting, to_negate, to_invert, left_of, right_of, next_argument, to_set, to_ignore, to_assume, to_assert, to_return, to_choose, to_test, to_test_again, rest_of, body_of, step_of, turn_of, back_to, Exit, normally, by_break, by_continue, by_return, Control, begins, gives_value, runs, leaves, over, Snapshot, Moment, world, with_wait, counted, stored, applied, value_or_stop, enters, goes_through, begun, turned, ran, decides, given, valued, goes_on, after_normal, loop_exit, after_body, value_of, back, left, past_rests, without_rests, reached, exited, stepped}
+use Rattle.c_tree.specs.declared.tree.Op.TheVariants.{Add, Subtract, Multiply, Divide, Remainder, Less, LessEqual, Greater, GreaterEqual, Equal, Unequal, And, Or}
+use Rattle.c_tree.specs.Syntax.{Expression, literal, read, read_global, input, call, negate, not, binary, Expressions, no_expressions, expression, Statement, block, set, set_global, ignore, assume, assert, if_else, loop, do_while, break, continue, return, Statements, no_statements, statement, PureProcedure, PureProgram}
+use Rattle.c_tree.specs.Operators.{exact}
+use Rattle.c_tree.specs.Meaning.{State, with_slot, World, Progress, goes, ends, Flow, normal, broken, continued, returned, stopped, failed, starved, spent, Relation, Gives, Ends, Then, Counted, Choice, is_value, has_quotient, ReadsGlobal, SetsGlobal, ExactOrStopped, is_zero, bit, decided, Applied, RightSide, TakesInput, AfterNormal, AfterBody, UnlessZero, Eval, Evals, Exec, Execs, Returns, entered, returned_value, Enters, Comes, Starved, Fuel, Stopped, Failed}
+use Rattle.run_replay.specs.steps.Machine.{Waiting, to_negate, to_invert, left_of, right_of, next_argument, to_set, to_set_global, to_ignore, to_assume, to_assert, to_return, to_choose, to_test, to_test_again, rest_of, body_of, step_of, turn_of, back_to, Exit, normally, by_break, by_continue, by_return, Control, begins, gives_value, runs, leaves, over, Snapshot, Moment, world, with_wait, counted, stored, applied, value_or_stop, enters, goes_through, begun, turned, ran, decides, given, valued, goes_on, after_normal, loop_exit, after_body, value_of, back, left, past_rests, without_rests, reached, exited, stepped}
 use Rattle.run_replay.specs.steps.Results.{flow_of, AnyRun, Loops, LoopsAgain, AfterStep, AfterTurn, AfterTest, AfterTestAgain, TestsAgain, Resume, Leave, Results}
 use Rattle.run_replay.specs.steps.Standing.{IsSound, TakesValue, TakesExit, TakesValues, StepsOnValues, Stands, HasParameters}
 use Rattle.run_replay.proofs.Reached.{reached_takes}
@@ -63,6 +64,7 @@ called P slots p es h =
 pub still_takes : (e : Expression) (m : Snapshot) (n : ℕ) → TakesValues e m → TakesValues e (record m { steps_left = n })
 still_takes (literal x) m n h = h
 still_takes (read x) m n h = h
+still_takes (read_global x) m n h = h
 still_takes input m n h = h
 still_takes (call p es) m n h = h
 still_takes (negate e) m n h = h
@@ -72,6 +74,7 @@ still_takes (binary op a b) m n h = h
 pub took : (e : Expression) (m : Snapshot) (n : ℕ) → TakesValues e (record m { steps_left = n }) → TakesValues e m
 took (literal x) m n h = h
 took (read x) m n h = h
+took (read_global x) m n h = h
 took input m n h = h
 took (call p es) m n h = h
 took (negate e) m n h = h
@@ -89,22 +92,28 @@ module _ (P : PureProgram) where
   Resuming m s = Resume P m.waits m.arguments m.under s
 
   counted_at : {A : Type 0} (Q : Relation A) (R : A → Relation ℤ) (F : Snapshot → Moment) (m : Snapshot) (l : ℕ) (o : Progress ℤ) →
-      (0 < l → ResultsOf (F (record m { steps_left = l - 1 })) o → Then Q R (record { inputs = drop m.used m.inputs; steps_left = l - 1 })
+      (0 < l → ResultsOf (F (record m { steps_left = l - 1 })) o →
+      Then Q R (record { inputs = drop m.used m.inputs; globals = entered m.globals; steps_left = l - 1 })
       o) →
       ResultsOf (counted (record m { steps_left = l }) F) o →
-      Then (Counted true Q) R (record { inputs = drop m.used m.inputs; steps_left = l })
+      Then (Counted true Q) R (record { inputs = drop m.used m.inputs; globals = entered m.globals; steps_left = l })
       o
-  counted_at Q R F m zero o f h = (ends (record { inputs = drop m.used m.inputs; steps_left = 0 }) spent, refl, h)
+  counted_at Q R F m zero o f h = (
+    ends (record { inputs = drop m.used m.inputs; globals = entered m.globals; steps_left = 0 }) spent,
+    refl,
+    h,
+  )
   counted_at Q R F m (suc n) o f h =
       let e : suc n - 1 ≡ n = omega arith in
       let g = subst (λ b. ResultsOf (cond b (over Fuel, record m { steps_left = suc n }) (F (record m { steps_left = suc n - 1 }))) o)
       (eqb-suc-zero n) h in
-      subst (λ k. Then Q R (record { inputs = drop m.used m.inputs; steps_left = k }) o) e (f (omega arith) g)
+      subst (λ k. Then Q R (record { inputs = drop m.used m.inputs; globals = entered m.globals; steps_left = k }) o) e (f (omega arith) g)
 
   -- where a step is counted
   pub counted_keeps : {A : Type 0} (Q : Relation A) (R : A → Relation ℤ) (F : Snapshot → Moment) (m : Snapshot) (o : Progress ℤ) →
       (0 < m.steps_left → ResultsOf (F (record m { steps_left = m.steps_left - 1 })) o →
-      Then Q R (record { inputs = drop m.used m.inputs; steps_left = m.steps_left - 1 }) o) → ResultsOf (counted m F) o →
+      Then Q R (record { inputs = drop m.used m.inputs; globals = entered m.globals; steps_left = m.steps_left - 1 }) o) →
+      ResultsOf (counted m F) o →
       Then (Counted true Q) R (world m) o
   counted_keeps Q R F m o f h = counted_at Q R F m m.steps_left o f h
 
@@ -113,11 +122,21 @@ module _ (P : PureProgram) where
   choice_stop true z m o h = (goes (world m) z, refl, h)
   choice_stop false z m o h = (ends (world m) stopped, refl, h)
 
+  divided_keeps : (b : Bool) (u : Option ℤ) (Q : Relation ℤ) (m : Snapshot) (o : Progress ℤ) →
+      (ResultsOf (value_or_stop u, m) o → Then Q (Resuming m (entered m.frame)) (world m) o) →
+      ResultsOf (value_or_stop (cond b u None), m) o → Then (Choice b Q (Ends stopped)) (Resuming m (entered m.frame)) (world m) o
+  divided_keeps true u Q m o f h = f h
+  divided_keeps false u Q m o f h = (ends (world m) stopped, refl, h)
+
   applied_keeps : (op : Op) (x y : ℤ) (m : Snapshot) (o : Progress ℤ) → ResultsOf (value_or_stop (applied op x y), m) o →
       Then (Applied op x y) (Resuming m (entered m.frame)) (world m) o
   applied_keeps Add x y m o h = choice_stop (is_value (x +ℤ y)) (x +ℤ y) m o h
   applied_keeps Subtract x y m o h = choice_stop (is_value (x -ℤ y)) (x -ℤ y) m o h
   applied_keeps Multiply x y m o h = choice_stop (is_value (x *ℤ y)) (x *ℤ y) m o h
+  applied_keeps Divide x y m o h = divided_keeps (has_quotient x y) (exact (int_div x y)) (ExactOrStopped (int_div x y)) m o
+      (choice_stop (is_value (int_div x y)) (int_div x y) m o) h
+  applied_keeps Remainder x y m o h = divided_keeps (has_quotient x y) (Some (x -ℤ y *ℤ int_div x y)) (Gives (x -ℤ y *ℤ int_div x y)) m o
+      (λ k. (goes (world m) _, refl, k)) h
   applied_keeps Less x y m o h = (goes (world m) _, refl, h)
   applied_keeps LessEqual x y m o h = (goes (world m) _, refl, h)
   applied_keeps Greater x y m o h = (goes (world m) _, refl, h)
@@ -251,6 +270,7 @@ module _ (P : PureProgram) where
   left_keeps f (right_of op x) m o k h = absurd k
   left_keeps f (next_argument p es) m o k h = absurd k
   left_keeps f (to_set x) m o k h = absurd k
+  left_keeps f (to_set_global x) m o k h = absurd k
   left_keeps f to_ignore m o k h = absurd k
   left_keeps f to_assume m o k h = absurd k
   left_keeps f (to_assert id) m o k h = absurd k
@@ -276,6 +296,7 @@ module _ (P : PureProgram) where
   past_keeps f g (right_of op x ∷ k) args under w o h = h
   past_keeps f g (next_argument p es ∷ k) args under w o h = h
   past_keeps f g (to_set x ∷ k) args under w o h = h
+  past_keeps f g (to_set_global x ∷ k) args under w o h = h
   past_keeps f g (to_ignore ∷ k) args under w o h = h
   past_keeps f g (to_assume ∷ k) args under w o h = h
   past_keeps f g (to_assert id ∷ k) args under w o h = h
@@ -419,6 +440,8 @@ module _ (P : PureProgram) where
   given_keeps v (next_argument p es) m o k h = argument_keeps p es v m o k.0 h
   given_keeps v (to_set x) m o k h =
       subst (λ s. Leaving m (normal s) (world m) o) (stored_is m.frame x v) h
+  given_keeps v (to_set_global y) m o k h =
+      subst (λ g. Leaving m (normal (entered m.frame)) (record (world m) { globals = g }) o) (stored_is m.globals y v) h
   given_keeps v to_ignore m o k h = h
   given_keeps v to_assume m o k h = assume_keeps (is_zero v) m o h
   given_keeps v (to_assert id) m o k h = assert_keeps (is_zero v) id m o h
@@ -441,6 +464,7 @@ module _ (P : PureProgram) where
   abbrev Statement_work : Statement → State → Relation Flow
   Statement_work (block ss) s = Execs true (AnyRun P) ss s
   Statement_work (set x e) s = Then (Eval true (AnyRun P) e s) (λ v. Gives (normal (with_slot s x v)))
+  Statement_work (set_global y e) s = Then (Eval true (AnyRun P) e s) (λ v. SetsGlobal y v s)
   Statement_work (ignore e) s = Then (Eval true (AnyRun P) e s) (λ v. Gives (normal s))
   Statement_work (assume e) s = Then (Eval true (AnyRun P) e s) (UnlessZero stopped s)
   Statement_work (assert id e) s = Then (Eval true (AnyRun P) e s) (UnlessZero (failed id) s)
@@ -456,6 +480,7 @@ module _ (P : PureProgram) where
       Exec true (AnyRun P) a s w r
   counted_work (block ss) s w r h = h
   counted_work (set x e) s w r h = h
+  counted_work (set_global x e) s w r h = h
   counted_work (ignore e) s w r h = h
   counted_work (assume e) s w r h = h
   counted_work (assert id e) s w r h = h
@@ -472,6 +497,11 @@ module _ (P : PureProgram) where
   ran_keeps (block ss) m o h = goes_on_keeps ss m o h
   ran_keeps (set x e) m o h =
       then_gives (Eval true (AnyRun P) e (entered m.frame)) (λ v. normal (with_slot (entered m.frame) x v)) (Leaving m) (world m) o h
+  ran_keeps (set_global y e) m o h =
+      then_assoc (Eval true (AnyRun P) e (entered m.frame)) (λ v. SetsGlobal y v (entered m.frame)) (Leaving m) (world m) o
+      (inside_then (Eval true (AnyRun P) e (entered m.frame)) (Resume P (to_set_global y ∷ m.waits) m.arguments m.under (entered m.frame))
+      (λ v. Then (SetsGlobal y v (entered m.frame)) (Leaving m)) (world m) o
+      (λ v w1 k. (goes (record w1 { globals = with_slot w1.globals y v }) (normal (entered m.frame)), refl, k)) h)
   ran_keeps (ignore e) m o h =
       then_gives (Eval true (AnyRun P) e (entered m.frame)) (λ v. normal (entered m.frame)) (Leaving m) (world m) o h
   ran_keeps (assume e) m o h =
@@ -493,6 +523,7 @@ module _ (P : PureProgram) where
   abbrev Expression_work : Expression → State → Relation ℤ
   Expression_work (literal n) s = Gives n
   Expression_work (read x) s = Gives (s x)
+  Expression_work (read_global y) s = ReadsGlobal y
   Expression_work input s = λ w o. TakesInput w.inputs w o
   Expression_work (call p es) s = Then (Evals true (AnyRun P) es s) (AnyRun P p)
   Expression_work (negate e) s = Then (Eval true (AnyRun P) e s) (λ v. ExactOrStopped (neg_ℤ v))
@@ -504,6 +535,7 @@ module _ (P : PureProgram) where
       Eval true (AnyRun P) e s w r
   counted_expression (literal n) s w r h = h
   counted_expression (read x) s w r h = h
+  counted_expression (read_global x) s w r h = h
   counted_expression input s w r h = h
   counted_expression (call p es) s w r h = h
   counted_expression (negate e) s w r h = h
@@ -517,24 +549,27 @@ module _ (P : PureProgram) where
       let v = get_or m.inputs m.used (pos 0) in
       let lt : m.used < length m.inputs = ltb-true _ _ e in
       let R = Resuming m (entered m.frame) in
-      let k = subst (λ n. R v (record { inputs = drop n m.inputs; steps_left = m.steps_left }) o) (add-one m.used) h in
-      subst (λ i. Then (λ w r. TakesInput w.inputs w r) R (record { inputs = i; steps_left = m.steps_left }) o)
+      let k = subst (λ n. R v (record { inputs = drop n m.inputs; globals = entered m.globals; steps_left = m.steps_left }) o)
+      (add-one m.used) h in
+      subst (λ i. Then (λ w r. TakesInput w.inputs w r) R (record { inputs = i; globals = entered m.globals; steps_left = m.steps_left }) o)
       (sym (drop-cons m.inputs m.used (pos 0) lt)) (
-        goes (record { inputs = drop (suc m.used) m.inputs; steps_left = m.steps_left }) v,
+        goes (record { inputs = drop (suc m.used) m.inputs; globals = entered m.globals; steps_left = m.steps_left }) v,
         (a lt, refl),
         k,
       )
   input_keeps false m o e a h =
       let le : length m.inputs ≤ m.used = ltb-false _ _ e in
       let none = drop_all m.used m.inputs le in
-      subst (λ i. o ≡ ends (record { inputs = i; steps_left = m.steps_left }) starved → Then (λ w r. TakesInput w.inputs w r)
-      (Resuming m (entered m.frame)) (record { inputs = i; steps_left = m.steps_left }) o) (sym none) (λ q.
-      (ends (record { inputs = []; steps_left = m.steps_left }) starved, refl, q)) h
+      subst (λ i. o ≡ ends (record { inputs = i; globals = entered m.globals; steps_left = m.steps_left }) starved →
+      Then (λ w r. TakesInput w.inputs w r)
+      (Resuming m (entered m.frame)) (record { inputs = i; globals = entered m.globals; steps_left = m.steps_left }) o) (sym none) (λ q.
+      (ends (record { inputs = []; globals = entered m.globals; steps_left = m.steps_left }) starved, refl, q)) h
 
   begun_keeps : (e : Expression) (m : Snapshot) (o : Progress ℤ) → IsSound P e → TakesValues e m → ResultsOf (begun P e m) o →
       Then (Expression_work e (entered m.frame)) (Resuming m (entered m.frame)) (world m) o
   begun_keeps (literal n) m o s a h = (goes (world m) n, refl, h)
   begun_keeps (read x) m o s a h = (goes (world m) _, refl, h)
+  begun_keeps (read_global x) m o s a h = (goes (world m) _, refl, h)
   begun_keeps input m o s a h = input_keeps (nat_lt m.used (length m.inputs)) m o refl a h
   begun_keeps (call p es) m o s a h =
       let c = called P s.slots p es s.sound in

@@ -4,7 +4,7 @@ use Rattle.std.specs.Prelude.{slice_get}
 use Rattle.std.proofs.lemmas.List.{drop_all, length-drop}
 use Rattle.c_tree.specs.Syntax.{PureProcedure, PureProgram}
 use Rattle.c_tree.specs.WellFormed.{takes, IsWellFormed}
-use Rattle.c_tree.specs.Meaning.{World, Progress, goes, ends, Relation, Gives, Onward, Then, ReplayOutcome, Comes, Starved, Fuel, Returned, Stopped, Failed, replay_of, world_of, Replays}
+use Rattle.c_tree.specs.Meaning.{World, Progress, goes, ends, Relation, Gives, Onward, Then, ReplayOutcome, Comes, Starved, Fuel, Returned, Stopped, Failed, replay_of, world_of, started, Replays}
 use Rattle.run_replay.specs.steps.Machine.{Waiting, Snapshot, Moment, Control, over, world, enters}
 use Rattle.run_replay.specs.steps.Results.{result_of, AnyRun, Results}
 use Rattle.run_replay.specs.steps.Standing.{Stands}
@@ -25,30 +25,41 @@ then_gives_it {A} P w o h = on h.0 h.1 h.2
     on (ends w1 e) p k = subst (P w) (sym k) p
 
 -- before `main` begins
-abbrev pub start : List ℤ → ℕ → Snapshot
-start inputs fuel = record { waits = []; arguments = []; under = []; frame = []; inputs = inputs; used = 0; steps_left = fuel }
+abbrev pub start : (globals inputs : List ℤ) → ℕ → Snapshot
+start globals inputs fuel = record {
+  waits = [];
+  arguments = [];
+  under = [];
+  frame = [];
+  globals = globals;
+  inputs = inputs;
+  used = 0;
+  steps_left = fuel;
+}
 
 main_in : (f : Option PureProcedure) (n : ℕ) → IsTrue (takes f n) → (q : PureProcedure) × (f ≡ Some q)
 main_in None n h = cc
 main_in (Some q) n h = (q, refl)
 
 pub main_keeps : (P : PureProgram) (formed : IsWellFormed P) (inputs : List ℤ) (fuel : ℕ) (o : Progress ℤ) →
-    (let r = enters P P.main (start inputs fuel) in Results P r.0 r.1 (world r.1) o) →
-    AnyRun P P.main [] (record { inputs = inputs; steps_left = fuel }) o
+    (let r = enters P P.main (start P.globals inputs fuel) in Results P r.0 r.1 (world r.1) o) →
+    AnyRun P P.main [] (started P.globals inputs fuel) o
 main_keeps P formed inputs fuel o h =
     let f = main_in (slice_get P.procedures P.main) 0 formed.main_takes_none in
     let n = length {A = ℤ} [] - f.0.params in
     let none : drop {A = ℤ} n [] ≡ [] = drop_all n [] (omega arith) in
-    then_gives_it (AnyRun P P.main []) (record { inputs = inputs; steps_left = fuel }) o
-    (subst (λ args. Then (AnyRun P P.main args) (λ v. Gives v) (record { inputs = inputs; steps_left = fuel }) o) none
-    (enters_keeps P P.main f.0 (start inputs fuel) o f.1 h))
+    then_gives_it (AnyRun P P.main []) (started P.globals inputs fuel) o
+    (subst (λ args. Then (AnyRun P P.main args) (λ v. Gives v) (started P.globals inputs fuel) o) none
+    (enters_keeps P P.main f.0 (start P.globals inputs fuel) o f.1 h))
 
-pub main_stands : (P : PureProgram) (formed : IsWellFormed P) (inputs : List ℤ) (fuel : ℕ) → (let r = enters P P.main (start inputs fuel) in
+pub main_stands : (P : PureProgram) (formed : IsWellFormed P) (inputs : List ℤ) (fuel : ℕ) →
+    (let r = enters P P.main (start P.globals inputs fuel) in
     Stands P r.0 r.1.waits)
-main_stands P formed inputs fuel = enters_stands P formed P.main (slice_get P.procedures P.main) (start inputs fuel) refl tt
+main_stands P formed inputs fuel = enters_stands P formed P.main (slice_get P.procedures P.main) (start P.globals inputs fuel) refl tt
 
-pub main_fed : (P : PureProgram) (inputs : List ℤ) (fuel : ℕ) → (let r = enters P P.main (start inputs fuel) in Fed inputs r.0 r.1)
-main_fed P inputs fuel = enters_fed inputs (slice_get P.procedures P.main) (start inputs fuel) (refl, omega arith)
+pub main_fed : (P : PureProgram) (inputs : List ℤ) (fuel : ℕ) → (let r = enters P P.main (start P.globals inputs fuel) in
+    Fed inputs r.0 r.1)
+main_fed P inputs fuel = enters_fed inputs (slice_get P.procedures P.main) (start P.globals inputs fuel) (refl, omega arith)
 
 replay_result : (r : ReplayOutcome) (w : World) → r ≡ replay_of (result_of r w)
 replay_result (Comes (Returned v)) w = refl
@@ -66,7 +77,7 @@ world_result Fuel w = refl
 
 -- a run that is over is a replay
 pub replays_at : (P : PureProgram) (inputs : List ℤ) (fuel : ℕ) (r : ReplayOutcome) (m : Snapshot) → Fed inputs (over r) m →
-    ((o : Progress ℤ) → Results P (over r) m (world m) o → AnyRun P P.main [] (record { inputs = inputs; steps_left = fuel }) o) →
+    ((o : Progress ℤ) → Results P (over r) m (world m) o → AnyRun P P.main [] (started P.globals inputs fuel) o) →
     Replays P inputs fuel r m.used
 replays_at P inputs fuel r m fed results =
     let run = results (result_of r (world m)) refl in
@@ -84,19 +95,20 @@ replays_at P inputs fuel r m fed results =
 pub arrived : (F : Control → Snapshot → Type 0) (c : Control) (m : Snapshot) (r : Moment) → (c ≡ r.0) × (m ≡ r.1) → F r.0 r.1 → F c m
 arrived F c m r e h = subst (λ x. F x m) (sym e.0) (subst (F r.0) (sym e.1) h)
 
-pub start_is : (waits : List Waiting) (arguments under frame inputs : List ℤ) (fuel : ℕ) → waits ≡ [] → arguments ≡ [] → under ≡ [] →
-    frame ≡ [] →
+pub start_is : (waits : List Waiting) (arguments under frame globals before inputs : List ℤ) (fuel : ℕ) → waits ≡ [] → arguments ≡ [] →
+    under ≡ [] → frame ≡ [] → globals ≡ before →
     ◌≡◌ {A = Snapshot} (record {
       waits = waits;
       arguments = arguments;
       under = under;
       frame = frame;
+      globals = globals;
       inputs = inputs;
       used = 0;
       steps_left = fuel;
     })
-    (start inputs fuel)
-start_is waits arguments under frame inputs fuel a b c d = cc
+    (start before inputs fuel)
+start_is waits arguments under frame globals before inputs fuel a b c d e = cc
 
 pub not_over : (n : Next) → ((o : Outcome_of) → n ≡ Ended o → ⊥) → IsOver (control_of n) → ⊥
 not_over (Begin e) h k = k

@@ -1,6 +1,6 @@
 //! Replays.
 
-ghost use Rattle.std.specs.Prelude.{◌≡◌, ◌≤◌, ℕ, [], length, take, IfOk};
+ghost use Rattle.std.specs.Prelude.{◌≡◌, ◌≤◌, ℕ, ℤ, List, [], length, take, IfOk};
 ghost use Rattle.c_tree.specs.Whole.{program_of};
 ghost use Rattle.c_tree.specs.Meaning.{Outcome as PureOutcome, Comes, Replays, Runs};
 ghost use Rattle.run_replay.specs.Outcome.{replay_outcome};
@@ -27,13 +27,17 @@ pub fn replay(
     ensures within { IfOk result (λ r. r.used ≤ length inputs.now) }
     ensures starved { IfOk result (λ r. r.outcome ≡ Outcome.Starved → r.used ≡ length inputs.now) }
     ensures runs { IfOk result (λ r. (out : PureOutcome) → replay_outcome r.outcome ≡ Comes out
-        → (d : ℕ) × Runs (program_of program.now) d (program_of program.now).main []
-        (take r.used inputs.now) out) }
+        → (d : ℕ) × (after : List ℤ) × Runs (program_of program.now) d (program_of program.now).main
+        []
+        (program_of program.now).globals (take r.used inputs.now) out after) }
 {
+    let mut globals = Frames::new(alloc);
+    globals.enter(&program.globals)?;
     let mut machine = Machine {
         waits: Vec::new(alloc),
         arguments: Vec::new(alloc),
         frames: Frames::new(alloc),
+        globals,
         inputs,
         used: 0,
         steps_left: fuel,
