@@ -29,9 +29,10 @@ const MAX_NESTING: u32 = 512;
 const LISTED_COLUMNS: usize = 1024;
 
 /// Whether the certificate is right for the cube. Then no assignment of 64-bit values meets the
-/// cube. It takes no memory.
+/// cube, and `right_is_sound` speaks of the certificate. It takes no memory.
 pub fn refutes(cube: &Cube, certificate: &Certificate) -> bool
     ensures right { IsTrue result ↔ Refutes cube.now.atoms (refutation_of certificate.now) }
+    ensures terms { IsTrue result → HasTerms (refutation_of certificate.now) }
     ensures sound { IsTrue result → (v : Valuation) → Is64 v → HoldsAll v cube.now.atoms → ⊥ }
 {
     let atoms = cube.atoms.as_slice();

@@ -1,4 +1,4 @@
-// Values for columns.
+//! Values for columns.
 
 ghost use Rattle.std.specs.Prelude.{◌≡◌, IfOk, IsTrue};
 ghost use Rattle.linear_formula.specs.LinearSum.{is_ascending, listed_at, valuation};
@@ -29,6 +29,7 @@ impl Values {
         Values { items }
     }
 
+    /// The pairs of column and value, in ascending order.
     pub fn into_vec(self) -> Vec<(u32, i64)>
         ensures { result.items ≡ self }
     {
@@ -36,12 +37,14 @@ impl Values {
         items
     }
 
+    /// The pairs of column and value, in ascending order.
     pub fn as_slice(&self) -> &[(u32, i64)]
         ensures { result.now ≡ self.now }
     {
         self.items.as_slice()
     }
 
+    /// An equal list in memory of its own.
     pub fn copy(&self, alloc: Global) -> Result<Values, OutOfMemory>
         ensures { IfOk result (λ values. values ≡ self.now) }
     {
@@ -89,6 +92,7 @@ fn value_at(values: &[(u32, i64)], column: u32) -> i64
 }
 
 impl Assignment {
+    /// The assignment with these values, and 0 for every other column.
     pub fn new(values: Values) -> Assignment
         requires { IsTrue (is_ascending values) }
         ensures value { result ≡ values }
@@ -97,6 +101,7 @@ impl Assignment {
         Assignment { values }
     }
 
+    /// The values that are listed; a column that is missing has the value 0.
     pub fn values(&self) -> &[(u32, i64)]
         ensures value { result.now ≡ self.now }
         ensures kept { IsTrue (is_ascending self.now) }
@@ -111,6 +116,7 @@ impl Assignment {
         value_at(self.values(), column)
     }
 
+    /// An equal assignment in memory of its own.
     pub fn copy(&self, alloc: Global) -> Result<Assignment, OutOfMemory>
         ensures { IfOk result (λ at. at ≡ self.now) }
     {

@@ -1,4 +1,4 @@
-// One column among parts.
+//! One column among parts.
 
 ghost use Rattle.std.specs.Prelude.{◌≡◌, IfOk, IsTrue};
 ghost use Rattle.linear_formula.specs.LinearSum.{listed_at, is_ascending};

@@ -1,4 +1,4 @@
-// Why an operation on terms has no result.
+//! Why an operation on terms has no result.
 
 ghost use Rattle.std.specs.Prelude.{◌≡◌};
 ghost use Rattle.linear_formula.specs.declared.error.LinError.TheVariants.{Memory};

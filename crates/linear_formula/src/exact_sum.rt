@@ -1,4 +1,4 @@
-// Sums of products beyond 128 bits.
+//! Sums of products beyond 128 bits.
 
 ghost use Rattle.std.specs.Prelude.{◌≡◌, ◌+◌, ◌*◌, ◌^◌, ◌<◌, ◌≤◌, ℤ, pos, ◌+ℤ◌, ◌*ℤ◌, unsigned_abs, MatchOption};
 ghost use Rattle.linear_formula.specs.steps.Exact.{exact_value, HasRoom};
@@ -39,6 +39,7 @@ fn product(a: i64, b: i128) -> i128
 }
 
 impl ExactSum {
+    /// The sum that is this value.
     pub fn new(value: i64) -> ExactSum
         ensures value { exact_value result ≡ value }
         ensures fields { result ≡ record { high = pos 0; low = value } }
@@ -50,6 +51,7 @@ impl ExactSum {
         }
     }
 
+    /// The sum and one product more. No product of these types is too wide for it.
     pub fn plus_product(self, multiplier: i64, factor: i128) -> ExactSum
         requires factor_limit { unsigned_abs factor ≤ 2 ^ 84 }
         requires high_limit { unsigned_abs self.high ≤ 2 ^ 126 }

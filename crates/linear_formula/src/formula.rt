@@ -1,4 +1,4 @@
-// Atoms and cubes.
+//! Atoms and cubes.
 
 ghost use Rattle.std.specs.Prelude.{◌≡◌, ◌++◌, ◌∷◌, [], ◌↔◌, ℕ, ℤ, unwrap_or, IfOk, OnOk, OnErr, IsErrOf, IsTrue};
 ghost use Rattle.std.specs.BTreeMap.{get};
@@ -112,6 +112,7 @@ impl Eq for Cube {
 }
 
 impl Atoms {
+    /// No atoms. It takes no memory until the first push.
     pub fn new(alloc: Global) -> Atoms
         ensures { result ≡ [] }
     {
@@ -120,6 +121,7 @@ impl Atoms {
         }
     }
 
+    /// No atoms, with room for n.
     pub fn with_capacity(alloc: Global, n: usize) -> Result<Atoms, OutOfMemory>
         ensures { IfOk result (λ a. a ≡ []) }
     {
@@ -135,6 +137,7 @@ impl Atoms {
         Atoms { items }
     }
 
+    /// Puts an atom at the end. Without memory the list stays as it was.
     pub fn push(&mut self, atom: Atom) -> Result<(), OutOfMemory>
         ensures { OnOk result (self.new ≡ self.old ++ atom ∷ []) }
     {
@@ -143,6 +146,7 @@ impl Atoms {
         Ok(())
     }
 
+    /// The atoms, in order.
     pub fn into_vec(self) -> Vec<Atom>
         ensures value { result.items ≡ self }
         ensures terms { IsTrue (are_terms self) }
@@ -151,6 +155,7 @@ impl Atoms {
         items
     }
 
+    /// The atoms, in order.
     pub fn as_slice(&self) -> &[Atom]
         ensures value { result.now ≡ self.now }
         ensures terms { IsTrue (are_terms self.now) }
@@ -158,6 +163,7 @@ impl Atoms {
         self.items.as_slice()
     }
 
+    /// An equal list in memory of its own.
     pub fn copy(&self, alloc: Global) -> Result<Atoms, OutOfMemory>
         ensures { IfOk result (λ atoms. atoms ≡ self.now) }
     {
@@ -168,6 +174,7 @@ impl Atoms {
 }
 
 impl Atom {
+    /// An equal atom in memory of its own.
     pub fn copy(&self, alloc: Global) -> Result<Atom, OutOfMemory>
         ensures { IfOk result (λ atom. atom ≡ self.now) }
     {
@@ -201,6 +208,7 @@ impl Atom {
         self.term.negate()
     }
 
+    /// Whether the term is at most 0 there, exactly.
     pub fn holds(&self, at: &Assignment) -> bool
         ensures { IsTrue result ↔ Holds (valuation at.now) self.now }
     {
@@ -238,6 +246,7 @@ fn rename_onto(
 }
 
 impl Cube {
+    /// An equal cube in memory of its own.
     pub fn copy(&self, alloc: Global) -> Result<Cube, OutOfMemory>
         ensures { IfOk result (λ cube. cube ≡ self.now) }
     {
@@ -246,6 +255,7 @@ impl Cube {
         })
     }
 
+    /// Whether each atom holds there, exactly; a cube without atoms does.
     pub fn holds(&self, at: &Assignment) -> bool
         ensures { IsTrue result ↔ HoldsAll (valuation at.now) self.now.atoms }
     {

@@ -1,4 +1,4 @@
-// What is asked about cubes and terms.
+//! What is asked about cubes and terms.
 
 ghost use Rattle.std.specs.Prelude.{◌≡◌, ◌↔◌, IfOk, IsTrue};
 ghost use Rattle.linear_formula.specs.Equality.{same_summands, same_columns};
@@ -32,6 +32,7 @@ impl Summands {
         Summands { items }
     }
 
+    /// The pairs of factor and term, in order.
     pub fn into_vec(self) -> Vec<(i64, Term)>
         ensures { result.items ≡ self }
     {
@@ -39,12 +40,14 @@ impl Summands {
         items
     }
 
+    /// The pairs of factor and term, in order.
     pub fn as_slice(&self) -> &[(i64, Term)]
         ensures { result.now ≡ self.now }
     {
         self.items.as_slice()
     }
 
+    /// An equal list in memory of its own.
     pub fn copy(&self, alloc: Global) -> Result<Summands, OutOfMemory>
         ensures { IfOk result (λ summands. summands ≡ self.now) }
     {
@@ -78,6 +81,7 @@ impl Columns {
         Columns { items }
     }
 
+    /// The columns, in order.
     pub fn into_vec(self) -> Vec<u32>
         ensures { result.items ≡ self }
     {
@@ -85,12 +89,14 @@ impl Columns {
         items
     }
 
+    /// The columns, in order.
     pub fn as_slice(&self) -> &[u32]
         ensures { result.now ≡ self.now }
     {
         self.items.as_slice()
     }
 
+    /// An equal list in memory of its own.
     pub fn copy(&self, alloc: Global) -> Result<Columns, OutOfMemory>
         ensures { IfOk result (λ columns. columns ≡ self.now) }
     {
@@ -153,6 +159,7 @@ pub enum Question {
 }
 
 impl Question {
+    /// An equal question in memory of its own.
     pub fn copy(&self, alloc: Global) -> Result<Question, OutOfMemory>
         ensures { IfOk result (λ question. question ≡ self.now) }
     {

@@ -1,4 +1,4 @@
-// Exact sums by their columns.
+//! Exact sums by their columns.
 
 ghost use Rattle.std.specs.Prelude.{◌≡◌, ◌+◌, ◌^◌, ◌<◌, ◌≤◌, [], ◌*ℤ◌, length, unsigned_abs, unwrap_or, IfOk, OnOk, IsErrOf};
 ghost use Rattle.std.specs.BTreeMap.{get};
@@ -43,6 +43,7 @@ fn sum_at(sums: &BTreeMap<u32, ExactSum>, column: u32) -> ExactSum
 }
 
 impl Sums {
+    /// No column yet.
     pub fn new(alloc: Global) -> Sums
         ensures parts { result.parts ≡ [] }
         ensures adds { result.adds ≡ 0 }

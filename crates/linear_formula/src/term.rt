@@ -1,4 +1,4 @@
-// Terms: sums of multiples of columns, and a constant.
+//! Terms: sums of multiples of columns, and a constant.
 
 ghost use Rattle.std.specs.Prelude.{◌≡◌, ◌↔◌, ◌∷◌, [], ◌≤◌, ◌^◌, ◌-ℤ◌, ◌+ℤ◌, length, ℕ, ℤ, pos, unsigned_abs, unwrap_or, IfOk, OnOk, OnErr, IsErrOf, IsTrue};
 ghost use Rattle.std.specs.BTreeMap.{get};
@@ -49,6 +49,7 @@ impl Parts {
         Parts { items }
     }
 
+    /// The pairs of column and coefficient, in ascending order of columns.
     pub fn into_vec(self) -> Vec<(u32, i128)>
         ensures { result.items ≡ self }
     {
@@ -56,6 +57,7 @@ impl Parts {
         items
     }
 
+    /// The pairs of column and coefficient, in ascending order of columns.
     pub fn as_slice(&self) -> &[(u32, i128)]
         ensures { result.now ≡ self.now }
     {
@@ -70,6 +72,7 @@ impl Parts {
         negate_all(&mut self.items);
     }
 
+    /// An equal list in memory of its own.
     pub fn copy(&self, alloc: Global) -> Result<Parts, OutOfMemory>
         ensures { IfOk result (λ parts. parts ≡ self.now) }
     {
@@ -140,6 +143,7 @@ impl Eq for Term {
 }
 
 impl Term {
+    /// The sum of these parts and the constant.
     pub fn new(parts: Parts, constant: i128) -> Term
         requires { IsTrue (is_term (record { parts = parts; constant = constant })) }
         ensures value { result ≡ record { parts = parts; constant = constant } }
@@ -148,6 +152,7 @@ impl Term {
         Term { parts, constant }
     }
 
+    /// The pairs of column and coefficient other than 0, in ascending order of columns.
     pub fn parts(&self) -> &[(u32, i128)]
         ensures value { result.now ≡ self.now.parts }
         ensures kept { IsTrue (is_term self.now) }
@@ -155,6 +160,7 @@ impl Term {
         self.parts.as_slice()
     }
 
+    /// What is added to the parts.
     pub fn constant(&self) -> i128
         ensures value { result ≡ self.now.constant }
         ensures kept { IsTrue (is_term self.now) }
@@ -171,6 +177,7 @@ impl Term {
         coefficient_of(self.parts(), column)
     }
 
+    /// An equal term in memory of its own.
     pub fn copy(&self, alloc: Global) -> Result<Term, OutOfMemory>
         ensures { IfOk result (λ term. term ≡ self.now) }
     {
