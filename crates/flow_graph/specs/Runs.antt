@@ -1,5 +1,6 @@
 -- The runs of graphs.
-use Rattle.std.specs.Prelude.{◌≡◌, ℕ, zero, suc, List, [], ◌∷◌, map, Option, Some, None, ℤ, pos, ◌+ℤ◌, ◌*ℤ◌, get_or, slice_get, IsTrue, false}
+use Rattle.std.specs.Prelude.{◌≡◌, ℕ, zero, suc, ◌==◌, cond, List, [], ◌∷◌, ◌++◌, map, drop, Option, Some, None, ℤ, pos, ◌+ℤ◌, ◌*ℤ◌, get_or, slice_get, IsTrue, false}
+use Rattle.c_tree.specs.Syntax.{PureProgram}
 use Rattle.c_tree.specs.Meaning.{State, with_slot, entered, is_value, Outcome, Returned, Stopped, Failed}
 use Rattle.linear_formula.specs.Formula.{HoldsAll}
 use Rattle.flow_graph.specs.declared.graph.Edge.{Edge}
@@ -22,11 +23,20 @@ pub data End : Type 0 where
   stopped : End
   failed : ℕ → End
 
--- the end of a graph's run where the run of the program comes out so
-abbrev pub end_of : Outcome → End
-end_of (Returned v) = came (v ∷ [])
-end_of Stopped = stopped
-end_of (Failed id) = failed id
+-- The entry list of a run of the program: its arguments and then the globals before it; that of
+-- `main` is empty.
+abbrev pub entry_list : PureProgram → ℕ → (args before : List ℤ) → List ℤ
+entry_list P p args before = cond (p == P.main) [] (args ++ before)
+
+-- the exit list of a run that returns: the value and then the globals behind it
+abbrev pub exit_list : ℤ → (after : List ℤ) → List ℤ
+exit_list v after = v ∷ after
+
+-- the end of a graph's run where the run of the program comes out so and leaves these globals
+abbrev pub end_of : Outcome → (after : List ℤ) → End
+end_of (Returned v) after = came (exit_list v after)
+end_of Stopped after = stopped
+end_of (Failed id) after = failed id
 
 -- where a frame stands: at an inner node, at the exit, at `fail`, or at a call whose run is stopped
 pub data Place : Type 0 where
@@ -39,11 +49,18 @@ pub data Place : Type 0 where
 abbrev pub Called : Type 1
 Called = ℕ → List ℤ → List ℤ → List ℤ → End → Type 0
 
+-- the state in which each of these slots has the value at its place, or 0; of a slot at several
+-- places the first counts
+abbrev pub with_slots : State → (slots : List ℕ) → (values : List ℤ) → State
+with_slots s [] values = s
+with_slots s (x ∷ xs) values = with_slot (with_slots s xs (drop 1 values)) x
+    (get_or values 0 (pos 0))
+
 -- where a call leads
-abbrev pub after_call : ℕ → ℕ → State → End → Place
-after_call to slot s (came values) = inside to (with_slot s slot (get_or values 0 (pos 0)))
-after_call to slot s stopped = halted
-after_call to slot s (failed id) = failing id s
+abbrev pub after_call : ℕ → (results : List ℕ) → State → End → Place
+after_call to results s (came values) = inside to (with_slots s results values)
+after_call to results s stopped = halted
+after_call to results s (failed id) = failing id s
 
 -- over the edge, from these slots and inputs, to that place with those inputs left
 abbrev pub Step : Called → Edge → State → List ℤ → Place → List ℤ → Type 0
@@ -57,11 +74,11 @@ Step C (Input from to slot) s ins b rest =
 Step C (Pick from to slot rows) s ins b rest =
     (v : ℤ) × IsTrue (is_value v) × HoldsAll (with_slot s slot v) rows.atoms
     × (b ≡ inside to (with_slot s slot v)) × (rest ≡ ins)
-Step C (Call from to proc args slot) s ins b rest = (end : End) × C proc (map s args) ins rest end
-    × (b ≡ after_call to slot s end)
+Step C (Call from to proc args results) s ins b rest =
+    (end : End) × C proc (map s args) ins rest end × (b ≡ after_call to results s end)
 Step C (Assert from to id rows) s ins b rest = HoldsAll s rows.atoms × (b ≡ failing id s)
     × (rest ≡ ins)
-Step C (Return from to slot) s ins b rest = (b ≡ left (s slot ∷ [])) × (rest ≡ ins)
+Step C (Return from to slots) s ins b rest = (b ≡ left (map s slots)) × (rest ≡ ins)
 
 module _ (C : Called) (edges : List Edge) where
   -- over one of the edges, from one place to the next
@@ -96,7 +113,7 @@ module _ (C : Called) (edges : List Edge) where
   EndsIn (suc k) a ins rest end = (b : Place) × (mid : List ℤ) × Moves a ins b mid × EndsIn k b mid
       rest end
 
--- a frame begins over edge 0, with the arguments in the first slots and 0 in the others
+-- a frame begins over edge 0, with the entry list in the first slots and 0 in the others
 abbrev pub EntersGraph : Called → Option Graph → List ℤ → List ℤ → List ℤ → End → Type 0
 EntersGraph C None args ins rest end = ⊥
 EntersGraph C (Some g) args ins rest end =

@@ -76,7 +76,7 @@ impl Slots {
 /// A step from one node to the next. Rows are read at the slots.
 #[derive(Debug, Drop)]
 pub enum Edge {
-    /// A frame begins, with the arguments in the first slots and 0 in the others.
+    /// A frame begins, with so many entry values in the first slots and 0 in the others.
     Entry {
         to: u32,
         params: u32,
@@ -107,13 +107,15 @@ pub enum Edge {
         slot: Slot,
         rows: Cube,
     },
-    /// The slot gets what the procedure returns; where its run fails, the frame fails.
+    /// The procedure runs with the values of `args` as its entry values. Where it returns, the
+    /// slots of `results` get its exit values, all at once, the first value in the first slot; no
+    /// slot stands there twice. Where it fails, the frame fails.
     Call {
         from: u32,
         to: u32,
         proc: ProcId,
         args: Slots,
-        slot: Slot,
+        results: Slots,
     },
     /// The rows hold, and the assertion fails.
     Assert {
@@ -122,11 +124,12 @@ pub enum Edge {
         id: AssertId,
         rows: Cube,
     },
-    /// The frame returns the slot's value.
+    /// The frame returns the values of these slots, which are its exit values in this order. A slot
+    /// may stand there twice.
     Return {
         from: u32,
         to: u32,
-        slot: Slot,
+        slots: Slots,
     },
 }
 
@@ -200,27 +203,40 @@ impl Edges {
     }
 }
 
-/// The graph of a procedure. Nodes and slots are numbered from 0; frames end at `exit` and at
-/// `fail`.
+/// The graph of a procedure. Nodes and slots are numbered from 0; frames end at `exit`, where they
+/// return, and at `fail`, where an assertion failed.
 #[derive(Drop)]
 pub struct Graph {
     pub nodes: u32,
     pub exit: u32,
     pub fail: u32,
+    /// How many entry values a frame begins with: of a program's graph the parameters and then the
+    /// globals, of `main` none.
     pub params: u32,
+    /// How many exit values a frame returns: of a program's graph the result and then the globals.
+    pub exits: u32,
     pub slots: u32,
     pub edges: Edges,
-    pub ghost well_formed: { IsGraph nodes exit fail params slots edges },
+    pub ghost well_formed: { IsGraph nodes exit fail params exits slots edges },
 }
 
 impl Graph {
     /// The graph of these parts.
-    pub fn new(nodes: u32, exit: u32, fail: u32, params: u32, slots: u32, edges: Edges) -> Graph
-        requires { IsGraph nodes exit fail params slots edges }
+    pub fn new(
+        nodes: u32,
+        exit: u32,
+        fail: u32,
+        params: u32,
+        exits: u32,
+        slots: u32,
+        edges: Edges,
+    ) -> Graph
+        requires { IsGraph nodes exit fail params exits slots edges }
         ensures nodes { result.nodes ≡ nodes }
         ensures exit { result.exit ≡ exit }
         ensures fail { result.fail ≡ fail }
         ensures params { result.params ≡ params }
+        ensures exits { result.exits ≡ exits }
         ensures slots { result.slots ≡ slots }
         ensures edges { result.edges ≡ edges }
     {
@@ -229,6 +245,7 @@ impl Graph {
             exit,
             fail,
             params,
+            exits,
             slots,
             edges,
         }

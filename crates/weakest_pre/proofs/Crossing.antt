@@ -1,12 +1,12 @@
 -- The states before an edge, and those that go over it into a target.
-use Rattle.std.proofs.Common.{◌≡◌, ℕ, ◌<◌, Bool, true, false, List, [], ◌∷◌, ◌++◌, zero, suc, ◌-◌, ℤ, pos, negsuc, ◌+ℤ◌, ◌*ℤ◌, nat_lt, arith, refl, ◌∙◌, sym, subst}
+use Rattle.std.proofs.Common.{◌≡◌, ℕ, ◌<◌, Bool, true, false, List, [], ◌∷◌, ◌++◌, zero, suc, ◌-◌, ℤ, pos, negsuc, ◌+ℤ◌, ◌*ℤ◌, nat_lt, map, arith, refl, ◌∙◌, sym, subst}
 use Rattle.std.specs.Prelude.{IsTrue, slice_index_or, if◌then◌else◌}
 use Rattle.std.specs.List.{list_all}
 use Rattle.std.proofs.lemmas.Int.{ints}
 use Rattle.c_tree.specs.Meaning.{State, with_slot, entered, is_value}
 use Rattle.linear_formula.specs.LinearSum.{LinearSum, Valuation, Is64, is64, value_of}
 use Rattle.linear_formula.specs.Formula.{HoldsAll, are_terms}
-use Rattle.linear_formula.specs.Replaced.{column_sum, replaced_valuation}
+use Rattle.linear_formula.specs.Replaced.{replaced_valuation}
 use Rattle.linear_formula.specs.Results.{combination}
 use Rattle.linear_formula.specs.declared.formula.Atom.{Atom}
 use Rattle.linear_formula.specs.declared.formula.Cube.{Cube}
@@ -20,7 +20,7 @@ use Rattle.flow_graph.specs.declared.graph.Edge.TheVariants.{Entry, Assign, Guar
 use Rattle.flow_graph.specs.Runs.{inside, left, failing, lin_value}
 use Rattle.flow_graph.specs.WellFormed.{max_slots, names_slots}
 use Rattle.flow_graph.specs.Columns.{first_entry, first_exit, first_symbol, columns_of, valuation_of, is_slot_column, is_value_column, AreValues, AreAllValues, value_at}
-use Rattle.flow_graph.specs.Readings.{entry_reading, one_reading}
+use Rattle.flow_graph.specs.Readings.{entry_reading, one_reading, return_reading}
 use Rattle.flow_graph.specs.Regions.{FitsEdge, LiesIn}
 use Rattle.weakest_pre.specs.Preimage.{lin_sum, range_sums, assigned_sums}
 use Rattle.weakest_pre.specs.Predecessors.{HoldsPredecessors, HoldsNoOther}
@@ -63,31 +63,32 @@ module _ (to params : ℕ) (target atoms : List Atom) (e : atoms ≡ rows_of_sum
 
 -- The exit
 
-module _ (from to slot : ℕ) (target atoms : List Atom)
-    (e : atoms ≡ rows_of_sums (row_sums (one_reading first_exit (column_sum slot)) target)) where
+module _ (from to : ℕ) (slots : List ℕ) (target atoms : List Atom)
+    (e : atoms ≡ rows_of_sums (row_sums (return_reading slots) target)) where
   abbrev by : ℕ → LinearSum
-  by = one_reading first_exit (column_sum slot)
+  by = return_reading slots
 
-  pub return-holds : HoldsPredecessors (Return from to slot) target atoms
+  pub return-holds : HoldsPredecessors (Return from to slots) target atoms
   return-holds = λ f s entry vs es g.
       let v = columns_of s entry [] in
-      let w = valuation_of entry (s slot ∷ []) in
+      let w = valuation_of entry (map s slots) in
       let lies : HoldsAll w target = (subst (LiesIn entry target) g.3.0 g.4).1 in
       read-holds v by target atoms e (holds-agree (is_value_column first_entry first_entry) w (replaced_valuation by v) target
-      (agree-back (is_value_column first_entry first_entry) (replaced_valuation by v) w (return-reads s entry slot f.slots)) f.columns lies)
+      (agree-back (is_value_column first_entry first_entry) (replaced_valuation by v) w (return-reads s entry slots f.slots)) f.columns
+      lies)
 
-  pub return-exact : HoldsNoOther (Return from to slot) target atoms
+  pub return-exact : HoldsNoOther (Return from to slots) target atoms
   return-exact = λ f s entry vs es g.
       let v = columns_of s entry [] in
-      let w = valuation_of entry (s slot ∷ []) in (
+      let w = valuation_of entry (map s slots) in (
         [],
         [],
-        left (s slot ∷ []),
+        left (map s slots),
         (refl, refl),
         (
           tt,
           holds-agree (is_value_column first_entry first_entry) (replaced_valuation by v) w
-              target (return-reads s entry slot f.slots) f.columns (holds-read v by target atoms e g),
+              target (return-reads s entry slots f.slots) f.columns (holds-read v by target atoms e g),
         ),
       )
 

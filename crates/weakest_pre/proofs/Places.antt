@@ -1,21 +1,22 @@
 -- The columns before an edge, read at the sums in the places of those behind it.
-use Rattle.std.proofs.Common.{◌≡◌, ◌⊎◌, inl, inr, cond, ℕ, ◌<◌, ◌≤◌, ◌+◌, ◌-◌, Bool, true, false, List, [], ◌∷◌, length, map, ℤ, pos, ◌+ℤ◌, ◌*ℤ◌, ◌==◌, nat_lt, nat_le, arith, refl, ◌∙◌, ap, sym}
+use Rattle.std.proofs.Common.{◌≡◌, ◌⊎◌, inl, inr, cond, zero, suc, get_or, ℕ, ◌<◌, ◌≤◌, ◌+◌, ◌-◌, Bool, true, false, List, [], ◌∷◌, length, map, ℤ, pos, ◌+ℤ◌, ◌*ℤ◌, ◌==◌, nat_lt, nat_le, arith, refl, ◌∙◌, ap, sym}
 use Rattle.std.specs.Prelude.{IsTrue, if◌then◌else◌}
 use Rattle.std.specs.List.{list_all}
 use Rattle.std.proofs.lemmas.Int.{ints}
 use Rattle.std.proofs.lemmas.List.{get_or_past}
+use Rattle.std.proofs.lemmas.Bool.{true≢false, le-leb}
 use borrow.Author.Tests.{ltb-true, ltb-false, lt-ltb, le-ltb, eqb-true, eqb_apart, eq-eqb, ne_eqb, not-true, leb-true}
 use Rattle.c_tree.specs.Meaning.{State, with_slot, entered}
 use Rattle.linear_formula.specs.LinearSum.{LinearSum, Valuation, value_of}
 use Rattle.linear_formula.specs.Results.{combination_value, constant_sum}
 use Rattle.linear_formula.specs.Replaced.{column_sum, replaced_valuation}
-use Rattle.linear_formula.proofs.Limits.{both}
+use Rattle.linear_formula.proofs.Limits.{both, both_in}
 use Rattle.linear_formula.proofs.Replacing.{value-column}
 use Rattle.linear_formula.proofs.Values.{value-combination}
 use Rattle.flow_graph.specs.declared.graph.Lin.{Lin}
 use Rattle.flow_graph.specs.Columns.{first_entry, first_exit, first_symbol, value_at, columns_of, no_slots, valuation_of, is_among, is_value_column, is_slot_column}
 use Rattle.flow_graph.specs.Runs.{value_of_slots, lin_value}
-use Rattle.flow_graph.specs.Readings.{entry_reading, one_reading}
+use Rattle.flow_graph.specs.Readings.{entry_reading, one_reading, return_reading}
 use Rattle.shadow_elim.specs.Sums.{total}
 use Rattle.weakest_pre.specs.Preimage.{lin_sum}
 use Rattle.weakest_pre.proofs.Agreeing.{Agree, other}
@@ -128,24 +129,72 @@ past-entry x h = by_side (either_from (is_among first_entry first_entry x) (is_a
       let l : first_exit ≤ x = leb-true first_exit x (both (nat_le first_exit x) (nat_lt x (first_exit + first_entry)) k).0 in
       omega (arith, l)
 
-pub return-reads : (s : State) (entry : List ℤ) (slot : ℕ) → nat_lt slot first_entry ≡ true →
-    Agree (is_value_column first_entry first_entry)
-    (replaced_valuation (one_reading first_exit (column_sum slot)) (columns_of s entry [])) (valuation_of entry (s slot ∷ []))
-return-reads s entry slot small = λ x h. by_test x (past-entry x h) (x == first_exit) refl where
-  others : (x : ℕ) → (x ≡ first_exit → ⊥) → (b : Bool) → nat_lt x first_exit ≡ b →
+-- the value of the slot at a place
+slots-at : (s : State) (slots : List ℕ) (i : ℕ) → i < length slots → value_at (map s slots) i ≡ s (get_or slots i 0)
+slots-at s [] i h = absurd (omega (arith, h))
+slots-at s (x ∷ slots) zero h = refl
+slots-at s (x ∷ slots) (suc i) h = slots-at s slots i (omega (arith, h))
+
+slots-small : (slots : List ℕ) (i : ℕ) → i < length slots → IsTrue (list_all (λ x. nat_lt x first_entry) slots) →
+    nat_lt (get_or slots i 0) first_entry ≡ true
+slots-small [] i h all = absurd (omega (arith, h))
+slots-small (x ∷ slots) zero h all = (both (nat_lt x first_entry) (list_all (λ y. nat_lt y first_entry) slots) all).0
+slots-small (x ∷ slots) (suc i) h all =
+    slots-small slots i (omega (arith, h)) (both (nat_lt x first_entry) (list_all (λ y. nat_lt y first_entry) slots) all).1
+
+slots-length : (s : State) (slots : List ℕ) → length (map s slots) ≡ length slots
+slots-length s [] = refl
+slots-length s (x ∷ slots) = ap suc (slots-length s slots)
+
+pub return-reads : (s : State) (entry : List ℤ) (slots : List ℕ) → IsTrue (list_all (λ x. nat_lt x first_entry) slots) →
+    Agree (is_value_column first_entry first_entry) (replaced_valuation (return_reading slots) (columns_of s entry []))
+    (valuation_of entry (map s slots))
+return-reads s entry slots small = λ x h. by_test x (past-entry x h) (below-symbols x h) (is_among first_exit (length slots) x) refl where
+  below-symbols : (x : ℕ) → IsTrue (is_value_column first_entry first_entry x) → x < first_symbol
+  below-symbols x h = by_side (either_from (is_among first_entry first_entry x) (is_among first_exit first_entry x) h) where
+    by_side : IsTrue (is_among first_entry first_entry x) ⊎ IsTrue (is_among first_exit first_entry x) → x < first_symbol
+    by_side (inl k) = omega (
+      arith,
+      ltb-true x (first_entry + first_entry) (both (nat_le first_entry x) (nat_lt x (first_entry + first_entry))
+          k).1,
+    )
+    by_side (inr k) = omega (
+      arith,
+      ltb-true x (first_exit + first_entry) (both (nat_le first_exit x) (nat_lt x (first_exit + first_entry))
+          k).1,
+    )
+
+  others : (x : ℕ) → (first_exit ≤ x → length slots ≤ x - first_exit) → (b : Bool) → nat_lt x first_exit ≡ b →
       (if b then value_at entry (x - first_entry) else (if nat_lt x first_symbol then value_at [] (x - first_exit) else pos 0))
-      ≡ (if b then value_at entry (x - first_entry) else (if nat_lt x first_symbol then value_at (s slot ∷ []) (x - first_exit) else pos 0))
+      ≡ (if b then value_at entry (x - first_entry) else (if nat_lt x first_symbol then value_at (map s slots) (x - first_exit) else pos 0))
   others x n true d = refl
   others x n false d =
-      let above : 1 ≤ x - first_exit = omega (arith, n, ltb-false x first_exit d) in
+      let above : length slots ≤ x - first_exit = n (ltb-false x first_exit d) in
       ap (λ y. if nat_lt x first_symbol then y else pos 0) (get_or_past [] (x - first_exit) (pos 0) (omega arith)
-      ∙ sym (get_or_past (s slot ∷ []) (x - first_exit) (pos 0) above))
+      ∙ sym (get_or_past (map s slots) (x - first_exit) (pos 0) (omega (arith, above, slots-length s slots))))
 
-  by_test : (x : ℕ) → first_entry ≤ x → (b : Bool) → (x == first_exit) ≡ b → value_of (columns_of s entry [])
-      (if b then column_sum slot else column_sum x) ≡ valuation_of entry (s slot ∷ []) x
-  by_test x l true d =
-      value-column (columns_of s entry []) slot ∙ slot-at s entry [] slot small
-      ∙ sym (ap (valuation_of entry (s slot ∷ [])) (eqb-true x first_exit d))
-  by_test x l false d =
+  past-all : (x : ℕ) → is_among first_exit (length slots) x ≡ false → first_exit ≤ x → length slots ≤ x - first_exit
+  past-all x d l = by_side (nat_lt x (first_exit + length slots)) refl where
+    by_side : (b : Bool) → nat_lt x (first_exit + length slots) ≡ b → length slots ≤ x - first_exit
+    by_side true e = absurd
+        (true≢false (sym (both_in (nat_le first_exit x) (nat_lt x (first_exit + length slots)) (le-leb first_exit x l) e)
+        ∙ d))
+    by_side false e = omega (arith, l, ltb-false x (first_exit + length slots) e)
+
+  by_test : (x : ℕ) → first_entry ≤ x → x < first_symbol → (b : Bool) → is_among first_exit (length slots) x ≡ b →
+      value_of (columns_of s entry []) (if b then column_sum (get_or slots (x - first_exit) 0) else column_sum x)
+      ≡ valuation_of entry (map s slots) x
+  by_test x l below true d =
+      let k = both (nat_le first_exit x) (nat_lt x (first_exit + length slots)) d in
+      let from : first_exit ≤ x = leb-true first_exit x k.0 in
+      let to : x < first_exit + length slots = ltb-true x (first_exit + length slots) k.1 in
+      let i : x - first_exit < length slots = omega (arith, from, to) in
       let a : nat_lt x first_entry ≡ false = le-ltb x first_entry l in
-      value-column (columns_of s entry []) x ∙ rw a (others x (eqb_apart x first_exit d) (nat_lt x first_exit) refl)
+      let b : nat_lt x first_exit ≡ false = le-ltb x first_exit from in
+      let c : nat_lt x first_symbol ≡ true = lt-ltb x first_symbol below in
+      value-column (columns_of s entry []) (get_or slots (x - first_exit) 0)
+      ∙ slot-at s entry [] (get_or slots (x - first_exit) 0) (slots-small slots (x - first_exit) i small)
+      ∙ sym (slots-at s slots (x - first_exit) i) ∙ rw (a, b, c) refl
+  by_test x l below false d =
+      let a : nat_lt x first_entry ≡ false = le-ltb x first_entry l in
+      value-column (columns_of s entry []) x ∙ rw a (others x (past-all x d) (nat_lt x first_exit) refl)

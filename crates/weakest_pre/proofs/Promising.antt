@@ -4,7 +4,6 @@ use Rattle.std.specs.Prelude.{IsTrue, nat_lt}
 use Rattle.std.proofs.lemmas.List.Elements.{All-cons, All-nil}
 use borrow.Author.Tests.{ltb-true}
 use Rattle.linear_formula.specs.Formula.{are_terms}
-use Rattle.linear_formula.specs.Replaced.{column_sum}
 use Rattle.linear_formula.specs.declared.formula.Atom.{Atom}
 use Rattle.linear_formula.proofs.Limits.{both}
 use Rattle.shadow_elim.specs.Projection.{gives, summed}
@@ -15,8 +14,7 @@ use Rattle.shadow_elim.proofs.Projecting.{unless-none, gives-rows, projections-k
 use Rattle.flow_graph.specs.declared.graph.Lin.{Lin}
 use Rattle.flow_graph.specs.declared.graph.Edge.{Edge}
 use Rattle.flow_graph.specs.declared.graph.Edge.TheVariants.{Entry, Assign, Guard, Input, Pick, Call, Assert, Return}
-use Rattle.flow_graph.specs.Columns.{first_exit}
-use Rattle.flow_graph.specs.Readings.{entry_reading, one_reading}
+use Rattle.flow_graph.specs.Readings.{entry_reading, return_reading}
 use Rattle.flow_graph.specs.Shapes.{is_call}
 use Rattle.flow_graph.specs.WellFormed.{max_slots}
 use Rattle.weakest_pre.specs.Preimage.{preimage, assigned_before, assigned_sums, lin_sum}
@@ -67,8 +65,8 @@ preimages-hold (Pick from to slot more) target rows pair c t e = λ f.
 preimages-hold (Call from to p args slot) target rows pair c t e = absurd (no_call c)
 preimages-hold (Assert from to id more) target rows pair c t e =
     assert-holds from to id more target rows (sym (gives-rows (target ++ more.atoms) rows None pair e))
-preimages-hold (Return from to slot) target rows pair c t e =
-    return-holds from to slot target rows (summed-rows (row_sums (one_reading first_exit (column_sum slot)) target) rows pair e)
+preimages-hold (Return from to slots) target rows pair c t e =
+    return-holds from to slots target rows (summed-rows (row_sums (return_reading slots) target) rows pair e)
 
 pub preimages-exact : (edge : Edge) (target rows : List Atom) → is_call edge ≡ false → IsTrue (are_terms (asked_atoms edge target)) →
     preimage edge target ≡ gives rows None → HoldsNoOther edge target rows
@@ -88,5 +86,5 @@ preimages-exact (Pick from to slot more) target rows c t e = λ f.
 preimages-exact (Call from to p args slot) target rows c t e = absurd (no_call c)
 preimages-exact (Assert from to id more) target rows c t e =
     assert-exact from to id more target rows (sym (gives-rows (target ++ more.atoms) rows None None e))
-preimages-exact (Return from to slot) target rows c t e =
-    return-exact from to slot target rows (summed-rows (row_sums (one_reading first_exit (column_sum slot)) target) rows None e)
+preimages-exact (Return from to slots) target rows c t e =
+    return-exact from to slots target rows (summed-rows (row_sums (return_reading slots) target) rows None e)
