@@ -24,7 +24,7 @@ use Rattle.summary_form.specs.declared.query.ExitKind.{ExitKind}
 use Rattle.summary_form.specs.NotMays.{Fits}
 use Rattle.call_bridge.specs.declared.asking.Asking.{Asking}
 use Rattle.call_bridge.specs.declared.musts.Matching.{Matching}
-use Rattle.call_bridge.specs.Calls.{procedure, arguments, result_slot}
+use Rattle.call_bridge.specs.Calls.{procedure, arguments, results_of}
 use Rattle.call_bridge.specs.Asked.{asked, FitsCall, HoldsCalls, HoldsNoOtherCall}
 use Rattle.call_bridge.specs.Asking.{IsAsking, rows_of_query}
 use Rattle.call_bridge.specs.Musts.{is_number, single, is_new, with_symbol, replacing, other_sums, must_preimage}
@@ -40,54 +40,55 @@ each_below limit (x ∷ xs) h zero a e =
     subst (λ y. y < limit) (same_Some x a e) (ltb-true x limit r.0)
 each_below limit (x ∷ xs) h (suc j) a e = each_below limit xs (both (nat_lt x limit) (list_all (λ y. nat_lt y limit) xs) h).1 j a e
 
-pub call_slots : (edge : Edge) → IsTrue (has_slots max_slots edge) → AreSlots (arguments edge) (result_slot edge)
-call_slots (Call from to proc args slot) h =
-    let r = both (nat_lt slot max_slots) (list_all (λ x. nat_lt x max_slots) args) h in
-    record { are_slots = each_below max_slots args r.1; slot_low = ltb-true slot max_slots r.0 }
-call_slots _ h = record { are_slots = λ j a e. absurd (none-some a e); slot_low = omega arith }
+pub call_slots : (edge : Edge) → IsTrue (has_slots max_slots edge) → AreSlots (arguments edge) (results_of edge)
+call_slots (Call from to proc args results) h =
+    let r = both (list_all (λ x. nat_lt x max_slots) results) (list_all (λ x. nat_lt x max_slots) args) h in
+    record { are_slots = each_below max_slots args r.1; results_low = each_below max_slots results r.0 }
+call_slots _ h = record { are_slots = λ j a e. absurd (none-some a e); results_low = λ j a e. absurd (none-some a e) }
 
 -- The asked query
 
 -- the rows of a call by its parts
-pub asked_at : (exit : ExitKind) (call : Edge) (from to proc : ℕ) (args slice : List ℕ) (slot : ℕ) (source target : List Atom) → call
-    ≡ Call from to proc args slot → slice ≡ args → asked exit (arguments call) (result_slot call) source target ≡ asked exit slice slot
-    source target
-asked_at exit call from to proc args slice slot source target e f =
-    ap (λ (k : Edge). asked exit (arguments k) (result_slot k) source target) e ∙ ap (λ (l : List ℕ). asked exit l slot source target)
-    (sym f)
+pub asked_at : (exit : ExitKind) (call : Edge) (from to proc : ℕ) (args slice results others : List ℕ) (source target : List Atom) → call
+    ≡ Call from to proc args results → slice ≡ args → others ≡ results →
+    asked exit (arguments call) (results_of call) source target ≡ asked exit slice others source target
+asked_at exit call from to proc args slice results others source target e f h =
+    ap (λ (k : Edge). asked exit (arguments k) (results_of k) source target) e ∙ ap (λ (l : List ℕ). asked exit l results source target)
+    (sym f) ∙ ap (λ (l : List ℕ). asked exit slice l source target) (sym h)
 
 module _ (exit : ExitKind) (call : Edge) (source target : List Atom) (a : Asking) (is : IsAsking exit call source target a) where
-  pub asking_holds : FitsCall (arguments call) (result_slot call) source target → HoldsCalls exit (arguments call) (result_slot call) source
+  pub asking_holds : FitsCall (arguments call) (results_of call) source target → HoldsCalls exit (arguments call) (results_of call) source
       target (rows_of_query a.query)
   asking_holds f s entry values vs ve vx h l =
       subst (λ (q : Query). HoldsAll (valuation_of (map s (arguments call)) values) (rows_of_query q)) (sym is.query)
       ((query_holds (valuation_of (map s (arguments call)) values) is.rows).1
-      (asked_holds exit (arguments call) (result_slot call) source target f is.rows (pair_rows a.inexact) is.are_asked s entry values vs ve
+      (asked_holds exit (arguments call) (results_of call) source target f is.rows (pair_rows a.inexact) is.are_asked s entry values vs ve
       vx h l))
 
-  pub asking_exact : a.inexact ≡ None → FitsCall (arguments call) (result_slot call) source target → HoldsNoOtherCall exit (arguments call)
-      (result_slot call) source target (rows_of_query a.query)
+  pub asking_exact : a.inexact ≡ None → FitsCall (arguments call) (results_of call) source target → HoldsNoOtherCall exit (arguments call)
+      (results_of call) source target (rows_of_query a.query)
   asking_exact none f called values vc vx many h =
-      asked_exact exit (arguments call) (result_slot call) source target f is.rows (pair_rows a.inexact) is.are_asked (ap pair_rows none)
+      asked_exact exit (arguments call) (results_of call) source target f is.rows (pair_rows a.inexact) is.are_asked (ap pair_rows none)
       called values vc vx many ((query_holds (valuation_of called values) is.rows).0
       (subst (λ (q : Query). HoldsAll (valuation_of called values) (rows_of_query q)) is.query h))
 
-  pub asking_fits : FitsCall (arguments call) (result_slot call) source target → Fits (procedure call) (record {
+  pub asking_fits : FitsCall (arguments call) (results_of call) source target → Fits (procedure call) (record {
     entries = length (arguments call);
-    exits = 1;
+    exits = length (results_of call);
   }) a.query
   asking_fits f =
-      subst (λ (q : Query). Fits (procedure call) (record { entries = length (arguments call); exits = 1 }) q) (sym is.query)
-      (asked_fits (procedure call) exit (arguments call) (result_slot call) source target is.rows (pair_rows a.inexact) f is.are_asked)
+      subst (λ (q : Query). Fits (procedure call) (record { entries = length (arguments call); exits = length (results_of call) }) q)
+      (sym is.query)
+      (asked_fits (procedure call) exit (arguments call) (results_of call) source target is.rows (pair_rows a.inexact) f is.are_asked)
 
 -- The preimage over a must
 
-pub preimage_at : (must : Path) (call : Edge) (from to proc : ℕ) (args slice : List ℕ) (slot : ℕ) (target : List Atom) → call
-    ≡ Call from to proc args slot → slice ≡ args → must_preimage must (arguments call) (result_slot call) target ≡ must_preimage must slice
-    slot target
-preimage_at must call from to proc args slice slot target e f =
-    ap (λ (k : Edge). must_preimage must (arguments k) (result_slot k) target) e ∙ ap (λ (l : List ℕ). must_preimage must l slot target)
-    (sym f)
+pub preimage_at : (must : Path) (call : Edge) (from to proc : ℕ) (args slice results others : List ℕ) (target : List Atom) → call
+    ≡ Call from to proc args results → slice ≡ args → others ≡ results →
+    must_preimage must (arguments call) (results_of call) target ≡ must_preimage must slice others target
+preimage_at must call from to proc args slice results others target e f h =
+    ap (λ (k : Edge). must_preimage must (arguments k) (results_of k) target) e ∙ ap (λ (l : List ℕ). must_preimage must l results target)
+    (sym f) ∙ ap (λ (l : List ℕ). must_preimage must slice l target) (sym h)
 
 term_numbers : (ps : List (ℕ × ℤ)) → IsTrue (has_columns ps) → IsTrue (list_all (λ p. is_number p.0) ps)
 term_numbers [] h = refl

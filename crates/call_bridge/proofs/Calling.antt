@@ -1,10 +1,11 @@
 -- Every call from the source into the target meets the rows that are asked for, and where no pair is told all values that meet them are
 -- those of such a call.
-use Rattle.std.proofs.Common.{◌≡◌, ℕ, zero, suc, ◌+◌, ◌-◌, ◌<◌, ◌≤◌, List, [], ◌∷◌, ◌++◌, length, map, None, Some, Bool, true, false, not, ◌&&◌, ◌==◌, nat_lt, nat_le, ℤ, arith, refl, sym, subst, ap, ◌∙◌}
+use Rattle.std.proofs.Common.{◌≡◌, ℕ, zero, suc, ◌+◌, ◌-◌, ◌<◌, ◌≤◌, List, [], ◌∷◌, ◌++◌, length, drop, map, None, Some, Bool, true, false, not, ◌&&◌, ◌==◌, nat_lt, nat_le, ℤ, arith, refl, sym, subst, ap, ◌∙◌}
 use Rattle.std.specs.Prelude.{slice_get, IsTrue, Contains, if◌then◌else◌}
 use Rattle.std.proofs.lemmas.Option.{same_Some, none-some, slice_get_within}
 use borrow.Author.Tests.{eqb-true, ne_eqb, lt-ltb, le-ltb, ltb-true, ltb-false, le-leb, leb-true}
 use Rattle.c_tree.specs.Meaning.{State, with_slot, is_value}
+use Rattle.flow_graph.specs.Runs.{with_slots}
 use Rattle.linear_formula.specs.LinearSum.{Valuation, Is64, is64}
 use Rattle.linear_formula.specs.Results.{renamed_column}
 use Rattle.linear_formula.specs.Replaced.{column_sum}
@@ -19,17 +20,17 @@ use Rattle.shadow_elim.specs.ProjectionLaws.{FitsProjection, Pair}
 use Rattle.shadow_elim.proofs.Projecting.{projections-keep, projections-lose-none}
 use Rattle.shadow_elim.proofs.Summing.{renaming-hold, hold-renaming, sums-append, sums-split, equal-hold, hold-equal}
 use Rattle.shadow_elim.proofs.Members.{contains-among, filter-among}
-use Rattle.flow_graph.specs.Columns.{columns_of, valuation_of, value_at, no_slots, first_entry, first_exit, rows_name_only, AreAllValues}
+use Rattle.flow_graph.specs.Columns.{columns_of, valuation_of, value_at, no_slots, first_entry, first_exit, first_symbol, rows_name_only, AreAllValues}
 use Rattle.flow_graph.proofs.Numbers.{value_of_64, columns_64, values_64, none_values}
 use Rattle.flow_graph.proofs.Values.{values_map}
 use Rattle.summary_form.specs.declared.query.ExitKind.{ExitKind}
 use Rattle.summary_form.specs.declared.query.ExitKind.TheVariants as kind
 use Rattle.call_bridge.specs.Calls.{LiesBehind, inner_column}
-use Rattle.call_bridge.specs.Asked.{argument_columns, first_argument, as_entry, place_sums, exit_column, call_rows, caller_columns, asked, FitsCall, HoldsCalls, IsCalled, HoldsNoOtherCall}
+use Rattle.call_bridge.specs.Asked.{argument_columns, first_argument, result_columns, as_entry, place_sums, exit_column, call_rows, caller_columns, asked, FitsCall, HoldsCalls, IsCalled, HoldsNoOtherCall}
 use Rattle.call_bridge.proofs.Agreeing.{holds_agree, agree_back, slot_at}
 use Rattle.call_bridge.proofs.Leaving.{kind_fits, left_names}
 use Rattle.call_bridge.proofs.Naming.{rows_wider}
-use Rattle.call_bridge.proofs.Queries.{IsAnswer, answer_is, call_rows_named, call_rows_terms, is_call_column, inner_low}
+use Rattle.call_bridge.proofs.Queries.{IsAnswer, answer_is, call_rows_named, call_rows_terms, is_call_column, inner_low, below_argument}
 
 entry_column : (s : State) (entry exit : List ℤ) (x : ℕ) → first_entry ≤ x → x < first_exit → columns_of s entry exit x ≡ value_at entry
     (x - first_entry)
@@ -56,6 +57,23 @@ argument_value called values j h =
     values (first_entry + j) (omega arith) (omega (arith, h)) in
     let e : (first_entry + j) - first_entry ≡ j = omega arith in
     ap (valuation_of called values) (b ∙ c) ∙ d ∙ ap (value_at called) e
+
+-- the value of the column of result i
+exit_column_value : (s : State) (entry exit : List ℤ) (i : ℕ) → i < first_entry → columns_of s entry exit (first_exit + i) ≡ value_at exit i
+exit_column_value s entry exit i h =
+    let a : nat_lt (first_exit + i) first_entry ≡ false = le-ltb (first_exit + i) first_entry (omega arith) in
+    let b : nat_lt (first_exit + i) first_exit ≡ false = le-ltb (first_exit + i) first_exit (omega arith) in
+    let c : nat_lt (first_exit + i) first_symbol ≡ true = lt-ltb (first_exit + i) first_symbol (omega (arith, h)) in
+    let d : (first_exit + i) - first_exit ≡ i = omega arith in
+    rw (a, b, c) (ap (value_at exit) d)
+
+exit_value : (called values : List ℤ) (i : ℕ) → i < first_entry → valuation_of called values (as_entry (first_exit + i)) ≡ value_at values i
+exit_value called values i h =
+    ap (valuation_of called values) (below_argument (first_exit + i) (omega (arith, h))) ∙ exit_column_value no_slots called values i h
+
+others_at : (values : List ℤ) (j : ℕ) → value_at (drop 1 values) j ≡ value_at values (suc j)
+others_at [] j = refl
+others_at (z ∷ zs) j = refl
 
 -- the caller's columns, and from the exit values on the asked query's
 abbrev asked_at : State → (entry values : List ℤ) → List ℕ → Valuation
@@ -108,28 +126,56 @@ module _ (s : State) (entry values : List ℤ) (args : List ℕ) where
 
 -- The rows of a call at a valuation that reads the caller's columns by their new numbers
 
-module _ (args : List ℕ) (slot : ℕ) (source target : List Atom) (f : FitsCall args slot source target) (s : State) (entry values : List ℤ)
+module _ (args : List ℕ) (results : List ℕ) (source target : List Atom) (f : FitsCall args results source target) (s : State)
+    (entry values : List ℤ)
     (w : Valuation) (low : (x : ℕ) → x < first_exit → w (renamed_column (argument_columns 0 args) x) ≡ columns_of s entry [] x)
-    (out : w first_exit ≡ value_at values 0) where
+    (out : (i : ℕ) → i < first_entry → w (first_exit + i) ≡ value_at values i) where
   source_agrees : (x : ℕ) → IsTrue (inner_column x) → columns_of s entry [] x ≡ w (renamed_column (argument_columns 0 args) x)
   source_agrees x k = sym (low x (inner_low x k))
 
-  target_agrees : (x : ℕ) → IsTrue (inner_column x) → columns_of (with_slot s slot (value_at values 0)) entry [] x
-      ≡ w (renamed_column (argument_columns 0 args) (exit_column kind.Return slot x))
-  target_agrees x k = by_test (x == slot) refl where
-    by_test : (t : Bool) → (x == slot) ≡ t → columns_of (with_slot s slot (value_at values 0)) entry [] x
-        ≡ w (renamed_column (argument_columns 0 args) (if t then first_exit else x))
-    by_test true e =
-        let small : nat_lt x first_entry ≡ true = lt-ltb x first_entry (subst (λ o. o < first_entry) (sym (eqb-true x slot e)) f.slot_low)
-        in
-        let here : with_slot s slot (value_at values 0) x ≡ value_at values 0 = rw e refl in
-        slot_at (with_slot s slot (value_at values 0)) entry [] x small ∙ here ∙ sym out
-        ∙ sym (ap w (fixed_at 0 args f.are_slots first_exit (omega arith)))
-    by_test false e = changed (nat_lt x first_entry) refl ∙ source_agrees x k where
-      changed : (b : Bool) → nat_lt x first_entry ≡ b → columns_of (with_slot s slot (value_at values 0)) entry [] x ≡ columns_of s entry []
-          x
-      changed true g = slot_at (with_slot s slot (value_at values 0)) entry [] x g ∙ rw e refl ∙ sym (slot_at s entry [] x g)
-      changed false g = rw g refl
+  -- each result's slot has the exit value of its column
+  results_agree : (i : ℕ) (some : List ℕ) (vals : List ℤ) → ((j a : ℕ) → slice_get some j ≡ Some a → a < first_entry) →
+      ((j : ℕ) → j < length some → w (first_exit + (i + j)) ≡ value_at vals j) → (x : ℕ) → IsTrue (inner_column x) →
+      columns_of (with_slots s some vals) entry [] x
+      ≡ w (renamed_column (argument_columns 0 args) (renamed_column (result_columns i some) x))
+  results_agree i [] vals lows outs x k = source_agrees x k
+  results_agree i (y ∷ ys) vals lows outs x k =
+      by_test (x == y) refl
+      (results_agree (i + 1) ys (drop 1 vals) (λ j a e. lows (suc j) a e) (λ j h. moved j (outs (suc j) (omega (arith, h)))) x k)
+    where
+      z : ℤ
+      z = value_at vals 0
+
+      moved : (j : ℕ) → w (first_exit + (i + suc j)) ≡ value_at vals (suc j) → w (first_exit + ((i + 1) + j)) ≡ value_at (drop 1 vals) j
+      moved j e =
+          let n : (i + 1) + j ≡ i + suc j = omega arith in
+          ap (λ o. w (first_exit + o)) n ∙ e ∙ sym (others_at vals j)
+
+      by_test : (t : Bool) → (x == y) ≡ t → columns_of (with_slots s ys (drop 1 vals)) entry [] x
+          ≡ w (renamed_column (argument_columns 0 args) (renamed_column (result_columns (i + 1) ys) x)) →
+          columns_of (with_slot (with_slots s ys (drop 1 vals)) y (value_at vals 0)) entry [] x
+          ≡ w (renamed_column (argument_columns 0 args) (if t then (first_exit + i) else renamed_column (result_columns (i + 1) ys) x))
+      by_test true e rest =
+          let small : nat_lt x first_entry ≡ true = lt-ltb x first_entry
+          (subst (λ o. o < first_entry) (sym (eqb-true x y e)) (lows 0 y refl)) in
+          let here : with_slot (with_slots s ys (drop 1 vals)) y z x ≡ z = rw e refl in
+          let n : i + 0 ≡ i = omega arith in
+          slot_at (with_slot (with_slots s ys (drop 1 vals)) y z) entry [] x small ∙ here ∙ sym (outs 0 (omega arith))
+          ∙ ap (λ o. w (first_exit + o)) n ∙ sym (ap w (fixed_at 0 args f.are_slots (first_exit + i) (omega arith)))
+      by_test false e rest = changed (nat_lt x first_entry) refl ∙ rest where
+        changed : (b : Bool) → nat_lt x first_entry ≡ b → columns_of (with_slot (with_slots s ys (drop 1 vals)) y (value_at vals 0)) entry
+            []
+            x ≡ columns_of (with_slots s ys (drop 1 vals)) entry [] x
+        changed true g = slot_at (with_slot (with_slots s ys (drop 1 vals)) y (value_at vals 0)) entry [] x g ∙ rw e refl
+            ∙ sym (slot_at (with_slots s ys (drop 1 vals)) entry [] x g)
+        changed false g = rw g refl
+
+  target_agrees : (x : ℕ) → IsTrue (inner_column x) → columns_of (with_slots s results values) entry [] x
+      ≡ w (renamed_column (argument_columns 0 args) (exit_column kind.Return results x))
+  target_agrees x k =
+      results_agree 0 results values f.results_low
+      (λ j h. let n : 0 + j ≡ j = omega arith in
+      ap (λ o. w (first_exit + o)) n ∙ out j (omega (arith, h, f.few_results))) x k
 
   source_in : HoldsAll (columns_of s entry []) source →
       HoldsAll w (rows_of_sums (row_sums (renaming (renamed_column (argument_columns 0 args))) source))
@@ -142,23 +188,24 @@ module _ (args : List ℕ) (slot : ℕ) (source target : List Atom) (f : FitsCal
       (agree_back inner_column (columns_of s entry []) (λ x. w (renamed_column (argument_columns 0 args) x)) source_agrees) f.source_names
       (hold-renaming w (renamed_column (argument_columns 0 args)) source h)
 
-  target_in : (exit : ExitKind) → LiesBehind exit slot s entry values target →
-      HoldsAll w (rows_of_sums (row_sums (renaming (λ x. renamed_column (argument_columns 0 args) (exit_column exit slot x))) target))
-  target_in kind.Return h = renaming-hold w (λ x. renamed_column (argument_columns 0 args) (exit_column kind.Return slot x)) target
-      (holds_agree inner_column (columns_of (with_slot s slot (value_at values 0)) entry [])
-      (λ x. w (renamed_column (argument_columns 0 args) (exit_column kind.Return slot x))) target target_agrees f.target_names h)
+  target_in : (exit : ExitKind) → LiesBehind exit results s entry values target →
+      HoldsAll w (rows_of_sums (row_sums (renaming (λ x. renamed_column (argument_columns 0 args) (exit_column exit results x))) target))
+  target_in kind.Return h = renaming-hold w (λ x. renamed_column (argument_columns 0 args) (exit_column kind.Return results x)) target
+      (holds_agree inner_column (columns_of (with_slots s results values) entry [])
+      (λ x. w (renamed_column (argument_columns 0 args) (exit_column kind.Return results x))) target target_agrees f.target_names h)
   target_in (kind.Fail id) h = renaming-hold w (renamed_column (argument_columns 0 args)) target
       (holds_agree inner_column (columns_of s entry []) (λ x. w (renamed_column (argument_columns 0 args) x)) target source_agrees
       f.target_names h)
 
   target_out : (exit : ExitKind) →
-      HoldsAll w (rows_of_sums (row_sums (renaming (λ x. renamed_column (argument_columns 0 args) (exit_column exit slot x))) target)) →
-      LiesBehind exit slot s entry values target
-  target_out kind.Return h = holds_agree inner_column (λ x. w (renamed_column (argument_columns 0 args) (exit_column kind.Return slot x)))
-      (columns_of (with_slot s slot (value_at values 0)) entry []) target
-      (agree_back inner_column (columns_of (with_slot s slot (value_at values 0)) entry [])
-      (λ x. w (renamed_column (argument_columns 0 args) (exit_column kind.Return slot x))) target_agrees) f.target_names (hold-renaming w
-      (λ x. renamed_column (argument_columns 0 args) (exit_column kind.Return slot x)) target h)
+      HoldsAll w (rows_of_sums (row_sums (renaming (λ x. renamed_column (argument_columns 0 args) (exit_column exit results x))) target)) →
+      LiesBehind exit results s entry values target
+  target_out kind.Return h = holds_agree inner_column
+      (λ x. w (renamed_column (argument_columns 0 args) (exit_column kind.Return results x)))
+      (columns_of (with_slots s results values) entry []) target
+      (agree_back inner_column (columns_of (with_slots s results values) entry [])
+      (λ x. w (renamed_column (argument_columns 0 args) (exit_column kind.Return results x))) target_agrees) f.target_names (hold-renaming w
+      (λ x. renamed_column (argument_columns 0 args) (exit_column kind.Return results x)) target h)
   target_out (kind.Fail id) h = holds_agree inner_column (λ x. w (renamed_column (argument_columns 0 args) x)) (columns_of s entry [])
       target (agree_back inner_column (columns_of s entry []) (λ x. w (renamed_column (argument_columns 0 args) x)) source_agrees)
       f.target_names (hold-renaming w (renamed_column (argument_columns 0 args)) target h)
@@ -238,21 +285,22 @@ same_map s (a ∷ args) [] e k = absurd (omega (arith, e))
 same_map s (a ∷ args) (z ∷ called) e k = ap (λ y. y ∷ map s args) (k 0 a refl) ∙ ap (λ zs. z ∷ zs)
     (same_map s args called (omega (arith, e)) (λ j b f. k (suc j) b f))
 
-module _ (exit : ExitKind) (args : List ℕ) (slot : ℕ) (source target : List Atom) (f : FitsCall args slot source target) (rows : List Atom)
-    (pair : Pair) (is : asked exit args slot source target ≡ gives rows pair) where
-  answer : IsAnswer exit args slot source target rows pair
-  answer = answer_is exit args slot source target rows pair is
+module _ (exit : ExitKind) (args : List ℕ) (results : List ℕ) (source target : List Atom) (f : FitsCall args results source target)
+    (rows : List Atom)
+    (pair : Pair) (is : asked exit args results source target ≡ gives rows pair) where
+  answer : IsAnswer exit args results source target rows pair
+  answer = answer_is exit args results source target rows pair is
 
-  fits : FitsProjection (caller_columns (call_rows exit args slot source target)) (call_rows exit args slot source target)
-  fits = kind_fits (λ x. nat_lt x first_exit) (call_rows exit args slot source target) (call_rows_terms exit args slot source target f
+  fits : FitsProjection (caller_columns (call_rows exit args results source target)) (call_rows exit args results source target)
+  fits = kind_fits (λ x. nat_lt x first_exit) (call_rows exit args results source target) (call_rows_terms exit args results source target f
       answer.decided)
 
   -- every call from the source into the target meets the rows
-  pub asked_holds : HoldsCalls exit args slot source target rows
+  pub asked_holds : HoldsCalls exit args results source target rows
   asked_holds s entry values vs ve vx h l =
       let v : Valuation = asked_at s entry values args in
-      let kept : HoldsAll v answer.left = projections-keep (caller_columns (call_rows exit args slot source target))
-      (call_rows exit args slot source target) answer.left pair answer.was v bits all_hold in
+      let kept : HoldsAll v answer.left = projections-keep (caller_columns (call_rows exit args results source target))
+      (call_rows exit args results source target) answer.left pair answer.was v bits all_hold in
       let read : HoldsAll (λ x. valuation_of (map s args) values (as_entry x)) answer.left = holds_agree (λ x. nat_le first_exit x) v
       (λ x. valuation_of (map s args) values (as_entry x)) answer.left (λ x k. high_at s entry values args x (leb-true first_exit x k))
       above kept in
@@ -260,13 +308,17 @@ module _ (exit : ExitKind) (args : List ℕ) (slot : ℕ) (source target : List 
       answer.left read)
     where
       above : IsTrue (rows_name_only (λ x. nat_le first_exit x) answer.left)
-      above = rows_wider (λ x. is_call_column exit (length args) x && not (nat_lt x first_exit)) (λ x. nat_le first_exit x) not_low
+      above = rows_wider (λ x. is_call_column exit (length args) (length results) x && not (nat_lt x first_exit)) (λ x. nat_le first_exit x)
+          not_low
           answer.left
-          (left_names (λ x. nat_lt x first_exit) (is_call_column exit (length args)) (call_rows exit args slot source target) answer.left
+          (left_names (λ x. nat_lt x first_exit) (is_call_column exit (length args) (length results))
+          (call_rows exit args results source target) answer.left
           pair
-          fits answer.was (call_rows_named exit args slot source target f)) where
-            not_low : (x : ℕ) → IsTrue (is_call_column exit (length args) x && not (nat_lt x first_exit)) → IsTrue (nat_le first_exit x)
-            not_low x k = by_test (nat_lt x first_exit) refl (both (is_call_column exit (length args) x) (not (nat_lt x first_exit))
+          fits answer.was (call_rows_named exit args results source target f)) where
+            not_low : (x : ℕ) → IsTrue (is_call_column exit (length args) (length results) x && not (nat_lt x first_exit)) →
+                IsTrue (nat_le first_exit x)
+            not_low x k = by_test (nat_lt x first_exit) refl (both (is_call_column exit (length args) (length results) x)
+                (not (nat_lt x first_exit))
                 k).1 where
                   by_test : (b : Bool) → nat_lt x first_exit ≡ b → IsTrue (not b) → IsTrue (nat_le first_exit x)
                   by_test true e q = absurd cc
@@ -284,18 +336,21 @@ module _ (exit : ExitKind) (args : List ℕ) (slot : ℕ) (source target : List 
       low : (x : ℕ) → x < first_exit → asked_at s entry values args (renamed_column (argument_columns 0 args) x) ≡ columns_of s entry [] x
       low x k = renamed_at s entry values args 0 args known x k
 
+      out : (i : ℕ) → i < first_entry → asked_at s entry values args (first_exit + i) ≡ value_at values i
+      out i k = high_at s entry values args (first_exit + i) (omega arith) ∙ exit_value (map s args) values i k
+
       first : (j a : ℕ) → slice_get args j ≡ Some a → asked_at s entry values args (first_argument + (0 + j)) ≡ asked_at s entry values args
           (renamed_column (argument_columns 0 args) a)
       first j a e = let m = known j a e in m.0 ∙ sym (low a (omega (arith, m.1)) ∙ slot_at s entry [] a (lt-ltb a first_entry m.1))
 
-      all_hold : HoldsAll (asked_at s entry values args) (call_rows exit args slot source target)
+      all_hold : HoldsAll (asked_at s entry values args) (call_rows exit args results source target)
       all_hold =
           let v : Valuation = asked_at s entry values args in
           let by : ℕ → ℕ = renamed_column (argument_columns 0 args) in
-          sums-append v (row_sums (renaming by) source) (row_sums (renaming (λ x. by (exit_column exit slot x))) target
-          ++ place_sums (argument_columns 0 args) 0 args) (source_in args slot source target f s entry values v low refl h) (sums-append v
-          (row_sums (renaming (λ x. by (exit_column exit slot x))) target) (place_sums (argument_columns 0 args) 0 args)
-          (target_in args slot source target f s entry values v low refl exit l) (places_in v (argument_columns 0 args) 0 args first))
+          sums-append v (row_sums (renaming by) source) (row_sums (renaming (λ x. by (exit_column exit results x))) target
+          ++ place_sums (argument_columns 0 args) 0 args) (source_in args results source target f s entry values v low out h) (sums-append v
+          (row_sums (renaming (λ x. by (exit_column exit results x))) target) (place_sums (argument_columns 0 args) 0 args)
+          (target_in args results source target f s entry values v low out exit l) (places_in v (argument_columns 0 args) 0 args first))
 
       bits : Is64 (asked_at s entry values args)
       bits x = by_test (nat_lt x first_exit) where
@@ -312,30 +367,34 @@ module _ (exit : ExitKind) (args : List ℕ) (slot : ℕ) (source target : List 
     v_meets : HoldsAll (λ x. valuation_of called values (as_entry x)) answer.left
     v_meets = hold-renaming (valuation_of called values) as_entry answer.left (subst (HoldsAll (valuation_of called values)) answer.made h)
 
-    found : (w : Valuation) × Is64 w × ((x : ℕ) → (Contains (caller_columns (call_rows exit args slot source target)) x → ⊥) →
-        w x ≡ valuation_of called values (as_entry x)) × HoldsAll w (call_rows exit args slot source target)
-    found = projections-lose-none (caller_columns (call_rows exit args slot source target)) (call_rows exit args slot source target)
+    found : (w : Valuation) × Is64 w × ((x : ℕ) → (Contains (caller_columns (call_rows exit args results source target)) x → ⊥) →
+        w x ≡ valuation_of called values (as_entry x)) × HoldsAll w (call_rows exit args results source target)
+    found = projections-lose-none (caller_columns (call_rows exit args results source target)) (call_rows exit args results source target)
         answer.left fits (answer.was ∙ ap (gives answer.left) none) (λ x. valuation_of called values (as_entry x)) v_bits v_meets
 
     high : (x : ℕ) → first_exit ≤ x → found.0 x ≡ valuation_of called values (as_entry x)
     high x k = found.2 x (λ c. let m = filter-among (λ y. nat_lt y first_exit)
-        (named_columns (rows_of (call_rows exit args slot source target)))
-        x (contains-among (caller_columns (call_rows exit args slot source target)) x c) in omega (arith, k, ltb-true x first_exit m.1))
+        (named_columns (rows_of (call_rows exit args results source target)))
+        x (contains-among (caller_columns (call_rows exit args results source target)) x c) in omega (arith, k, ltb-true x first_exit m.1))
+
+    out : (i : ℕ) → i < first_entry → found.0 (first_exit + i) ≡ value_at values i
+    out i k = high (first_exit + i) (omega arith) ∙ exit_value called values i k
 
     abbrev state : State
     state x = found.0 (renamed_column (argument_columns 0 args) x)
 
     split : HoldsAll found.0 (rows_of_sums (row_sums (renaming (renamed_column (argument_columns 0 args))) source)) × HoldsAll found.0
-        (rows_of_sums (row_sums (renaming (λ x. renamed_column (argument_columns 0 args) (exit_column exit slot x))) target
+        (rows_of_sums (row_sums (renaming (λ x. renamed_column (argument_columns 0 args) (exit_column exit results x))) target
         ++ place_sums (argument_columns 0 args) 0 args))
     split = sums-split found.0 (row_sums (renaming (renamed_column (argument_columns 0 args))) source)
-        (row_sums (renaming (λ x. renamed_column (argument_columns 0 args) (exit_column exit slot x))) target
+        (row_sums (renaming (λ x. renamed_column (argument_columns 0 args) (exit_column exit results x))) target
         ++ place_sums (argument_columns 0 args) 0 args) found.3
 
-    behind : HoldsAll found.0 (rows_of_sums (row_sums (renaming (λ x. renamed_column (argument_columns 0 args) (exit_column exit slot x)))
+    behind : HoldsAll found.0
+        (rows_of_sums (row_sums (renaming (λ x. renamed_column (argument_columns 0 args) (exit_column exit results x)))
         target))
         × HoldsAll found.0 (rows_of_sums (place_sums (argument_columns 0 args) 0 args))
-    behind = sums-split found.0 (row_sums (renaming (λ x. renamed_column (argument_columns 0 args) (exit_column exit slot x))) target)
+    behind = sums-split found.0 (row_sums (renaming (λ x. renamed_column (argument_columns 0 args) (exit_column exit results x))) target)
         (place_sums (argument_columns 0 args) 0 args) split.1
 
     passed : (j a : ℕ) → slice_get args j ≡ Some a → state a ≡ value_at called j
@@ -363,7 +422,7 @@ module _ (exit : ExitKind) (args : List ℕ) (slot : ℕ) (source target : List 
             ap found.0 (fixed_at 0 args f.are_slots x great ∙ n) ∙ sym (listed_at count (λ i. found.0 (first_entry + i)) (x - first_entry)
             (omega (arith, all, great, k))) ∙ sym (entry_column state (listed count (λ i. found.0 (first_entry + i))) [] x great k)
 
-      is_called : IsCalled exit args slot source target called values
+      is_called : IsCalled exit args results source target called values
       is_called = record {
         state = state;
         entry = entry;
@@ -371,9 +430,9 @@ module _ (exit : ExitKind) (args : List ℕ) (slot : ℕ) (source target : List 
         entry_values = listed_values count (λ i. found.0 (first_entry + i)) (λ i. value_of_64 (found.0 (first_entry + i))
             (found.1 (first_entry + i)));
         passes = same_map state args called many passed;
-        from = source_out args slot source target f state entry values found.0 low (high first_exit (omega arith)) split.0;
-        into = target_out args slot source target f state entry values found.0 low (high first_exit (omega arith)) exit behind.0;
+        from = source_out args results source target f state entry values found.0 low out split.0;
+        into = target_out args results source target f state entry values found.0 low out exit behind.0;
       }
 
-  pub asked_exact : pair ≡ None → HoldsNoOtherCall exit args slot source target rows
+  pub asked_exact : pair ≡ None → HoldsNoOtherCall exit args results source target rows
   asked_exact none called values vc vx many h = is_called none called values vc vx many h first_entry refl

@@ -1,27 +1,28 @@
 -- A must leads into the target from the states that its preimage holds of, and from no others where it is exact.
-use Rattle.std.proofs.Common.{◌≡◌, ◌⊎◌, inl, inr, ⊎_elim, ℕ, zero, suc, ◌+◌, ◌<◌, ◌≤◌, ◌^◌, List, [], ◌∷◌, ◌++◌, length, map, Option, None, Some, Bool, true, false, not, ◌||◌, ◌&&◌, ◌==◌, nat_lt, nat_le, ℤ, pos, negsuc, ◌+ℤ◌, arith, refl, sym, subst, ap, ◌∙◌}
+use Rattle.std.proofs.Common.{◌≡◌, ℕ, zero, suc, ◌<◌, List, [], ◌∷◌, ◌++◌, length, drop, map, Option, None, Some, Bool, true, false, not, ◌||◌, ◌&&◌, ◌==◌, nat_lt, nat_le, ℤ, pos, negsuc, ◌+ℤ◌, arith, refl, sym, subst, ap, ◌∙◌}
 use Rattle.std.specs.Prelude.{slice_get, IsTrue, Contains, if◌then◌else◌}
 use Rattle.std.specs.List.{list_all}
 use Rattle.std.proofs.lemmas.Int.{ints}
-use borrow.Author.Tests.{eqb-true, eq-eqb, ne_eqb, lt-ltb, le-ltb, leb-true, leb-false}
+use borrow.Author.Tests.{eqb-true, eq-eqb, ne_eqb, lt-ltb, le-ltb, leb-true}
 use Rattle.c_tree.specs.Meaning.{State, with_slot}
+use Rattle.flow_graph.specs.Runs.{with_slots}
 use Rattle.linear_formula.specs.LinearSum.{LinearSum, Valuation, Is64, is64, is_zero, value_of, value_of_parts}
 use Rattle.linear_formula.specs.Results.{renamed_column}
 use Rattle.linear_formula.specs.Replaced.{column_sum, replaced_valuation}
-use Rattle.linear_formula.specs.Formula.{HoldsAll, are_terms, is_renamed}
+use Rattle.linear_formula.specs.Formula.{HoldsAll, is_renamed}
 use Rattle.linear_formula.specs.declared.formula.Atom.{Atom}
 use Rattle.linear_formula.proofs.Replacing.{value-column}
 use Rattle.linear_formula.proofs.Order.{zero_is}
-use Rattle.linear_formula.proofs.Limits.{both, both_in}
+use Rattle.linear_formula.proofs.Limits.{both}
 use Rattle.infeasible_cert.specs.Right.{columns_of as named_columns, rows_of}
-use Rattle.shadow_elim.specs.Sums.{first_wide, row_sums, rows_of_sums, renaming, equal_sums, term_at}
-use Rattle.shadow_elim.specs.Projection.{gives, projected, summed}
+use Rattle.shadow_elim.specs.Sums.{row_sums, rows_of_sums, equal_sums}
+use Rattle.shadow_elim.specs.Projection.{gives}
 use Rattle.shadow_elim.specs.ProjectionLaws.{FitsProjection, Pair}
-use Rattle.shadow_elim.proofs.Projecting.{unless-none, or-cases, projections-keep, projections-lose-none, projections-terms}
+use Rattle.shadow_elim.proofs.Projecting.{projections-keep, projections-lose-none, projections-terms}
 use Rattle.shadow_elim.proofs.Summing.{holds-same, sums-hold, hold-sums, renaming-hold, hold-renaming, sums-append, sums-split, equal-hold, hold-equal}
 use Rattle.shadow_elim.proofs.Members.{contains-among, filter-among}
 use Rattle.flow_graph.specs.Columns.{columns_of, value_at, first_entry, first_exit, first_symbol, names_only, rows_name_only, AreValues, AreAllValues}
-use Rattle.flow_graph.specs.Readings.{one_reading}
+use Rattle.flow_graph.specs.Readings.{term_at, results_reading}
 use Rattle.flow_graph.proofs.Numbers.{columns_64, none_values}
 use Rattle.summary_form.specs.declared.path.Path.{Path}
 use Rattle.summary_form.specs.declared.query.ExitKind.{ExitKind}
@@ -30,11 +31,11 @@ use Rattle.summary_form.specs.Musts.{values_of}
 use Rattle.summary_form.specs.Symbols.{all_name_only, is_symbol_column}
 use Rattle.call_bridge.specs.Calls.{LiesBehind, inner_column}
 use Rattle.call_bridge.specs.Laws.{IsRegion}
-use Rattle.call_bridge.specs.Musts.{is_number, is_one, single_of, single, is_new, with_symbol, replacing, other_sums, exit_reading, must_sums, plain_rows, slot_sums, must_rows, symbol_columns, must_preimage, FitsMust, Leads, HoldsMust, HoldsNoOtherMust}
+use Rattle.call_bridge.specs.Musts.{is_one, single_of, single, is_new, with_symbol, replacing, other_sums, exit_reading, must_sums, plain_rows, must_rows, symbol_columns, must_preimage, FitsMust, Leads, HoldsMust, HoldsNoOtherMust}
 use Rattle.call_bridge.proofs.Agreeing.{Agree, parts_agree, holds_agree, agree_back, holds_append, holds_split, slot_at}
-use Rattle.call_bridge.proofs.Leaving.{kind_fits, left_names}
-use Rattle.call_bridge.proofs.Naming.{sums_name_only, rows_named, rows_named_append, sums_are_terms, sums_named_append, row_sums_named, column_named, equal_named, rows_wider, sums_wider}
-use Rattle.call_bridge.proofs.Queries.{either_in, inner_low, slot_inner}
+use Rattle.call_bridge.proofs.Leaving.{kind_fits}
+use Rattle.call_bridge.proofs.MustNames.{symbol_high, IsPreimageAnswer, must_answer, MustNames, must_rows_terms, preimage_names}
+use Rattle.call_bridge.proofs.Queries.{inner_low, slot_inner}
 
 -- Terms
 terms_agree : (allowed : ℕ → Bool) (v w : Valuation) (ts : List LinearSum) → Agree allowed v w → IsTrue (all_name_only allowed ts) →
@@ -49,6 +50,10 @@ term_value : (v : Valuation) (ts : List LinearSum) (i : ℕ) → value_of v (ter
 term_value v [] i = refl
 term_value v (t ∷ ts) zero = refl
 term_value v (t ∷ ts) (suc i) = term_value v ts i
+
+others_value : (v : Valuation) (ts : List LinearSum) → values_of v (drop 1 ts) ≡ drop 1 (values_of v ts)
+others_value v [] = refl
+others_value v (t ∷ ts) = refl
 
 -- a column alone
 one_is : (z : ℤ) → is_one z ≡ true → z ≡ pos 1
@@ -243,10 +248,6 @@ matches_list v s (x ∷ args) (t ∷ terms) e low m =
     ap (λ z. z ∷ values_of v terms) (m.0 ∙ low 0 x refl) ∙ ap (λ zs. s x ∷ zs) (matches_list v s args terms (omega (arith, e))
     (λ j a f. low (suc j) a f) m.1)
 
--- symbols stand above the columns of a caller
-symbol_high : (symbols x : ℕ) → IsTrue (is_symbol_column symbols x) → first_symbol ≤ x
-symbol_high symbols x h = leb-true first_symbol x (both (nat_le first_symbol x) (nat_lt x (first_symbol + symbols)) h).0
-
 -- no column below the symbols is renamed
 fixed_column : (x : ℕ) (ps : List (ℕ × ℕ)) → is_renamed x ps ≡ false → renamed_column ps x ≡ x
 fixed_column x [] h = refl
@@ -296,248 +297,95 @@ replacing_high x low symbols done (z ∷ args) (t ∷ terms) n h =
 
 -- The target behind the call, at a valuation that reads the caller's columns as they are
 
-module _ (slot : ℕ) (slot_low : slot < first_entry) (target : List Atom) (named : IsTrue (rows_name_only inner_column target))
+module _ (results : List ℕ) (results_low : (j a : ℕ) → slice_get results j ≡ Some a → a < first_entry) (target : List Atom)
+    (named : IsTrue (rows_name_only inner_column target))
     (outcome : List LinearSum) (values : List ℤ) (s : State) (entry : List ℤ) (v : Valuation) (low : (x : ℕ) → x < first_exit →
     v x ≡ columns_of s entry [] x) (out : values_of v outcome ≡ values) where
-  return_agrees : (x : ℕ) → IsTrue (inner_column x) → value_of v (one_reading slot (term_at outcome 0) x)
-      ≡ columns_of (with_slot s slot (value_at values 0)) entry [] x
-  return_agrees x k = by_test (x == slot) refl where
-    by_test : (b : Bool) → (x == slot) ≡ b → value_of v (if b then term_at outcome 0 else column_sum x)
-        ≡ columns_of (with_slot s slot (value_at values 0)) entry [] x
-    by_test true e =
-        let small : nat_lt x first_entry ≡ true = lt-ltb x first_entry (subst (λ o. o < first_entry) (sym (eqb-true x slot e)) slot_low) in
-        let here : with_slot s slot (value_at values 0) x ≡ value_at values 0 = rw e refl in
-        term_value v outcome 0 ∙ ap (λ zs. value_at zs 0) out ∙ sym (slot_at (with_slot s slot (value_at values 0)) entry [] x small ∙ here)
-    by_test false e = value-column v x ∙ low x (inner_low x k) ∙ sym (changed (nat_lt x first_entry) refl) where
-      changed : (b : Bool) → nat_lt x first_entry ≡ b → columns_of (with_slot s slot (value_at values 0)) entry [] x ≡ columns_of s entry []
-          x
-      changed true g = slot_at (with_slot s slot (value_at values 0)) entry [] x g ∙ rw e refl ∙ sym (slot_at s entry [] x g)
-      changed false g = rw g refl
+  -- each result's slot has the value of its term
+  results_agree : (some : List ℕ) (terms : List LinearSum) → ((j a : ℕ) → slice_get some j ≡ Some a → a < first_entry) → (x : ℕ) →
+      IsTrue (inner_column x) →
+      value_of v (results_reading some terms x) ≡ columns_of (with_slots s some (values_of v terms)) entry [] x
+  results_agree [] terms lows x k = value-column v x ∙ low x (inner_low x k)
+  results_agree (y ∷ ys) terms lows x k =
+      by_test (x == y) refl
+      (results_agree ys (drop 1 terms) (λ j a e. lows (suc j) a e) x k
+      ∙ ap (λ vs. columns_of (with_slots s ys vs) entry [] x) (others_value v terms))
+    where
+      by_test : (b : Bool) → (x == y) ≡ b → value_of v (results_reading ys (drop 1 terms) x)
+          ≡ columns_of (with_slots s ys (drop 1 (values_of v terms))) entry [] x →
+          value_of v (if b then term_at terms 0 else results_reading ys (drop 1 terms) x)
+          ≡ columns_of (with_slot (with_slots s ys (drop 1 (values_of v terms))) y (value_at (values_of v terms) 0)) entry [] x
+      by_test true e rest =
+          let t = with_slots s ys (drop 1 (values_of v terms)) in
+          let z = value_at (values_of v terms) 0 in
+          let small : nat_lt x first_entry ≡ true = lt-ltb x first_entry
+          (subst (λ o. o < first_entry) (sym (eqb-true x y e)) (lows 0 y refl)) in
+          let here : with_slot t y z x ≡ z = rw e refl in
+          term_value v terms 0 ∙ sym (slot_at (with_slot t y z) entry [] x small ∙ here)
+      by_test false e rest = rest ∙ sym (changed (nat_lt x first_entry) refl) where
+        changed : (b : Bool) → nat_lt x first_entry ≡ b →
+            columns_of (with_slot (with_slots s ys (drop 1 (values_of v terms))) y (value_at (values_of v terms) 0)) entry [] x
+            ≡ columns_of (with_slots s ys (drop 1 (values_of v terms))) entry [] x
+        changed true g = slot_at (with_slot (with_slots s ys (drop 1 (values_of v terms))) y (value_at (values_of v terms) 0)) entry [] x g
+            ∙ rw e refl ∙ sym (slot_at (with_slots s ys (drop 1 (values_of v terms))) entry [] x g)
+        changed false g = rw g refl
+
+  return_agrees : (x : ℕ) → IsTrue (inner_column x) → value_of v (results_reading results outcome x)
+      ≡ columns_of (with_slots s results values) entry [] x
+  return_agrees x k = results_agree results outcome results_low x k ∙ ap (λ vs. columns_of (with_slots s results vs) entry [] x) out
 
   fail_agrees : (x : ℕ) → IsTrue (inner_column x) → value_of v (column_sum x) ≡ columns_of s entry [] x
   fail_agrees x k = value-column v x ∙ low x (inner_low x k)
 
-  target_in : (exit : ExitKind) → LiesBehind exit slot s entry values target →
-      HoldsAll v (rows_of_sums (row_sums (exit_reading exit slot outcome) target))
-  target_in kind.Return h = sums-hold v (one_reading slot (term_at outcome 0)) target
-      (holds_agree inner_column (columns_of (with_slot s slot (value_at values 0)) entry [])
-      (replaced_valuation (one_reading slot (term_at outcome 0)) v) target
-      (agree_back inner_column (replaced_valuation (one_reading slot (term_at outcome 0)) v)
-      (columns_of (with_slot s slot (value_at values 0)) entry []) return_agrees) named h)
+  target_in : (exit : ExitKind) → LiesBehind exit results s entry values target →
+      HoldsAll v (rows_of_sums (row_sums (exit_reading exit results outcome) target))
+  target_in kind.Return h = sums-hold v (results_reading results outcome) target
+      (holds_agree inner_column (columns_of (with_slots s results values) entry [])
+      (replaced_valuation (results_reading results outcome) v) target
+      (agree_back inner_column (replaced_valuation (results_reading results outcome) v)
+      (columns_of (with_slots s results values) entry []) return_agrees) named h)
   target_in (kind.Fail id) h = sums-hold v column_sum target (holds_agree inner_column (columns_of s entry [])
       (replaced_valuation column_sum v) target (agree_back inner_column (replaced_valuation column_sum v) (columns_of s entry [])
       fail_agrees)
       named h)
 
-  target_out : (exit : ExitKind) → HoldsAll v (rows_of_sums (row_sums (exit_reading exit slot outcome) target)) →
-      LiesBehind exit slot s entry values target
-  target_out kind.Return h = holds_agree inner_column (replaced_valuation (one_reading slot (term_at outcome 0)) v)
-      (columns_of (with_slot s slot (value_at values 0)) entry []) target return_agrees named
-      (hold-sums v (one_reading slot (term_at outcome 0)) target h)
+  target_out : (exit : ExitKind) → HoldsAll v (rows_of_sums (row_sums (exit_reading exit results outcome) target)) →
+      LiesBehind exit results s entry values target
+  target_out kind.Return h = holds_agree inner_column (replaced_valuation (results_reading results outcome) v)
+      (columns_of (with_slots s results values) entry []) target return_agrees named
+      (hold-sums v (results_reading results outcome) target h)
   target_out (kind.Fail id) h = holds_agree inner_column (replaced_valuation column_sum v) (columns_of s entry []) target fail_agrees named
       (hold-sums v column_sum target h)
 
--- What the answer says
-
-pub record IsPreimageAnswer (must : Path) (args : List ℕ) (slot : ℕ) (target rows : List Atom) (pair : Pair) : Type 0 where
-  pub decided : first_wide (slot_sums must args (plain_rows must args slot target)) ≡ None
-  pub was : projected (symbol_columns (must_rows must args slot target)) (must_rows must args slot target) ≡ gives rows pair
-
-must_answer : (must : Path) (args : List ℕ) (slot : ℕ) (target rows : List Atom) (pair : Pair) → must_preimage must args slot target
-    ≡ gives rows pair → IsPreimageAnswer must args slot target rows pair
-must_answer must args slot target rows pair e =
-    let plain : List Atom = plain_rows must args slot target in
-    let all : List Atom = must_rows must args slot target in
-    let a = unless-none (first_wide (must_sums must args slot target))
-    (summed (slot_sums must args plain) (λ rs. projected (symbol_columns rs) rs))
-    rows pair e in
-    let b = unless-none (first_wide (slot_sums must args plain)) (projected (symbol_columns all) all) rows pair a.1 in
-    record { decided = b.0; was = b.1 }
-
--- The columns that the rows name
-
--- slots and entry values, and the must's symbols
-abbrev pub is_must_column : Path → ℕ → Bool
-is_must_column must x = inner_column x || (is_symbol_column must.symbols x && is_number x)
-
-inner_must : (must : Path) (x : ℕ) → IsTrue (inner_column x) → IsTrue (is_must_column must x)
-inner_must must x h = either_in (inner_column x) (is_symbol_column must.symbols x && is_number x) (inl h)
-
-inner_left : (must : Path) (x : ℕ) → IsTrue (is_must_column must x && not (nat_le first_symbol x)) → IsTrue (inner_column x)
-inner_left must x h =
-    let r = both (is_must_column must x) (not (nat_le first_symbol x)) h in
-    ⊎_elim (λ k. k) (λ k. absurd (gone (both (is_symbol_column must.symbols x) (is_number x) k).0 (nat_le first_symbol x) refl r.1))
-    (or-cases (inner_column x) (is_symbol_column must.symbols x && is_number x) r.0) where
-      gone : IsTrue (is_symbol_column must.symbols x) → (b : Bool) → nat_le first_symbol x ≡ b → IsTrue (not b) → ⊥
-      gone k true e n = cc
-      gone k false e n = let l = symbol_high must.symbols x k in omega (arith, l, leb-false first_symbol x e)
-
-must_number : (must : Path) (x : ℕ) → IsTrue (is_must_column must x) → IsTrue (is_number x)
-must_number must x h =
-    ⊎_elim (λ k. let l = inner_low x k in lt-ltb x (2 ^ 32) (omega (arith, l)))
-    (λ k. (both (is_symbol_column must.symbols x) (is_number x) k).1)
-    (or-cases (inner_column x) (is_symbol_column must.symbols x && is_number x) h)
-
-both_parts : (must : Path) (ps : List (ℕ × ℤ)) → IsTrue (list_all (λ p. is_symbol_column must.symbols p.0) ps) →
-    IsTrue (list_all (λ p. is_number p.0) ps) → IsTrue (list_all (λ p. is_must_column must p.0) ps)
-both_parts must [] h k = refl
-both_parts must (p ∷ ps) h k =
-    let r = both (is_symbol_column must.symbols p.0) (list_all (λ q. is_symbol_column must.symbols q.0) ps) h in
-    let u = both (is_number p.0) (list_all (λ q. is_number q.0) ps) k in
-    both_in (is_must_column must p.0) (list_all (λ q. is_must_column must q.0) ps)
-    (either_in (inner_column p.0) (is_symbol_column must.symbols p.0 && is_number p.0)
-    (inr (both_in (is_symbol_column must.symbols p.0) (is_number p.0) r.0 u.0))) (both_parts must ps r.1 u.1)
-
-both_rows : (must : Path) (atoms : List Atom) → IsTrue (rows_name_only (is_symbol_column must.symbols) atoms) →
-    IsTrue (rows_name_only is_number atoms) → IsTrue (rows_name_only (is_must_column must) atoms)
-both_rows must [] h k = refl
-both_rows must (a ∷ atoms) h k =
-    let r = both (names_only (is_symbol_column must.symbols) a.term) (rows_name_only (is_symbol_column must.symbols) atoms) h in
-    let u = both (names_only is_number a.term) (rows_name_only is_number atoms) k in
-    both_in (names_only (is_must_column must) a.term) (rows_name_only (is_must_column must) atoms) (both_parts must a.term.parts r.0 u.0)
-    (both_rows must atoms r.1 u.1)
-
-both_terms : (must : Path) (ts : List LinearSum) → IsTrue (all_name_only (is_symbol_column must.symbols) ts) →
-    IsTrue (all_name_only is_number ts) → IsTrue (all_name_only (is_must_column must) ts)
-both_terms must [] h k = refl
-both_terms must (t ∷ ts) h k =
-    let r = both (names_only (is_symbol_column must.symbols) t) (all_name_only (is_symbol_column must.symbols) ts) h in
-    let u = both (names_only is_number t) (all_name_only is_number ts) k in
-    both_in (names_only (is_must_column must) t) (all_name_only (is_must_column must) ts) (both_parts must t.parts r.0 u.0)
-    (both_terms must ts r.1 u.1)
-
-slot_must : (must : Path) (a : ℕ) → a < first_entry → IsTrue (is_must_column must a)
-slot_must must a h = inner_must must a (slot_inner a h)
-
-others_named : (must : Path) (done : List (ℕ × ℕ)) (args : List ℕ) (terms : List LinearSum) →
-    ((j a : ℕ) → slice_get args j ≡ Some a → a < first_entry) → IsTrue (all_name_only (is_must_column must) terms) →
-    IsTrue (sums_name_only (is_must_column must) (other_sums done args terms))
-others_named must done [] terms k n = refl
-others_named must done (x ∷ args) [] k n = refl
-others_named must done (x ∷ args) (t ∷ terms) k n =
-    let r = both (names_only (is_must_column must) t) (all_name_only (is_must_column must) terms) n in
-    sums_named_append (is_must_column must) (if is_new done (single t) then [] else equal_sums (column_sum x) t)
-    (other_sums (with_symbol done (single t) x) args terms) (by_test r.0 (is_new done (single t)))
-    (others_named must (with_symbol done (single t) x) args terms (λ j a e. k (suc j) a e) r.1)
-  where
-    by_test : IsTrue (names_only (is_must_column must) t) → (b : Bool) →
-        IsTrue (sums_name_only (is_must_column must) (if b then [] else equal_sums (column_sum x) t))
-    by_test m true = refl
-    by_test m false = equal_named (is_must_column must) (column_sum x) t
-        (column_named (is_must_column must) x (slot_must must x (k 0 x refl)))
-        m
-
-outcome_named : (must : Path) (ts : List LinearSum) → IsTrue (all_name_only (is_must_column must) ts) →
-    IsTrue (names_only (is_must_column must) (term_at ts 0))
-outcome_named must [] h = refl
-outcome_named must (t ∷ ts) h = (both (names_only (is_must_column must) t) (all_name_only (is_must_column must) ts) h).0
-
-behind_named : (must : Path) (exit : ExitKind) (slot : ℕ) (outcome : List LinearSum) →
-    IsTrue (all_name_only (is_must_column must) outcome) →
-    (x : ℕ) → IsTrue (inner_column x) → IsTrue (names_only (is_must_column must) (exit_reading exit slot outcome x))
-behind_named must kind.Return slot outcome n x h = by_test (x == slot) where
-  by_test : (b : Bool) → IsTrue (names_only (is_must_column must) (if b then term_at outcome 0 else column_sum x))
-  by_test true = outcome_named must outcome n
-  by_test false = column_named (is_must_column must) x (inner_must must x h)
-behind_named must (kind.Fail id) slot outcome n x h = column_named (is_must_column must) x (inner_must must x h)
-
--- each symbol by an argument's slot, or as it is
-appended_slots : (done : List (ℕ × ℕ)) (z x : ℕ) → x < first_entry → (y : ℕ) → (renamed_column done y ≡ y)
-    ⊎ (renamed_column done y < first_entry) → (renamed_column (done ++ (z, x) ∷ []) y ≡ y)
-    ⊎ (renamed_column (done ++ (z, x) ∷ []) y < first_entry)
-appended_slots [] z x l y h = by_test (y == z) where
-  by_test : (b : Bool) → ((if b then x else y) ≡ y) ⊎ ((if b then x else y) < first_entry)
-  by_test true = inr l
-  by_test false = inl refl
-appended_slots (p ∷ done) z x l y h = by_test (y == p.0) h (λ k. appended_slots done z x l y k) where
-  by_test : (b : Bool) → ((if b then p.1 else renamed_column done y) ≡ y) ⊎ ((if b then p.1 else renamed_column done y) < first_entry) →
-      ((renamed_column done y ≡ y) ⊎ (renamed_column done y < first_entry) → (renamed_column (done ++ (z, x) ∷ []) y ≡ y)
-      ⊎ (renamed_column (done ++ (z, x) ∷ []) y < first_entry)) → ((if b then p.1 else renamed_column (done ++ (z, x) ∷ []) y) ≡ y)
-      ⊎ ((if b then p.1 else renamed_column (done ++ (z, x) ∷ []) y) < first_entry)
-  by_test true k rest = k
-  by_test false k rest = rest k
-
-with_slots : (done : List (ℕ × ℕ)) (o : Option ℕ) (x : ℕ) → x < first_entry →
-    ((y : ℕ) → (renamed_column done y ≡ y) ⊎ (renamed_column done y < first_entry)) → (y : ℕ) →
-    (renamed_column (with_symbol done o x) y ≡ y)
-    ⊎ (renamed_column (with_symbol done o x) y < first_entry)
-with_slots done None x l h y = h y
-with_slots done (Some z) x l h y = by_test (is_renamed z done) where
-  by_test : (b : Bool) → (renamed_column (if b then done else (done ++ (z, x) ∷ [])) y ≡ y)
-      ⊎ (renamed_column (if b then done else (done ++ (z, x) ∷ [])) y < first_entry)
-  by_test true = h y
-  by_test false = appended_slots done z x l y (h y)
-
-replacing_slots : (done : List (ℕ × ℕ)) (args : List ℕ) (terms : List LinearSum) →
-    ((j a : ℕ) → slice_get args j ≡ Some a → a < first_entry) →
-    ((y : ℕ) → (renamed_column done y ≡ y) ⊎ (renamed_column done y < first_entry)) → (y : ℕ) →
-    (renamed_column (replacing done args terms) y ≡ y) ⊎ (renamed_column (replacing done args terms) y < first_entry)
-replacing_slots done [] terms k h y = h y
-replacing_slots done (x ∷ args) [] k h y = h y
-replacing_slots done (x ∷ args) (t ∷ terms) k h y = replacing_slots (with_symbol done (single t) x) args terms (λ j a e. k (suc j) a e)
-    (with_slots done (single t) x (k 0 x refl) h) y
-
-renamed_must : (must : Path) (args : List ℕ) → ((j a : ℕ) → slice_get args j ≡ Some a → a < first_entry) → (x : ℕ) →
-    IsTrue (is_must_column must x) → IsTrue (is_must_column must (renamed_column (replacing [] args must.entry) x))
-renamed_must must args k x h =
-    ⊎_elim (λ e. subst (λ y. IsTrue (is_must_column must y)) (sym e) h)
-    (λ l. slot_must must (renamed_column (replacing [] args must.entry) x)
-    l)
-    (replacing_slots [] args must.entry k (λ y. inl refl) x)
-
-plain_named : (must : Path) (args : List ℕ) (slot : ℕ) (target : List Atom) → FitsMust must args slot target →
-    IsTrue (rows_name_only (is_must_column must) (plain_rows must args slot target))
-plain_named must args slot target f =
-    rows_named_append (is_must_column must) must.guard.atoms (rows_of_sums (must_sums must args slot target))
-    (both_rows must must.guard.atoms must.well_formed.guard_names f.numbers.guard)
-    (rows_named (is_must_column must) (must_sums must args slot target)
-    (sums_named_append (is_must_column must) (other_sums [] args must.entry) (row_sums (exit_reading must.exit slot must.outcome) target)
-    (others_named must [] args must.entry f.behind.are_slots (both_terms must must.entry must.well_formed.entry_names f.numbers.entry))
-    (row_sums_named (is_must_column must) inner_column (exit_reading must.exit slot must.outcome)
-    (behind_named must must.exit slot must.outcome (both_terms must must.outcome must.well_formed.outcome_names f.numbers.outcome)) target
-    f.behind.names)))
-
-slot_sums_named : (must : Path) (args : List ℕ) (slot : ℕ) (target : List Atom) → FitsMust must args slot target →
-    IsTrue (sums_name_only (is_must_column must) (slot_sums must args (plain_rows must args slot target)))
-slot_sums_named must args slot target f =
-    row_sums_named (is_must_column must) (is_must_column must) (renaming (renamed_column (replacing [] args must.entry)))
-    (λ x h. column_named (is_must_column must) (renamed_column (replacing [] args must.entry) x)
-    (renamed_must must args f.behind.are_slots x h))
-    (plain_rows must args slot target) (plain_named must args slot target f)
-
-must_rows_named : (must : Path) (args : List ℕ) (slot : ℕ) (target : List Atom) → FitsMust must args slot target →
-    IsTrue (rows_name_only (is_must_column must) (must_rows must args slot target))
-must_rows_named must args slot target f = rows_named (is_must_column must) (slot_sums must args (plain_rows must args slot target))
-    (slot_sums_named must args slot target f)
-
-must_rows_terms : (must : Path) (args : List ℕ) (slot : ℕ) (target : List Atom) → FitsMust must args slot target →
-    first_wide (slot_sums must args (plain_rows must args slot target)) ≡ None → IsTrue (are_terms (must_rows must args slot target))
-must_rows_terms must args slot target f e =
-    sums_are_terms (slot_sums must args (plain_rows must args slot target)) (sums_wider (is_must_column must) is_number (must_number must)
-    (slot_sums must args (plain_rows must args slot target)) (slot_sums_named must args slot target f)) e
-
 -- The laws
 
-module _ (must : Path) (args : List ℕ) (slot : ℕ) (target : List Atom) (f : FitsMust must args slot target) (rows : List Atom) (pair : Pair)
-    (is : must_preimage must args slot target ≡ gives rows pair) where
-  answer : IsPreimageAnswer must args slot target rows pair
-  answer = must_answer must args slot target rows pair is
+module _ (must : Path) (args : List ℕ) (results : List ℕ) (target : List Atom) (f : FitsMust must args results target) (rows : List Atom)
+    (pair : Pair)
+    (is : must_preimage must args results target ≡ gives rows pair) where
+  answer : IsPreimageAnswer must args results target rows pair
+  answer = must_answer must args results target rows pair is
 
-  fits : FitsProjection (symbol_columns (must_rows must args slot target)) (must_rows must args slot target)
-  fits = kind_fits (λ x. nat_le first_symbol x) (must_rows must args slot target) (must_rows_terms must args slot target f answer.decided)
+  named : MustNames inner_column must args target
+  named = record {
+    args_allowed = λ j a e. slot_inner a (f.behind.are_slots j a e);
+    target_allowed = f.behind.names;
+    numbers = f.numbers;
+  }
+
+  fits : FitsProjection (symbol_columns (must_rows must args results target)) (must_rows must args results target)
+  fits = kind_fits (λ x. nat_le first_symbol x) (must_rows must args results target)
+      (must_rows_terms inner_column (λ x h. h) must args results target named answer.decided)
 
   -- the rows are terms that name slots and entry values alone
   pub must_region : IsRegion rows
   must_region = record {
-    names = rows_wider (λ x. is_must_column must x && not (nat_le first_symbol x)) inner_column (inner_left must) rows
-        (left_names (λ x. nat_le first_symbol x) (is_must_column must) (must_rows must args slot target) rows pair fits answer.was
-        (must_rows_named must args slot target f));
-    terms = projections-terms (symbol_columns (must_rows must args slot target)) (must_rows must args slot target) rows pair fits
+    names = preimage_names inner_column (λ x h. h) must args results target rows pair named is;
+    terms = projections-terms (symbol_columns (must_rows must args results target)) (must_rows must args results target) rows pair fits
         answer.was;
   }
 
   -- the caller's columns, and the must's symbols
-  module _ (s : State) (entry : List ℤ) (vs : AreValues s) (ve : AreAllValues entry) (l : Leads must args slot target s entry) where
+  module _ (s : State) (entry : List ℤ) (vs : AreValues s) (ve : AreAllValues entry) (l : Leads must args results target s entry) where
     abbrev v : Valuation
     v x = if nat_lt x first_symbol then columns_of s entry [] x else l.symbols x
 
@@ -562,43 +410,45 @@ module _ (must : Path) (args : List ℕ) (slot : ℕ) (target : List Atom) (f : 
     matched = matches_in v l.symbols s args must.entry l.passes
         (sym (terms_agree (is_symbol_column must.symbols) l.symbols v must.entry v_high must.well_formed.entry_names)) v_slots
 
-    plain : HoldsAll v (plain_rows must args slot target)
+    plain : HoldsAll v (plain_rows must args results target)
     plain =
-        holds_append v must.guard.atoms (rows_of_sums (must_sums must args slot target))
+        holds_append v must.guard.atoms (rows_of_sums (must_sums must args results target))
         (holds_agree (is_symbol_column must.symbols) l.symbols v must.guard.atoms v_high must.well_formed.guard_names l.guard)
-        (sums-append v (other_sums [] args must.entry) (row_sums (exit_reading must.exit slot must.outcome) target)
-        (others_in v [] args must.entry matched) (target_in slot f.behind.slot_low target f.behind.names must.outcome
+        (sums-append v (other_sums [] args must.entry) (row_sums (exit_reading must.exit results must.outcome) target)
+        (others_in v [] args must.entry matched) (target_in results f.behind.results_low target f.behind.names must.outcome
         (values_of l.symbols must.outcome) s entry v (λ x h. v_low x (omega (arith, h)))
         (sym (terms_agree (is_symbol_column must.symbols) l.symbols v must.outcome v_high must.well_formed.outcome_names)) must.exit
         l.into))
 
-    all_hold : HoldsAll v (must_rows must args slot target)
+    all_hold : HoldsAll v (must_rows must args results target)
     all_hold =
-        renaming-hold v (renamed_column (replacing [] args must.entry)) (plain_rows must args slot target)
-        (holds-same v (λ x. v (renamed_column (replacing [] args must.entry) x)) (plain_rows must args slot target)
+        renaming-hold v (renamed_column (replacing [] args must.entry)) (plain_rows must args results target)
+        (holds-same v (λ x. v (renamed_column (replacing [] args must.entry) x)) (plain_rows must args results target)
         (λ x. sym (pairs_same v (replacing [] args must.entry) (replacing_pairs v [] args must.entry matched tt) x)) plain)
 
     held : HoldsAll (columns_of s entry []) rows
     held =
         holds_agree inner_column v (columns_of s entry []) rows (λ x h. let low = inner_low x h in v_low x (omega (arith, low)))
-        must_region.names (projections-keep (symbol_columns (must_rows must args slot target)) (must_rows must args slot target) rows pair
+        must_region.names (projections-keep (symbol_columns (must_rows must args results target)) (must_rows must args results target) rows
+        pair
         answer.was v v_bits all_hold)
 
   -- the preimage holds of every state from which the must leads into the target
-  pub must_holds : HoldsMust must args slot target rows
+  pub must_holds : HoldsMust must args results target rows
   must_holds s entry vs ve l = held s entry vs ve l
 
   -- where no pair is told, the must leads into the target from every state of the preimage
   module _ (none : pair ≡ None) (s : State) (entry : List ℤ) (vs : AreValues s) (ve : AreAllValues entry)
       (h : HoldsAll (columns_of s entry []) rows) where
-    found : (w : Valuation) × Is64 w × ((x : ℕ) → (Contains (symbol_columns (must_rows must args slot target)) x → ⊥) →
-        w x ≡ columns_of s entry [] x) × HoldsAll w (must_rows must args slot target)
-    found = projections-lose-none (symbol_columns (must_rows must args slot target)) (must_rows must args slot target) rows fits
+    found : (w : Valuation) × Is64 w × ((x : ℕ) → (Contains (symbol_columns (must_rows must args results target)) x → ⊥) →
+        w x ≡ columns_of s entry [] x) × HoldsAll w (must_rows must args results target)
+    found = projections-lose-none (symbol_columns (must_rows must args results target)) (must_rows must args results target) rows fits
         (answer.was ∙ ap (gives rows) none) (columns_of s entry []) (columns_64 s entry [] vs ve none_values) h
 
     low : (x : ℕ) → x < first_symbol → found.0 x ≡ columns_of s entry [] x
-    low x k = found.2 x (λ c. let m = filter-among (λ y. nat_le first_symbol y) (named_columns (rows_of (must_rows must args slot target)))
-        x (contains-among (symbol_columns (must_rows must args slot target)) x c) in omega (arith, k, leb-true first_symbol x m.1))
+    low x k = found.2 x (λ c. let m = filter-among (λ y. nat_le first_symbol y)
+        (named_columns (rows_of (must_rows must args results target)))
+        x (contains-among (symbol_columns (must_rows must args results target)) x c) in omega (arith, k, leb-true first_symbol x m.1))
 
     abbrev u : Valuation
     u y = found.0 (renamed_column (replacing [] args must.entry) y)
@@ -607,18 +457,18 @@ module _ (must : Path) (args : List ℕ) (slot : ℕ) (target : List Atom) (f : 
     u_low x k = ap found.0 (fixed_column x (replacing [] args must.entry) (replacing_high x k must.symbols [] args must.entry
         must.well_formed.entry_names refl))
 
-    split : HoldsAll u must.guard.atoms × HoldsAll u (rows_of_sums (must_sums must args slot target))
-    split = holds_split u must.guard.atoms (rows_of_sums (must_sums must args slot target))
-        (hold-renaming found.0 (renamed_column (replacing [] args must.entry)) (plain_rows must args slot target) found.3)
+    split : HoldsAll u must.guard.atoms × HoldsAll u (rows_of_sums (must_sums must args results target))
+    split = holds_split u must.guard.atoms (rows_of_sums (must_sums must args results target))
+        (hold-renaming found.0 (renamed_column (replacing [] args must.entry)) (plain_rows must args results target) found.3)
 
     behind : HoldsAll u (rows_of_sums (other_sums [] args must.entry))
-        × HoldsAll u (rows_of_sums (row_sums (exit_reading must.exit slot must.outcome) target))
-    behind = sums-split u (other_sums [] args must.entry) (row_sums (exit_reading must.exit slot must.outcome) target) split.1
+        × HoldsAll u (rows_of_sums (row_sums (exit_reading must.exit results must.outcome) target))
+    behind = sums-split u (other_sums [] args must.entry) (row_sums (exit_reading must.exit results must.outcome) target) split.1
 
     small_slot : (j a : ℕ) → slice_get args j ≡ Some a → a < first_symbol
     small_slot j a e = let k = f.behind.are_slots j a e in omega (arith, k)
 
-    leads : Leads must args slot target s entry
+    leads : Leads must args results target s entry
     leads = record {
       symbols = u;
       bits = λ y. found.1 (renamed_column (replacing [] args must.entry) y);
@@ -627,9 +477,9 @@ module _ (must : Path) (args : List ℕ) (slot : ℕ) (target : List Atom) (f : 
           ∙ slot_at s entry []
           a (lt-ltb a first_entry (f.behind.are_slots j a e))) (matches_out found.0 (replacing [] args must.entry) [] args must.entry refl
           (λ j a e. u_low a (small_slot j a e)) behind.0);
-      into = target_out slot f.behind.slot_low target f.behind.names must.outcome (values_of u must.outcome) s entry u
+      into = target_out results f.behind.results_low target f.behind.names must.outcome (values_of u must.outcome) s entry u
           (λ x k. let n : x < first_symbol = omega (arith, k) in u_low x n ∙ low x n) refl must.exit behind.1;
     }
 
-  pub must_exact : pair ≡ None → HoldsNoOtherMust must args slot target rows
+  pub must_exact : pair ≡ None → HoldsNoOtherMust must args results target rows
   must_exact none s entry vs ve h = leads none s entry vs ve h

@@ -34,23 +34,28 @@ place_sums columns i (x ∷ args) =
     (column_sum (first_argument + i)) (column_sum (renamed_column columns x))) ++ place_sums columns
     (i + 1) args
 
--- at the next node the call's slot is the exit value
-abbrev pub exit_columns : ExitKind → (slot : ℕ) → List (ℕ × ℕ)
-exit_columns kind.Return slot = (slot, first_exit) ∷ []
-exit_columns (kind.Fail id) slot = []
+-- the exit value of each result's slot; of a slot at several places the first counts
+abbrev pub result_columns : (i : ℕ) → List ℕ → List (ℕ × ℕ)
+result_columns i [] = []
+result_columns i (x ∷ results) = (x, first_exit + i) ∷ result_columns (i + 1) results
 
-abbrev pub exit_column : ExitKind → (slot : ℕ) → ℕ → ℕ
-exit_column exit slot x = renamed_column (exit_columns exit slot) x
+-- at the next node the call's slots are the exit values
+abbrev pub exit_columns : ExitKind → (results : List ℕ) → List (ℕ × ℕ)
+exit_columns kind.Return results = result_columns 0 results
+exit_columns (kind.Fail id) results = []
 
-abbrev pub call_sums : ExitKind → List ℕ → (slot : ℕ) → (source target : List Atom) → List Sum
-call_sums exit args slot source target =
+abbrev pub exit_column : ExitKind → (results : List ℕ) → ℕ → ℕ
+exit_column exit results x = renamed_column (exit_columns exit results) x
+
+abbrev pub call_sums : ExitKind → (args results : List ℕ) → (source target : List Atom) → List Sum
+call_sums exit args results source target =
     row_sums (renaming (renamed_column (argument_columns 0 args))) source
     ++ (row_sums (renaming (λ x. renamed_column (argument_columns 0 args)
-    (exit_column exit slot x)))
+    (exit_column exit results x)))
     target ++ place_sums (argument_columns 0 args) 0 args)
 
-abbrev pub call_rows : ExitKind → List ℕ → (slot : ℕ) → (source target : List Atom) → List Atom
-call_rows exit args slot source target = rows_of_sums (call_sums exit args slot source target)
+abbrev pub call_rows : ExitKind → (args results : List ℕ) → (source target : List Atom) → List Atom
+call_rows exit args results source target = rows_of_sums (call_sums exit args results source target)
 
 -- the caller's columns that the rows name
 abbrev pub caller_columns : List Atom → List ℕ
@@ -64,9 +69,9 @@ abbrev pub names_exit : Atom → Bool
 names_exit a = list_any (λ p. nat_le first_exit p.0) a.term.parts
 
 -- the rows of the query, with the first inexact pair
-abbrev pub asked : ExitKind → List ℕ → (slot : ℕ) → (source target : List Atom) → Projected
-asked exit args slot source target =
-    summed (call_sums exit args slot source target)
+abbrev pub asked : ExitKind → (args results : List ℕ) → (source target : List Atom) → Projected
+asked exit args results source target =
+    summed (call_sums exit args results source target)
     (λ rows. then_summed (row_sums (renaming as_entry)) (projected (caller_columns rows) rows))
 
 -- the atoms without an exit value, and the others
@@ -85,23 +90,25 @@ query_of proc exit rows = record {
   end = record { atoms = end_of rows };
 }
 
--- the arguments and the slot are slots, and the cubes name slots and entry values
-pub record FitsCall (args : List ℕ) (slot : ℕ) (source target : List Atom) : Type 0 where
+-- the arguments and the results are slots, and the cubes name slots and entry values
+pub record FitsCall (args results : List ℕ) (source target : List Atom) : Type 0 where
   pub are_slots : (j a : ℕ) → slice_get args j ≡ Some a → a < first_entry
-  pub slot_low : slot < first_entry
+  pub results_low : (j a : ℕ) → slice_get results j ≡ Some a → a < first_entry
   pub few : length args < first_entry + 1
+  pub few_results : length results < first_entry + 1
   pub source_names : IsTrue (rows_name_only inner_column source)
   pub target_names : IsTrue (rows_name_only inner_column target)
 
 -- every call from the source into the target meets the rows
-abbrev pub HoldsCalls : ExitKind → List ℕ → (slot : ℕ) → (source target rows : List Atom) → Type 0
-HoldsCalls exit args slot source target rows =
+abbrev pub HoldsCalls : ExitKind → (args results : List ℕ) → (source target rows : List Atom) →
+    Type 0
+HoldsCalls exit args results source target rows =
     (s : State) (entry values : List ℤ) → AreValues s → AreAllValues entry → AreAllValues values →
-    HoldsAll (columns_of s entry []) source → LiesBehind exit slot s entry values target →
+    HoldsAll (columns_of s entry []) source → LiesBehind exit results s entry values target →
     HoldsAll (valuation_of (map s args) values) rows
 
 -- entry and exit values are those of a call from the source into the target
-pub record IsCalled (exit : ExitKind) (args : List ℕ) (slot : ℕ) (source target : List Atom)
+pub record IsCalled (exit : ExitKind) (args results : List ℕ) (source target : List Atom)
     (called values : List ℤ) : Type 0 where
   pub state : State
   pub entry : List ℤ
@@ -109,12 +116,13 @@ pub record IsCalled (exit : ExitKind) (args : List ℕ) (slot : ℕ) (source tar
   pub entry_values : AreAllValues entry
   pub passes : map state args ≡ called
   pub from : HoldsAll (columns_of state entry []) source
-  pub into : LiesBehind exit slot state entry values target
+  pub into : LiesBehind exit results state entry values target
 
 -- all values that meet the rows are those of such a call
-abbrev pub HoldsNoOtherCall : ExitKind → List ℕ → (slot : ℕ) → (source target rows : List Atom) →
+abbrev pub HoldsNoOtherCall : ExitKind → (args results : List ℕ) →
+    (source target rows : List Atom) →
     Type 0
-HoldsNoOtherCall exit args slot source target rows =
+HoldsNoOtherCall exit args results source target rows =
     (called values : List ℤ) → AreAllValues called → AreAllValues values → length called
-    ≡ length args → HoldsAll (valuation_of called values) rows → IsCalled exit args slot source
+    ≡ length args → HoldsAll (valuation_of called values) rows → IsCalled exit args results source
     target called values

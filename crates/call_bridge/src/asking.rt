@@ -3,14 +3,15 @@
 ghost use Rattle.std.specs.Prelude.{◌≡◌, ◌++◌, ◌+◌, ◌==◌, [], length, true, None, if◌then◌else◌, IfOk, IfErr, OnOk};
 ghost use Rattle.linear_formula.specs.Replaced.{column_sum};
 ghost use Rattle.linear_formula.specs.Results.{renamed_column};
+ghost use Rattle.flow_graph.specs.Columns.{first_exit};
 ghost use Rattle.flow_graph.specs.Shapes.{is_call};
 ghost use Rattle.shadow_elim.specs.Projection.{gives, refuses, projected, then_summed, IfRefused};
 ghost use Rattle.shadow_elim.specs.RightLimit.{IsRight};
 ghost use Rattle.shadow_elim.specs.Shadows.{pair_rows};
 ghost use Rattle.shadow_elim.specs.Sums.{equal_sums, row_sums, renaming};
 ghost use Rattle.summary_form.specs.NotMays.{Fits};
-ghost use Rattle.call_bridge.specs.Asked.{first_argument, argument_columns, exit_columns, place_sums, call_sums, as_entry, caller_columns, asked, names_exit, start_of, end_of, query_of, FitsCall, HoldsCalls, HoldsNoOtherCall};
-ghost use Rattle.call_bridge.specs.Calls.{procedure, arguments, result_slot};
+ghost use Rattle.call_bridge.specs.Asked.{first_argument, argument_columns, result_columns, exit_columns, place_sums, call_sums, as_entry, caller_columns, asked, names_exit, start_of, end_of, query_of, FitsCall, HoldsCalls, HoldsNoOtherCall};
+ghost use Rattle.call_bridge.specs.Calls.{procedure, arguments, results_of};
 ghost use Rattle.call_bridge.specs.Asking.{IsAsking, rows_of_query};
 
 use crate::columns::{AsEntry, NewNumbers, below, new_column};
@@ -29,6 +30,9 @@ use summary_form::query::{ExitKind, Query};
 
 /// The place of the last argument that there is a column for.
 const LAST_ARGUMENT: usize = (u32::MAX - FIRST_ASKED) as usize;
+
+/// The place of the last result that there is a column for.
+const LAST_EXIT: usize = (u32::MAX - FIRST_EXIT) as usize;
 
 /// The query of a call.
 #[derive(Debug, Drop)]
@@ -62,15 +66,38 @@ fn argument_columns(alloc: Global, args: &[Slot]) -> Result<Vec<(u32, u32)>, Out
     Ok(columns)
 }
 
-/// The exit value for the slot that gets it.
-fn exit_columns(alloc: Global, exit: ExitKind, slot: Slot) -> Result<Vec<(u32, u32)>, OutOfMemory>
-    ensures { IfOk result (λ c. c.items ≡ exit_columns exit slot) }
+/// The column of an exit value.
+fn exit_column(place: usize) -> Result<u32, OutOfMemory>
+    ensures { IfOk result (λ c. c ≡ first_exit + place) }
+{
+    if place <= LAST_EXIT {
+        Ok(FIRST_EXIT + place as u32)
+    } else {
+        Err(AllocError)
+    }
+}
+
+/// The exit value of each slot that gets one.
+fn result_columns(alloc: Global, results: &[Slot]) -> Result<Vec<(u32, u32)>, OutOfMemory>
+    ensures { IfOk result (λ c. c.items ≡ result_columns 0 results.now) }
+{
+    let mut columns = Vec::with_capacity(alloc, results.len())?;
+    for (place, slot) in results.iter().enumerate() {
+        columns.push((*slot, exit_column(place)?))?;
+    }
+    Ok(columns)
+}
+
+/// The exit values for the slots that get them.
+fn exit_columns(
+    alloc: Global,
+    exit: ExitKind,
+    results: &[Slot],
+) -> Result<Vec<(u32, u32)>, OutOfMemory>
+    ensures { IfOk result (λ c. c.items ≡ exit_columns exit results.now) }
 {
     match exit {
-        ExitKind::Return => {
-            let columns = vec![in alloc; (slot, FIRST_EXIT)]?;
-            Ok(columns)
-        }
+        ExitKind::Return => result_columns(alloc, results),
         ExitKind::Fail(_) => Ok(Vec::new(alloc)),
     }
 }
@@ -120,12 +147,12 @@ pub(crate) fn call_sums(
     alloc: Global,
     exit: ExitKind,
     args: &[Slot],
-    slot: Slot,
+    results: &[Slot],
     source: &Cube,
     target: &Cube,
 ) -> Result<Vec<Sum>, OutOfMemory>
     ensures { IfOk result
-        (λ s. s.items ≡ call_sums exit args.now slot source.now.atoms target.now.atoms) }
+        (λ s. s.items ≡ call_sums exit args.now results.now source.now.atoms target.now.atoms) }
 {
     let mut sums = Vec::new(alloc);
     let plain = NewNumbers {
@@ -134,7 +161,7 @@ pub(crate) fn call_sums(
     };
     push_read(alloc, &mut sums, &plain, source.atoms.as_slice())?;
     let behind = NewNumbers {
-        first: exit_columns(alloc, exit, slot)?,
+        first: exit_columns(alloc, exit, results)?,
         then: argument_columns(alloc, args)?,
     };
     push_read(alloc, &mut sums, &behind, target.atoms.as_slice())?;
@@ -190,19 +217,19 @@ fn asked_rows(
     alloc: Global,
     exit: ExitKind,
     args: &[Slot],
-    slot: Slot,
+    results: &[Slot],
     source: &Cube,
     target: &Cube,
 ) -> Result<Pre, BridgeError>
     ensures rows { IfOk result
-        (λ p. asked exit args.now slot source.now.atoms target.now.atoms
+        (λ p. asked exit args.now results.now source.now.atoms target.now.atoms
         ≡ gives p.cube.atoms (pair_rows p.inexact)) }
     ensures limit { IfErr result
-        (λ e. IfRefused e (λ kept. asked exit args.now slot source.now.atoms target.now.atoms
+        (λ e. IfRefused e (λ kept. asked exit args.now results.now source.now.atoms target.now.atoms
         ≡ refuses kept)) }
     ensures right { IfErr result (λ e. IfRefused e IsRight) }
 {
-    let sums = call_sums(alloc, exit, args, slot, source, target)?;
+    let sums = call_sums(alloc, exit, args, results, source, target)?;
     let rows = total_rows(alloc, &sums)?;
     let left = without_caller(alloc, &rows)?;
     as_entries(alloc, left)
@@ -261,7 +288,7 @@ fn asking_of(
     ensures rows { IfOk result
         (λ a. IsAsking exit call.now source.now.atoms target.now.atoms a) }
     ensures limit { IfErr result
-        (λ e. IfRefused e (λ kept. asked exit (arguments call.now) (result_slot call.now)
+        (λ e. IfRefused e (λ kept. asked exit (arguments call.now) (results_of call.now)
         source.now.atoms target.now.atoms
         ≡ refuses kept)) }
     ensures right { IfErr result (λ e. IfRefused e IsRight) }
@@ -270,10 +297,17 @@ fn asking_of(
         Edge::Call {
             proc,
             args,
-            slot,
+            results,
             ..
         } => {
-            let rows = asked_rows(alloc, exit, args.as_slice(), *slot, source, target)?;
+            let rows = asked_rows(
+                alloc,
+                exit,
+                args.as_slice(),
+                results.as_slice(),
+                source,
+                target,
+            )?;
             let query = query_of(alloc, *proc, exit, rows.cube)?;
             Ok(Asking {
                 query,
@@ -301,22 +335,22 @@ pub fn ask_of(
     ensures rows { IfOk result
         (λ a. IsAsking exit call.now source.now.atoms target.now.atoms a) }
     ensures holds { IfOk result
-        (λ a. FitsCall (arguments call.now) (result_slot call.now) source.now.atoms target.now.atoms
-        → HoldsCalls exit (arguments call.now) (result_slot call.now) source.now.atoms
+        (λ a. FitsCall (arguments call.now) (results_of call.now) source.now.atoms target.now.atoms
+        → HoldsCalls exit (arguments call.now) (results_of call.now) source.now.atoms
         target.now.atoms (rows_of_query a.query)) }
     ensures exact { IfOk result
         (λ a. a.inexact ≡ None →
-        FitsCall (arguments call.now) (result_slot call.now) source.now.atoms target.now.atoms →
-        HoldsNoOtherCall exit (arguments call.now) (result_slot call.now) source.now.atoms
+        FitsCall (arguments call.now) (results_of call.now) source.now.atoms target.now.atoms →
+        HoldsNoOtherCall exit (arguments call.now) (results_of call.now) source.now.atoms
         target.now.atoms (rows_of_query a.query)) }
     ensures fits { IfOk result
-        (λ a. FitsCall (arguments call.now) (result_slot call.now) source.now.atoms target.now.atoms
+        (λ a. FitsCall (arguments call.now) (results_of call.now) source.now.atoms target.now.atoms
         → Fits (procedure call.now) (record {
           entries = length (arguments call.now);
-          exits = 1;
+          exits = length (results_of call.now);
         }) a.query) }
     ensures limit { IfErr result
-        (λ e. IfRefused e (λ kept. asked exit (arguments call.now) (result_slot call.now)
+        (λ e. IfRefused e (λ kept. asked exit (arguments call.now) (results_of call.now)
         source.now.atoms target.now.atoms
         ≡ refuses kept)) }
     ensures right { IfErr result (λ e. IfRefused e IsRight) }

@@ -9,7 +9,7 @@ ghost use Rattle.shadow_elim.specs.RightLimit.{IsRight};
 ghost use Rattle.shadow_elim.specs.Shadows.{pair_rows};
 ghost use Rattle.shadow_elim.specs.Sums.{first_wide, rows_of_sums};
 ghost use Rattle.call_bridge.specs.Asked.{asked, call_rows, caller_columns};
-ghost use Rattle.call_bridge.specs.Calls.{arguments, result_slot};
+ghost use Rattle.call_bridge.specs.Calls.{arguments, results_of};
 ghost use Rattle.call_bridge.specs.Musts.{must_preimage, must_rows, symbol_columns};
 
 use crate::asking::{call_sums, caller_columns};
@@ -73,20 +73,20 @@ fn asking_limit(
     alloc: Global,
     exit: ExitKind,
     args: &[Slot],
-    slot: Slot,
+    results: &[Slot],
     source: &Cube,
     target: &Cube,
     pair: &Pair,
 ) -> Result<Kept, OutOfMemory>
     requires { (rows : List Atom)
-        × (asked exit args.now slot source.now.atoms target.now.atoms
+        × (asked exit args.now results.now source.now.atoms target.now.atoms
         ≡ gives rows (pair_rows (Some pair.now))) }
     ensures right { IfOk result IsRight }
     ensures question { IfOk result (λ kept. kept.question ≡ asks.Eliminate
-        (cube_of (call_rows exit args.now slot source.now.atoms target.now.atoms))
-        (caller_columns (call_rows exit args.now slot source.now.atoms target.now.atoms))) }
+        (cube_of (call_rows exit args.now results.now source.now.atoms target.now.atoms))
+        (caller_columns (call_rows exit args.now results.now source.now.atoms target.now.atoms))) }
 {
-    let sums = call_sums(alloc, exit, args, slot, source, target)?;
+    let sums = call_sums(alloc, exit, args, results, source, target)?;
     let rows = narrow_rows(alloc, &sums)?;
     let columns = caller_columns(alloc, &rows)?;
     inexact_limit(alloc, rows, columns, pair)
@@ -97,19 +97,19 @@ fn preimage_limit(
     alloc: Global,
     must: &Path,
     args: &[Slot],
-    slot: Slot,
+    results: &[Slot],
     target: &Cube,
     pair: &Pair,
 ) -> Result<Kept, OutOfMemory>
     requires { (rows : List Atom)
-        × (must_preimage must.now args.now slot target.now.atoms
+        × (must_preimage must.now args.now results.now target.now.atoms
         ≡ gives rows (pair_rows (Some pair.now))) }
     ensures right { IfOk result IsRight }
     ensures question { IfOk result (λ kept. kept.question ≡ asks.Eliminate
-        (cube_of (must_rows must.now args.now slot target.now.atoms))
-        (symbol_columns (must_rows must.now args.now slot target.now.atoms))) }
+        (cube_of (must_rows must.now args.now results.now target.now.atoms))
+        (symbol_columns (must_rows must.now args.now results.now target.now.atoms))) }
 {
-    let Matching { columns, sums } = must_sums(alloc, must, args, slot, target)?;
+    let Matching { columns, sums } = must_sums(alloc, must, args, results, target)?;
     let others = narrow_rows(alloc, &sums)?;
     let plain = must.guard.and(alloc, &others)?;
     let renamed = replaced_sums(alloc, columns, &plain)?;
@@ -129,18 +129,26 @@ pub fn inexact_asking(
 ) -> Result<Kept, OutOfMemory>
     requires call { is_call call.now ≡ true }
     requires pair { (rows : List Atom)
-        × (asked exit (arguments call.now) (result_slot call.now) source.now.atoms target.now.atoms
+        × (asked exit (arguments call.now) (results_of call.now) source.now.atoms target.now.atoms
         ≡ gives rows (pair_rows (Some pair.now))) }
     ensures right { IfOk result IsRight }
     ensures question { IfOk result (λ kept. kept.question ≡ asks.Eliminate
-        (cube_of (call_rows exit (arguments call.now) (result_slot call.now) source.now.atoms
+        (cube_of (call_rows exit (arguments call.now) (results_of call.now) source.now.atoms
         target.now.atoms))
-        (caller_columns (call_rows exit (arguments call.now) (result_slot call.now)
+        (caller_columns (call_rows exit (arguments call.now) (results_of call.now)
         source.now.atoms target.now.atoms))) }
 {
     match call {
-        Edge::Call { args, slot, .. } => {
-            asking_limit(alloc, exit, args.as_slice(), *slot, source, target, pair)
+        Edge::Call { args, results, .. } => {
+            asking_limit(
+                alloc,
+                exit,
+                args.as_slice(),
+                results.as_slice(),
+                source,
+                target,
+                pair,
+            )
         }
         _ => unreachable!(),
     }
@@ -156,17 +164,24 @@ pub fn inexact_preimage(
 ) -> Result<Kept, OutOfMemory>
     requires call { is_call call.now ≡ true }
     requires pair { (rows : List Atom)
-        × (must_preimage must.now (arguments call.now) (result_slot call.now) target.now.atoms
+        × (must_preimage must.now (arguments call.now) (results_of call.now) target.now.atoms
         ≡ gives rows (pair_rows (Some pair.now))) }
     ensures right { IfOk result IsRight }
     ensures question { IfOk result (λ kept. kept.question ≡ asks.Eliminate
-        (cube_of (must_rows must.now (arguments call.now) (result_slot call.now) target.now.atoms))
-        (symbol_columns (must_rows must.now (arguments call.now) (result_slot call.now)
+        (cube_of (must_rows must.now (arguments call.now) (results_of call.now) target.now.atoms))
+        (symbol_columns (must_rows must.now (arguments call.now) (results_of call.now)
         target.now.atoms))) }
 {
     match call {
-        Edge::Call { args, slot, .. } => {
-            preimage_limit(alloc, must, args.as_slice(), *slot, target, pair)
+        Edge::Call { args, results, .. } => {
+            preimage_limit(
+                alloc,
+                must,
+                args.as_slice(),
+                results.as_slice(),
+                target,
+                pair,
+            )
         }
         _ => unreachable!(),
     }

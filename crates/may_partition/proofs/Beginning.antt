@@ -63,7 +63,8 @@ module _ (g : Graph) where
   leads_target : (e : Edge) (n : ℕ) → n ≡ target e → IsTrue (leads g.fail e n)
   leads_target e n h = or_left (target e == n) (is_call e && (n == g.fail)) (eq-eqb (target e) n (sym h))
 
-  leads_step : (C : Called) (e : Edge) → IsEdge g.nodes g.exit g.fail g.slots e → (s : State) (ins : List ℤ) (b : Place) (rest : List ℤ) →
+  leads_step : (C : Called) (e : Edge) → IsEdge g.nodes g.exit g.fail g.exits g.slots e → (s : State) (ins : List ℤ) (b : Place)
+      (rest : List ℤ) →
       IsThere g (standing b) → Step C e s ins b rest → IsTrue (leads g.fail e (spot_node g (standing b)))
   leads_step C (Entry to params) k s ins b rest c st = absurd st
   leads_step C (Assign from to slot value) k s ins b rest c st = leads_target (Assign from to slot value) (spot_node g (standing b))
@@ -126,7 +127,7 @@ over_edge g exit o e k at l c = subst (λ p. IsTrue (connects g exit p k) ⊎ (I
       by_test false h = inl (both_in (not (left_out exit e)) (leaves_at (source e) k.from && comes_to g.fail e k.to) (rw h refl)
           (both_in (leaves_at (source e) k.from) (comes_to g.fail e k.to) l c))
 
-module _ (C : Called) (g : Graph) (q : Query) (entry : List ℤ) (ok : IsGraph g.nodes g.exit g.fail g.params g.slots g.edges) where
+module _ (C : Called) (g : Graph) (q : Query) (entry : List ℤ) (ok : IsGraph g.nodes g.exit g.fail g.params g.exits g.slots g.edges) where
   pub begin_crosses : Crosses Spot (spot_node g) (spot_columns entry) (Covered g q entry) (Goes C g entry) (leaves_out g q)
       (begin_parted g q)
   begin_crosses outside outside i a b cx cy go sx sy = absurd go

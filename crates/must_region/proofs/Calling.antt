@@ -1,6 +1,6 @@
 -- Trails that are extended over a call by a must give frames.
-use Rattle.std.proofs.Common.{◌≡◌, ◌≢◌, ℕ, suc, ◌+◌, ◌<◌, List, [], ◌∷◌, ◌++◌, length, map, get_or, Some, None, nat_lt, ℤ, pos, arith, refl, sym, subst, ap, ◌∙◌, append_assoc, add_comm}
-use Rattle.std.specs.Prelude.{slice_get, slice_set}
+use Rattle.std.proofs.Common.{◌≡◌, ◌≢◌, ℕ, suc, ◌+◌, ◌<◌, List, [], ◌∷◌, ◌++◌, length, drop, map, get_or, IsTrue, Some, None, nat_lt, ℤ, pos, arith, refl, sym, subst, ap, ◌∙◌, append_assoc, add_comm}
+use Rattle.std.specs.Prelude.{slice_get}
 use Rattle.std.specs.List.{list_all}
 use Rattle.std.proofs.lemmas.List.{map-append, length-map}
 use Rattle.std.proofs.Math.ListN.{length-set}
@@ -17,7 +17,7 @@ use Rattle.flow_graph.specs.declared.graph.Graph.{Graph}
 use Rattle.flow_graph.specs.declared.graph.Edge.{Edge}
 use Rattle.flow_graph.specs.declared.graph.Edge.TheVariants.{Call}
 use Rattle.flow_graph.specs.WellFormed.{IsGraph, IsEdge, first_node}
-use Rattle.flow_graph.specs.Runs.{Place, inside, Called, Frame, GraphRun, GraphRuns, End, after_call}
+use Rattle.flow_graph.specs.Runs.{Place, inside, Called, Frame, GraphRun, GraphRuns, End, with_slots, after_call}
 use Rattle.flow_graph.proofs.Frames.{run_longer, Longer, frame_longer, frame_more, deeper}
 use Rattle.summary_form.specs.declared.path.Path.{Path}
 use Rattle.summary_form.specs.declared.query.ExitKind.{ExitKind}
@@ -25,7 +25,7 @@ use Rattle.summary_form.specs.declared.query.ExitKind.TheVariants as kind
 use Rattle.summary_form.specs.Runs.{end_with}
 use Rattle.summary_form.specs.Musts.{values_of}
 use Rattle.must_region.specs.Traces.{Trace}
-use Rattle.must_region.specs.Rules.{shifted, matches, must_sums, must_slots, must_node, must_failed, extended_must}
+use Rattle.must_region.specs.Rules.{shifted, matches, must_sums, set_terms, must_slots, must_node, must_failed, extended_must}
 use Rattle.shadow_elim.specs.Sums.{rows_of_sums, equal_sums}
 use Rattle.shadow_elim.proofs.Summing.{sums-split, hold-equal}
 use Rattle.flow_graph.specs.Readings.{term_at}
@@ -49,9 +49,38 @@ module _ (f : ℕ → ℕ) (v : Valuation) where
   holds_by : (atoms : List Atom) → HoldsAll v (renamed_atoms_by f atoms) → HoldsAll old_values atoms
   holds_by atoms h = (renamed_by-holds v f atoms).0 h
 
-  first_value : (ts : List LinearSum) → value_of v (term_at (map (renamed_by f) ts) 0) ≡ get_or (values_of old_values ts) 0 (pos 0)
-  first_value [] = refl
-  first_value (t ∷ ts) = value_by t
+-- Results
+first_value : (v : Valuation) (ts : List LinearSum) → value_of v (term_at ts 0) ≡ get_or (values_of v ts) 0 (pos 0)
+first_value v [] = refl
+first_value v (t ∷ ts) = refl
+
+others_value : (v : Valuation) (ts : List LinearSum) → values_of v (drop 1 ts) ≡ drop 1 (values_of v ts)
+others_value v [] = refl
+others_value v (t ∷ ts) = refl
+
+length_set_terms : (all : List LinearSum) (slots : List ℕ) (terms : List LinearSum) → length (set_terms all slots terms) ≡ length all
+length_set_terms all [] terms = refl
+length_set_terms all (x ∷ xs) terms = length-set (set_terms all xs (drop 1 terms)) x (term_at terms 0)
+    ∙ length_set_terms all xs (drop 1 terms)
+
+-- terms in slots
+terms_set : (v : Valuation) (all : List LinearSum) (n : ℕ) → n ≡ length all → (slots : List ℕ) (terms : List LinearSum) →
+    IsTrue (list_all (λ x. nat_lt x n) slots) →
+    slots_at v (set_terms all slots terms) ≡ with_slots (slots_at v all) slots (values_of v terms)
+terms_set v all n count [] terms ok = refl
+terms_set v all n count (x ∷ xs) terms ok =
+    let here = both (nat_lt x n) (list_all (λ y. nat_lt y n) xs) ok in
+    let low : x < length (set_terms all xs (drop 1 terms)) = omega (
+      arith,
+      ltb-true x n here.0,
+      count,
+      length_set_terms all xs (drop 1 terms),
+    )
+    in
+    slots_set v (set_terms all xs (drop 1 terms)) x (term_at terms 0) low
+    ∙ ap (λ s. with_slot s x (value_of v (term_at terms 0))) (terms_set v all n count xs (drop 1 terms) here.1)
+    ∙ ap (λ vs. with_slot (with_slots (slots_at v all) xs vs) x (value_of v (term_at terms 0))) (others_value v terms)
+    ∙ ap (λ z. with_slot (with_slots (slots_at v all) xs (drop 1 (values_of v terms))) x z) (first_value v terms)
 
 -- Arguments
 arguments_match : (v : Valuation) (slots : List LinearSum) (args : List ℕ) (terms : List LinearSum) → length args ≡ length terms →
@@ -65,48 +94,46 @@ arguments_match v slots (x ∷ args) (t ∷ terms) n h =
     (arguments_match v slots args terms (omega (arith, n)) r.1)
 
 -- One more call
-one_call : (C : Called) → Longer C → (edges : List Edge) (i n to proc slot : ℕ) (args : List ℕ) → slice_get edges i
-    ≡ Some (Call n to proc args slot) → (k : ℕ) (start : Place) (s : State) (ins used : List ℤ) (end : End) →
+one_call : (C : Called) → Longer C → (edges : List Edge) (i n to proc : ℕ) (args results : List ℕ) → slice_get edges i
+    ≡ Some (Call n to proc args results) → (k : ℕ) (start : Place) (s : State) (ins used : List ℤ) (end : End) →
     ((more : List ℤ) → Frame C edges k start (ins ++ more) (inside n s) more) → C proc (map s args) used [] end → (more : List ℤ) →
-    Frame C edges (suc k) start ((ins ++ used) ++ more) (after_call to slot s end) more
-one_call C longer edges i n to proc slot args at k start s ins used end f run more =
-    frame_longer C edges k start (inside n s) (after_call to slot s end) ((ins ++ used) ++ more) (used ++ more) more
+    Frame C edges (suc k) start ((ins ++ used) ++ more) (after_call to results s end) more
+one_call C longer edges i n to proc args results at k start s ins used end f run more =
+    frame_longer C edges k start (inside n s) (after_call to results s end) ((ins ++ used) ++ more) (used ++ more) more
     (subst (λ l. Frame C edges k start l (inside n s) (used ++ more)) (sym (append_assoc ins used more)) (f (used ++ more)))
-    (i, Call n to proc args slot, at, refl, (end, longer proc (map s args) used [] end more run, refl))
+    (i, Call n to proc args results, at, refl, (end, longer proc (map s args) used [] end more run, refl))
 
 -- The place behind
-module _ (gs : List Graph) (g : Graph) (ok : IsGraph g.nodes g.exit g.fail g.params g.slots g.edges) (t : Trace) (h : IsTrail gs g t)
-    (i from to proc slot : ℕ) (args : List ℕ) (at : slice_get g.edges i ≡ Some (Call from to proc args slot)) (src : from ≡ t.node)
+module _ (gs : List Graph) (g : Graph) (ok : IsGraph g.nodes g.exit g.fail g.params g.exits g.slots g.edges) (t : Trace)
+    (h : IsTrail gs g t)
+    (i from to proc : ℕ) (args results : List ℕ) (at : slice_get g.edges i ≡ Some (Call from to proc args results)) (src : from ≡ t.node)
     (must : Path) where
-  edge_ok : IsEdge g.nodes g.exit g.fail g.slots (Call from to proc args slot)
-  edge_ok = ok.are_edges i (Call from to proc args slot) at
+  edge_ok : IsEdge g.nodes g.exit g.fail g.exits g.slots (Call from to proc args results)
+  edge_ok = ok.are_edges i (Call from to proc args results) at
 
   leave : (t.node < g.nodes) × (t.node ≢ g.exit) × (t.node ≢ g.fail)
   leave = edge_ok.leaves t.node (ap Some src)
 
-  slot_here : slot < length t.slots
-  slot_here = let n = both (nat_lt slot g.slots) (list_all (λ x. nat_lt x g.slots) args) edge_ok.slots_named in
-      omega (arith, ltb-true slot g.slots n.0, h.many leave.1)
+  results_here : IsTrue (list_all (λ x. nat_lt x g.slots) results)
+  results_here = (both (list_all (λ x. nat_lt x g.slots) results) (list_all (λ x. nat_lt x g.slots) args) edge_ok.slots_named).0
 
-  pub place_behind : (v : Valuation) (exit : ExitKind) → after_call to slot (slots_at v t.slots)
+  pub place_behind : (v : Valuation) (exit : ExitKind) → after_call to results (slots_at v t.slots)
       (end_with exit (values_of (λ x. v (shifted t.symbols x)) must.outcome)) ≡ end_place g.exit v (must_node to g.fail exit)
-      (must_slots t exit slot must) (must_failed exit t.failed)
+      (must_slots t exit results must) (must_failed exit t.failed)
   place_behind v kind.Return =
-      let term : LinearSum = term_at (map (renamed_by (shifted t.symbols)) must.outcome) 0 in
-      let value : value_of v term ≡ get_or (values_of (λ x. v (shifted t.symbols x)) must.outcome) 0 (pos 0) = first_value
-      (shifted t.symbols)
-      v must.outcome in
-      let same : slots_at v (slice_set t.slots slot term) ≡ with_slot (slots_at v t.slots) slot
-      (get_or (values_of (λ x. v (shifted t.symbols x)) must.outcome) 0 (pos 0)) = slots_set v t.slots slot term slot_here
-      ∙ ap (with_slot (slots_at v t.slots) slot) value in
-      let inner = inner_place g.exit v to (slice_set t.slots slot term) t.failed (h.unfailed leave.2)
+      let terms = map (renamed_by (shifted t.symbols)) must.outcome in
+      let same : slots_at v (set_terms t.slots results terms) ≡ with_slots (slots_at v t.slots) results
+      (values_of (λ x. v (shifted t.symbols x)) must.outcome) = terms_set v t.slots g.slots (sym (h.many leave.1)) results terms
+      results_here
+      ∙ ap (with_slots (slots_at v t.slots) results) (values_by (shifted t.symbols) v must.outcome) in
+      let inner = inner_place g.exit v to (set_terms t.slots results terms) t.failed (h.unfailed leave.2)
       (eqb-false to g.exit (sym edge_ok.to_exit))
       in
       sym (inner ∙ ap (inside to) same)
   place_behind v (kind.Fail id) = refl
 
-  many_must : (x : ExitKind) → length (must_slots t x slot must) ≡ g.slots
-  many_must kind.Return = length-set t.slots slot (term_at (map (renamed_by (shifted t.symbols)) must.outcome) 0) ∙ h.many leave.1
+  many_must : (x : ExitKind) → length (must_slots t x results must) ≡ g.slots
+  many_must kind.Return = length_set_terms t.slots results (map (renamed_by (shifted t.symbols)) must.outcome) ∙ h.many leave.1
   many_must (kind.Fail id) = h.many leave.1
 
   no_exit : (x : ExitKind) → must_node to g.fail x ≡ g.exit → ⊥
@@ -121,8 +148,9 @@ module _ (gs : List Graph) (g : Graph) (ok : IsGraph g.nodes g.exit g.fail g.par
   has_failed kind.Return e = absurd (eqb-false to g.fail (sym edge_ok.to_fail) e)
   has_failed (kind.Fail id) e = (id, refl)
 
-module _ (gs : List Graph) (g : Graph) (ok : IsGraph g.nodes g.exit g.fail g.params g.slots g.edges) (t : Trace) (h : IsTrail gs g t)
-    (i from to proc slot : ℕ) (args : List ℕ) (at : slice_get g.edges i ≡ Some (Call from to proc args slot)) (src : from ≡ t.node)
+module _ (gs : List Graph) (g : Graph) (ok : IsGraph g.nodes g.exit g.fail g.params g.exits g.slots g.edges) (t : Trace)
+    (h : IsTrail gs g t)
+    (i from to proc : ℕ) (args results : List ℕ) (at : slice_get g.edges i ≡ Some (Call from to proc args results)) (src : from ≡ t.node)
     (must : Path) (gives : GivesRuns gs must) (of_procedure : must.proc ≡ proc) (count : length args ≡ length must.entry) where
   extend_call : (v : Valuation) (d k e : ℕ) → end_place g.exit v t.node t.slots t.failed ≡ inside t.node (slots_at v t.slots) →
       ((more : List ℤ) → Frame (GraphRun gs d) g.edges k (inside (first_node g.edges) (entered (values_of v t.entry)))
@@ -131,7 +159,7 @@ module _ (gs : List Graph) (g : Graph) (ok : IsGraph g.nodes g.exit g.fail g.par
       (λ x. v (shifted t.symbols x)) must.inputs) (end_with must.exit (values_of (λ x. v (shifted t.symbols x)) must.outcome)) →
       (more : List ℤ) → Frame (GraphRun gs (e + d)) g.edges (suc k) (inside (first_node g.edges) (entered (values_of v t.entry)))
       (values_of v (t.inputs ++ map (renamed_by (shifted t.symbols)) must.inputs) ++ more)
-      (end_place g.exit v (must_node to g.fail must.exit) (must_slots t must.exit slot must) (must_failed must.exit t.failed)) more
+      (end_place g.exit v (must_node to g.fail must.exit) (must_slots t must.exit results must) (must_failed must.exit t.failed)) more
   extend_call v d k e from_place fr same_args run more =
       let start : Place = inside (first_node g.edges) (entered (values_of v t.entry)) in
       let end : End = end_with must.exit (values_of (λ x. v (shifted t.symbols x)) must.outcome) in
@@ -147,20 +175,21 @@ module _ (gs : List Graph) (g : Graph) (ok : IsGraph g.nodes g.exit g.fail g.par
       let run'' : GraphRun gs (e + d) proc (map (slots_at v t.slots) args) used [] end = subst
       (λ p. GraphRun gs (e + d) p (map (slots_at v t.slots) args) used [] end) of_procedure
       (subst (λ l. GraphRun gs (e + d) must.proc l used [] end) (sym same_args) run') in
-      let at' : slice_get g.edges i ≡ Some (Call t.node to proc args slot) = subst
-      (λ n. slice_get g.edges i ≡ Some (Call n to proc args slot))
+      let at' : slice_get g.edges i ≡ Some (Call t.node to proc args results) = subst
+      (λ n. slice_get g.edges i ≡ Some (Call n to proc args results))
       src at in
-      let whole = one_call (GraphRun gs (e + d)) (run_longer gs (e + d)) g.edges i t.node to proc slot args at' k start (slots_at v t.slots)
+      let whole = one_call (GraphRun gs (e + d)) (run_longer gs (e + d)) g.edges i t.node to proc args results at' k start
+      (slots_at v t.slots)
       (values_of v t.inputs) used end fr' run'' more in
       let inputs : values_of v t.inputs ++ used ≡ values_of v (t.inputs ++ map (renamed_by (shifted t.symbols)) must.inputs) =
       ap (λ l. values_of v t.inputs ++ l) (sym (values_by (shifted t.symbols) v must.inputs))
       ∙ sym (map-append (value_of v) t.inputs (map (renamed_by (shifted t.symbols)) must.inputs)) in
       subst (λ l. Frame (GraphRun gs (e + d)) g.edges (suc k) start (l ++ more) (end_place g.exit v (must_node to g.fail must.exit)
-      (must_slots t must.exit slot must) (must_failed must.exit t.failed)) more) inputs (subst (λ p. Frame (GraphRun gs (e + d)) g.edges
-      (suc k) start ((values_of v t.inputs ++ used) ++ more) p more) ((place_behind gs g ok t h i from to proc slot args at src must) v
+      (must_slots t must.exit results must) (must_failed must.exit t.failed)) more) inputs (subst (λ p. Frame (GraphRun gs (e + d)) g.edges
+      (suc k) start ((values_of v t.inputs ++ used) ++ more) p more) ((place_behind gs g ok t h i from to proc args results at src must) v
       must.exit) whole)
 
-  pub extend_must : GivesFrames gs g (extended_must t to g.fail args slot must)
+  pub extend_must : GivesFrames gs g (extended_must t to g.fail args results must)
   extend_must v v64 m =
       let a = holds_split v (t.guard.atoms ++ renamed_atoms_by (shifted t.symbols) must.guard.atoms) (rows_of_sums (must_sums t args must))
       m
@@ -170,7 +199,8 @@ module _ (gs : List Graph) (g : Graph) (ok : IsGraph g.nodes g.exit g.fail g.par
       let fr = h.gives v v64 b.0 in
       let r = gives w (λ x. v64 (shifted t.symbols x)) (holds_by (shifted t.symbols) v must.guard.atoms b.1) in
       let from_place : end_place g.exit v t.node t.slots t.failed ≡ inside t.node (slots_at v t.slots) = inner_place g.exit v t.node t.slots
-      t.failed (h.unfailed (leave gs g ok t h i from to proc slot args at src must).2) (leave gs g ok t h i from to proc slot args at src
+      t.failed (h.unfailed (leave gs g ok t h i from to proc args results at src must).2) (leave gs g ok t h i from to proc args results at
+      src
       must).1
       in
       let same_args : map (slots_at v t.slots) args ≡ values_of w must.entry = arguments_match v t.slots args
@@ -178,12 +208,12 @@ module _ (gs : List Graph) (g : Graph) (ok : IsGraph g.nodes g.exit g.fail g.par
       ∙ values_by (shifted t.symbols) v must.entry in
       (r.0 + fr.0, suc fr.1, extend_call v fr.0 fr.1 r.0 from_place fr.2 same_args r.1)
 
-  pub extended_must_trail : IsTrail gs g (extended_must t to g.fail args slot must)
+  pub extended_must_trail : IsTrail gs g (extended_must t to g.fail args results must)
   extended_must_trail = record {
     gives = extend_must;
-    many = λ _. (many_must gs g ok t h i from to proc slot args at src must) must.exit;
-    returned = λ e. absurd ((no_exit gs g ok t h i from to proc slot args at src must) must.exit e);
-    unfailed = λ e. (none_failed gs g ok t h i from to proc slot args at src must) must.exit e;
-    is_failed = λ e. (has_failed gs g ok t h i from to proc slot args at src must) must.exit e;
+    many = λ _. (many_must gs g ok t h i from to proc args results at src must) must.exit;
+    returned = λ e. absurd ((no_exit gs g ok t h i from to proc args results at src must) must.exit e);
+    unfailed = λ e. (none_failed gs g ok t h i from to proc args results at src must) must.exit e;
+    is_failed = λ e. (has_failed gs g ok t h i from to proc args results at src must) must.exit e;
     entry = h.entry;
   }

@@ -40,7 +40,8 @@ frame_run gs p g at to params e d k args ins b end f fin =
           (inside to (entered args)) b ins [] end f fin.0,
     )
 
-module _ (gs : List Graph) (p : ℕ) (g : Graph) (at : slice_get gs p ≡ Some g) (ok : IsGraph g.nodes g.exit g.fail g.params g.slots g.edges)
+module _ (gs : List Graph) (p : ℕ) (g : Graph) (at : slice_get gs p ≡ Some g) (ok : IsGraph g.nodes g.exit g.fail g.params g.exits g.slots
+    g.edges)
     (t : Trace) (h : IsTrail gs g t) where
   -- each assignment that meets the guard gives a run to the trail's end
   trail_run : (v : Valuation) → Is64 v → HoldsAll v t.guard.atoms → (b : Place) (end : End) → end_place g.exit v t.node t.slots t.failed
@@ -97,7 +98,7 @@ begin_slot v [] (suc more) (suc x) = begin_slot v [] more x
 begin_slot v (t ∷ terms) more zero = refl
 begin_slot v (t ∷ terms) more (suc x) = begin_slot v terms more x
 
-pub begin_is_trail : (gs : List Graph) (g : Graph) → IsGraph g.nodes g.exit g.fail g.params g.slots g.edges →
+pub begin_is_trail : (gs : List Graph) (g : Graph) → IsGraph g.nodes g.exit g.fail g.params g.exits g.slots g.edges →
     IsTrail gs g (begin_trail (first_node g.edges) g.params g.slots)
 begin_is_trail gs g ok = record {
   gives = λ v v64 m. (0, 0, λ more. (place v, refl));
@@ -117,7 +118,7 @@ begin_is_trail gs g ok = record {
     e : Edge
     e = Entry (first_node g.edges) g.params
 
-    k : IsEdge g.nodes g.exit g.fail g.slots (Entry (first_node g.edges) g.params)
+    k : IsEdge g.nodes g.exit g.fail g.exits g.slots (Entry (first_node g.edges) g.params)
     k = ok.are_edges 0 (Entry (first_node g.edges) g.params) (entry_edge g.params g.edges ok.begins)
 
     no_exit : first_node g.edges ≡ g.exit → ⊥

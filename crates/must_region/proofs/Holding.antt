@@ -29,7 +29,7 @@ module _ (gs : List Graph) (p : ℕ) (g : Graph) (at : slice_get gs p ≡ Some g
   end_run kind.Return e v v64 m = returns_run gs p g at g.well_formed t h e v v64 m
   end_run (kind.Fail id) e v v64 m = fails_run gs p g at g.well_formed t h id e v v64 m
 
-  outcome_count : (exit : ExitKind) → IsAtEnd g t exit → length (outcome_of exit t) ≡ exits_of exit 1
+  outcome_count : (exit : ExitKind) → IsAtEnd g t exit → length (outcome_of exit t) ≡ exits_of exit g.exits
   outcome_count kind.Return e = h.returned e
   outcome_count (kind.Fail id) e = refl
 
@@ -60,7 +60,8 @@ path_holds gs g t q path at h end is =
     (subst (HoldsAll v) is.guard m)).0).0 in
     record {
       entry_terms = ap length is.entry ∙ entry_count gs g t h ∙ sym (ap (λ (a : Arity). a.entries) arity);
-      outcome_terms = ap length is.outcome ∙ outcome_count gs q.proc g at t h q.exit end ∙ ap (λ (x : ExitKind). exits_of x 1) (sym is.exit)
+      outcome_terms = ap length is.outcome ∙ outcome_count gs q.proc g at t h q.exit end ∙ ap (λ (x : ExitKind). exits_of x g.exits)
+          (sym is.exit)
           ∙ ap (exits_of path.exit) (sym (ap (λ (a : Arity). a.exits) arity));
       gives_runs = λ v v64 m.
           let r = given_run gs q.proc g at t h q.exit end v v64 (own v m) in

@@ -1,5 +1,5 @@
 -- Extending loses no step.
-use Rattle.std.proofs.Common.{◌≡◌, ℕ, ◌+◌, ◌<◌, ◌≤◌, List, [], ◌∷◌, ◌++◌, length, Some, None, Bool, true, false, ◌==◌, nat_lt, nat_le, ℤ, pos, negsuc, arith, refl, sym, subst, ap, ◌∙◌, append-nil}
+use Rattle.std.proofs.Common.{◌≡◌, ℕ, ◌+◌, ◌≤◌, List, [], ◌∷◌, ◌++◌, map, Some, None, Bool, true, false, ◌==◌, nat_lt, nat_le, ℤ, pos, negsuc, arith, refl, sym, subst, ap, ◌∙◌, append-nil}
 use Rattle.std.specs.Prelude.{slice_get, slice_set, IsTrue, if◌then◌else◌}
 use Rattle.std.specs.List.{list_all}
 use Rattle.std.proofs.lemmas.List.{map-append}
@@ -22,7 +22,7 @@ use Rattle.flow_graph.specs.declared.graph.Edge.{Edge}
 use Rattle.flow_graph.specs.declared.graph.Edge.TheVariants.{Entry, Assign, Guard, Input, Pick, Call, Assert, Return}
 use Rattle.flow_graph.specs.Shapes.{source, is_call}
 use Rattle.flow_graph.specs.WellFormed.{IsGraph, is_lin, names_slots, max_slots}
-use Rattle.flow_graph.specs.Runs.{inside, lin_value}
+use Rattle.flow_graph.specs.Runs.{inside, left, lin_value}
 use Rattle.flow_graph.specs.Columns.{rows_name_only, first_symbol}
 use Rattle.summary_form.specs.Musts.{values_of}
 use Rattle.summary_form.specs.Symbols.{is_symbol_column, all_name_only}
@@ -33,8 +33,8 @@ use Rattle.shadow_elim.proofs.Summing.{sums-hold}
 use Rattle.flow_graph.specs.Readings.{term_at, reading}
 use Rattle.flow_graph.proofs.Numbers.{value_bounds, value_64}
 use Rattle.must_region.proofs.Agreeing.{Agree, holds_agree, holds_append, values_agree, slots_agree}
-use Rattle.must_region.specs.Trails.{slots_at, IsTrail, LosesNoStep}
-use Rattle.must_region.proofs.Extending.{HasTerms, leave, behind, slots_set, value_assigned, slot_read, exit_place}
+use Rattle.must_region.specs.Trails.{slots_at, HasTerms, LosesNoStep}
+use Rattle.must_region.proofs.Extending.{leave, behind, slot_here, slots_set, values_returned, value_assigned, slot_read, exit_place}
 
 -- Rows that hold
 range_holds : (v : Valuation) (t : LinearSum) → IsTrue (is_value (value_of v t)) → HoldsAll v (rows_of_sums (range_sums t))
@@ -86,11 +86,8 @@ module _ (symbols : ℕ) (v : Valuation) (z : ℤ) where
     by_test false = h x
 
 -- Edge by edge
-module _ (gs : List Graph) (g : Graph) (ok : IsGraph g.nodes g.exit g.fail g.params g.slots g.edges) (t : Trace) (h : IsTrail gs g t)
+module _ (g : Graph) (ok : IsGraph g.nodes g.exit g.fail g.params g.exits g.slots g.edges) (t : Trace) (kept : HasTerms g t)
     (names : TraceNamesOwn t) (i : ℕ) where
-  kept : HasTerms g t
-  kept = record { many = h.many; unfailed = h.unfailed }
-
   no_inputs : (v : Valuation) (ins rest : List ℤ) → rest ≡ ins → (used : List ℤ) × (ins ≡ used ++ rest)
       × (values_of v t.inputs ≡ values_of v t.inputs ++ used)
   no_inputs v ins rest e = ([], sym e, sym (append-nil (values_of v t.inputs)))
@@ -102,16 +99,11 @@ module _ (gs : List Graph) (g : Graph) (ok : IsGraph g.nodes g.exit g.fail g.par
       let sum : LinearSum = total (value_sum t.slots value) in
       let src' : source e ≡ Some t.node = ap Some src in
       let named = both (nat_lt slot g.slots) (is_lin g.slots value) (ok.are_edges i e at).slots_named in
-      let slot_here : slot < length t.slots = omega (
-        arith,
-        ltb-true slot g.slots named.0,
-        h.many (leave gs g ok t kept h.gives i e at src').1,
-      )
-      in
+      let here = slot_here g ok t kept i e at src' slot named.0 in
       let good : IsTrue (is_value (value_of v sum)) = subst (λ z. IsTrue (is_value z)) (sym (value_assigned v t.slots value)) st.0 in
       let new : slots_at v (slice_set t.slots slot sum) ≡ with_slot (slots_at v t.slots) slot (lin_value (slots_at v t.slots) value) =
-      slots_set v t.slots slot sum slot_here ∙ ap (with_slot (slots_at v t.slots) slot) (value_assigned v t.slots value) in
-      let place = behind gs g ok t kept h.gives i e at src' v to (slice_set t.slots slot sum) refl refl ∙ ap (inside to) new in (
+      slots_set v t.slots slot sum here ∙ ap (with_slot (slots_at v t.slots) slot) (value_assigned v t.slots value) in
+      let place = behind g ok t kept i e at src' v to (slice_set t.slots slot sum) refl refl ∙ ap (inside to) new in (
         v,
         v64,
         (λ x _. refl),
@@ -125,7 +117,7 @@ module _ (gs : List Graph) (g : Graph) (ok : IsGraph g.nodes g.exit g.fail g.par
   loses_guard from to rows at src v v64 m ins rest b st =
       let e : Edge = Guard from to rows in
       let src' : source e ≡ Some t.node = ap Some src in
-      let place = behind gs g ok t kept h.gives i e at src' v to t.slots refl refl in (
+      let place = behind g ok t kept i e at src' v to t.slots refl refl in (
         v,
         v64,
         (λ x _. refl),
@@ -148,14 +140,14 @@ module _ (gs : List Graph) (g : Graph) (ok : IsGraph g.nodes g.exit g.fail g.par
         no_inputs v ins rest st.2,
       )
 
-  pub loses_return : (from to slot : ℕ) → slice_get g.edges i ≡ Some (Return from to slot) → from ≡ t.node →
-      LosesNoStep g t (Return from to slot) (extended t (Return from to slot))
-  loses_return from to slot at src v v64 m ins rest b st =
-      let e : Edge = Return from to slot in
+  pub loses_return : (from to : ℕ) (slots : List ℕ) → slice_get g.edges i ≡ Some (Return from to slots) → from ≡ t.node →
+      LosesNoStep g t (Return from to slots) (extended t (Return from to slots))
+  loses_return from to slots at src v v64 m ins rest b st =
+      let e : Edge = Return from to slots in
       let src' : source e ≡ Some t.node = ap Some src in
       let exit : to ≡ g.exit = eqb-true to g.exit (sym (ok.are_edges i e at).to_exit) in
-      let none : t.failed ≡ None = h.unfailed (leave gs g ok t kept h.gives i e at src').2 in
-      let place = exit_place g.exit v to (term_at t.slots slot ∷ []) t.failed none exit in
+      let none : t.failed ≡ None = kept.unfailed (leave g ok t kept i e at src').2 in
+      let place = exit_place g.exit v to (map (term_at t.slots) slots) t.failed none exit ∙ ap left (values_returned v t.slots slots) in
       (v, v64, (λ x _. refl), holds_append v t.guard.atoms [] m tt, place ∙ sym st.0, no_inputs v ins rest st.1)
 
   pub loses_input : (from to slot : ℕ) → slice_get g.edges i ≡ Some (Input from to slot) → from ≡ t.node →
@@ -166,17 +158,12 @@ module _ (gs : List Graph) (g : Graph) (ok : IsGraph g.nodes g.exit g.fail g.par
       let w : Valuation = one_more t.symbols v z in
       let symbol : LinearSum = new_symbol t.symbols in
       let src' : source e ≡ Some t.node = ap Some src in
-      let slot_here : slot < length t.slots = omega (
-        arith,
-        ltb-true slot g.slots (ok.are_edges i e at).slots_named,
-        h.many (leave gs g ok t kept h.gives i e at src').1,
-      ) in
+      let here = slot_here g ok t kept i e at src' slot (ok.are_edges i e at).slots_named in
       let value : value_of w symbol ≡ z = value-column w (first_symbol + t.symbols) ∙ new_at t.symbols v z in
-      let new : slots_at w (slice_set t.slots slot symbol) ≡ with_slot (slots_at v t.slots) slot z = slots_set w t.slots slot symbol
-      slot_here
+      let new : slots_at w (slice_set t.slots slot symbol) ≡ with_slot (slots_at v t.slots) slot z = slots_set w t.slots slot symbol here
       ∙ ap (λ (s : State). with_slot s slot (value_of w symbol)) (slots_old t.symbols v z t.slots names.slot_names)
       ∙ ap (with_slot (slots_at v t.slots) slot) value in
-      let place = behind gs g ok t kept h.gives i e at src' w to (slice_set t.slots slot symbol) refl refl ∙ ap (inside to) new in
+      let place = behind g ok t kept i e at src' w to (slice_set t.slots slot symbol) refl refl ∙ ap (inside to) new in
       let inputs : values_of w (t.inputs ++ symbol ∷ []) ≡ values_of v t.inputs ++ z ∷ [] = map-append (value_of w) t.inputs (symbol ∷ [])
       ∙ ap (λ l. l ++ value_of w symbol ∷ []) (terms_old t.symbols v z t.inputs names.input_names)
       ∙ ap (λ y. values_of v t.inputs ++ y ∷ [])
@@ -200,17 +187,12 @@ module _ (gs : List Graph) (g : Graph) (ok : IsGraph g.nodes g.exit g.fail g.par
       let terms : List LinearSum = slice_set t.slots slot symbol in
       let src' : source e ≡ Some t.node = ap Some src in
       let named = both (nat_lt slot g.slots) (list_all (names_slots g.slots) rows.atoms) (ok.are_edges i e at).slots_named in
-      let slot_here : slot < length t.slots = omega (
-        arith,
-        ltb-true slot g.slots named.0,
-        h.many (leave gs g ok t kept h.gives i e at src').1,
-      )
-      in
+      let here = slot_here g ok t kept i e at src' slot named.0 in
       let value : value_of w symbol ≡ z = value-column w (first_symbol + t.symbols) ∙ new_at t.symbols v z in
-      let new : slots_at w terms ≡ with_slot (slots_at v t.slots) slot z = slots_set w t.slots slot symbol slot_here
+      let new : slots_at w terms ≡ with_slot (slots_at v t.slots) slot z = slots_set w t.slots slot symbol here
       ∙ ap (λ (s : State). with_slot s slot (value_of w symbol)) (slots_old t.symbols v z t.slots names.slot_names)
       ∙ ap (with_slot (slots_at v t.slots) slot) value in
-      let place = behind gs g ok t kept h.gives i e at src' w to terms refl refl ∙ ap (inside to) new in
+      let place = behind g ok t kept i e at src' w to terms refl refl ∙ ap (inside to) new in
       let meets : HoldsAll (slots_at w terms) rows.atoms = subst (λ (s : State). HoldsAll s rows.atoms) (sym new) st.2 in
       let read = rows_read g.slots ok.few_slots w terms t.entry rows.atoms named.1 meets in
       let inputs : values_of w t.inputs ≡ values_of v t.inputs ++ [] = terms_old t.symbols v z t.inputs names.input_names
@@ -232,4 +214,4 @@ module _ (gs : List Graph) (g : Graph) (ok : IsGraph g.nodes g.exit g.fail g.par
   loses_none (Pick from to slot rows) at src plain = loses_pick from to slot rows at (same_Some from t.node src)
   loses_none (Call from to proc args slot) at src plain = absurd (let clash : true ≡ false = plain in cc)
   loses_none (Assert from to id rows) at src plain = loses_assert from to id rows at (same_Some from t.node src)
-  loses_none (Return from to slot) at src plain = loses_return from to slot at (same_Some from t.node src)
+  loses_none (Return from to slots) at src plain = loses_return from to slots at (same_Some from t.node src)

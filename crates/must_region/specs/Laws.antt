@@ -21,7 +21,7 @@ use Rattle.summary_form.specs.Musts.{values_of, MustHolds}
 use Rattle.must_region.specs.Paths.{IsPathOf}
 use Rattle.must_region.specs.Traces.{Trace, TraceNamesOwn}
 use Rattle.must_region.specs.Rules.{begin_trail, extended, extended_must, symbols_from}
-use Rattle.must_region.specs.Trails.{IsTrail, GivesRuns, LosesNoStep, LosesNoneBy}
+use Rattle.must_region.specs.Trails.{IsTrail, HasTerms, GivesRuns, TakesStep, LosesNoStep, LosesNoneBy}
 
 -- the edge of this number leaves the trail's node, and is no call
 pub record Leaves (g : Graph) (t : Trace) (i : ℕ) (e : Edge) : Type 0 where
@@ -31,9 +31,9 @@ pub record Leaves (g : Graph) (t : Trace) (i : ℕ) (e : Edge) : Type 0 where
 
 -- the call of this number leaves the trail's node, and the must is of the called procedure, with a
 -- term for each argument
-pub record Calls (g : Graph) (t : Trace) (i to proc : ℕ) (args : List ℕ) (slot : ℕ) (must : Path) :
+pub record Calls (g : Graph) (t : Trace) (i to proc : ℕ) (args results : List ℕ) (must : Path) :
     Type 0 where
-  pub at : slice_get g.edges i ≡ Some (Call t.node to proc args slot)
+  pub at : slice_get g.edges i ≡ Some (Call t.node to proc args results)
   pub of_procedure : must.proc ≡ proc
   pub entry_terms : length args ≡ length must.entry
 
@@ -51,22 +51,32 @@ ExtendsTrails =
 -- so does a call by a must that gives runs
 abbrev pub ExtendsByMusts : Type 0
 ExtendsByMusts =
-    (gs : List Graph) (g : Graph) (t : Trace) (i to proc : ℕ) (args : List ℕ) (slot : ℕ)
+    (gs : List Graph) (g : Graph) (t : Trace) (i to proc : ℕ) (args results : List ℕ)
     (must : Path) →
-    IsTrail gs g t → GivesRuns gs must → Calls g t i to proc args slot must →
-    IsTrail gs g (extended_must t to g.fail args slot must)
+    IsTrail gs g t → GivesRuns gs must → Calls g t i to proc args results must →
+    IsTrail gs g (extended_must t to g.fail args results must)
 
+-- Two laws about one step over an edge that is no call. They ask nothing of where the frame began,
+-- so they hold of each trail, and of a frame whose entry values are any terms.
+
+-- what meets the guard behind the edge has stepped over it
+abbrev pub StepsAreTaken : Type 0
+StepsAreTaken =
+    (g : Graph) (t : Trace) (i : ℕ) (e : Edge) →
+    HasTerms g t → Leaves g t i e → TakesStep g t e (extended t e)
+
+-- each step is that of an assignment which meets the guard behind the edge
 abbrev pub NoStepIsLost : Type 0
 NoStepIsLost =
-    (gs : List Graph) (g : Graph) (t : Trace) (i : ℕ) (e : Edge) →
-    IsTrail gs g t → TraceNamesOwn t → Leaves g t i e → LosesNoStep g t e (extended t e)
+    (g : Graph) (t : Trace) (i : ℕ) (e : Edge) →
+    HasTerms g t → TraceNamesOwn t → Leaves g t i e → LosesNoStep g t e (extended t e)
 
 abbrev pub NoCalledRunIsLost : Type 0
 NoCalledRunIsLost =
-    (gs : List Graph) (g : Graph) (t : Trace) (i to proc : ℕ) (args : List ℕ) (slot : ℕ)
+    (gs : List Graph) (g : Graph) (t : Trace) (i to proc : ℕ) (args results : List ℕ)
     (must : Path) →
-    IsTrail gs g t → TraceNamesOwn t → Calls g t i to proc args slot must →
-    LosesNoneBy g t to args slot must (extended_must t to g.fail args slot must)
+    IsTrail gs g t → TraceNamesOwn t → Calls g t i to proc args results must →
+    LosesNoneBy g t to args results must (extended_must t to g.fail args results must)
 
 -- at the exit each assignment that meets the guard gives a run that returns
 abbrev pub ReturnsGiveRuns : Type 0

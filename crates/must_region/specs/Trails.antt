@@ -43,11 +43,17 @@ GivesFrames gs g t = (v : Valuation) → Is64 v → HoldsAll v t.guard.atoms →
 pub record IsTrail (gs : List Graph) (g : Graph) (t : Trace) : Type 0 where
   pub gives : GivesFrames gs g t
   pub many : t.node ≢ g.exit → length t.slots ≡ g.slots
-  pub returned : t.node ≡ g.exit → length t.slots ≡ 1
+  pub returned : t.node ≡ g.exit → length t.slots ≡ g.exits
   pub unfailed : t.node ≢ g.fail → t.failed ≡ None
   pub is_failed : t.node ≡ g.fail → (id : ℕ) × (t.failed ≡ Some id)
   -- the entry values are the first symbols
   pub entry : t.entry ≡ symbols_from first_symbol g.params
+
+-- a term for each slot but at the exit, and no failure but at `fail`: what a single step needs of a
+-- trail, wherever its frame began
+pub record HasTerms (g : Graph) (t : Trace) : Type 0 where
+  pub many : t.node ≢ g.exit → length t.slots ≡ g.slots
+  pub unfailed : t.node ≢ g.fail → t.failed ≡ None
 
 -- what a must says, without its arity
 abbrev pub GivesRuns : List Graph → Path → Type 0
@@ -56,11 +62,21 @@ GivesRuns gs path =
     (values_of v path.entry) (values_of v path.inputs)
     (end_with path.exit (values_of v path.outcome))
 
--- No step is lost over an edge that is no call, which needs no graphs. Where v meets the guard and
--- the state at v steps
--- over the edge, some assignment that agrees with v at the old symbols meets the extended guard and
--- gives the place behind
--- the step, and the inputs that were read.
+-- A step is taken over an edge that is no call, which needs no graphs. Where v meets the guard
+-- behind the edge, it meets the one before it, and the state at v steps over the edge to the place
+-- behind it. The step reads the values of the inputs that are new, whatever inputs stand behind
+-- them.
+abbrev pub TakesStep : Graph → Trace → Edge → Trace → Type 0
+TakesStep g t e new =
+    (v : Valuation) → Is64 v → HoldsAll v new.guard.atoms →
+    HoldsAll v t.guard.atoms × ((used : List ℤ)
+    × (values_of v new.inputs ≡ values_of v t.inputs ++ used)
+    × ((more : List ℤ) → Step (GraphRun [] 0) e (slots_at v t.slots) (used ++ more)
+    (end_place g.exit v new.node new.slots new.failed) more))
+
+-- No step is lost over an edge that is no call. Where v meets the guard and the state at v steps
+-- over the edge, some assignment that agrees with v at the old symbols meets the extended guard,
+-- and gives the place behind the step and the inputs that were read.
 abbrev pub LosesNoStep : Graph → Trace → Edge → Trace → Type 0
 LosesNoStep g t e new =
     (v : Valuation) → Is64 v → HoldsAll v t.guard.atoms → (ins rest : List ℤ) (b : Place) →
@@ -71,12 +87,12 @@ LosesNoStep g t e new =
     ++ used))
 
 -- By a must: u gives the called run.
-abbrev pub LosesNoneBy : Graph → Trace → (to : ℕ) → List ℕ → (slot : ℕ) → Path → Trace → Type 0
-LosesNoneBy g t to args slot path new =
+abbrev pub LosesNoneBy : Graph → Trace → (to : ℕ) → (args results : List ℕ) → Path → Trace → Type 0
+LosesNoneBy g t to args results path new =
     (v u : Valuation) → Is64 v → Is64 u → HoldsAll v t.guard.atoms → HoldsAll u path.guard.atoms →
     values_of u path.entry ≡ map (slots_at v t.slots) args →
     (w : Valuation) × Is64 w × ((x : ℕ) → IsTrue (is_symbol_column t.symbols x) → w x ≡ v x)
     × HoldsAll w new.guard.atoms
-    × (end_place g.exit w new.node new.slots new.failed ≡ after_call to slot (slots_at v t.slots)
+    × (end_place g.exit w new.node new.slots new.failed ≡ after_call to results (slots_at v t.slots)
     (end_with path.exit (values_of u path.outcome)))
     × (values_of w new.inputs ≡ values_of v t.inputs ++ values_of u path.inputs)

@@ -14,7 +14,7 @@ ghost use Rattle.must_region.specs.steps.Drafts.{drafted};
 use crate::draft::Draft;
 use crate::error::TrailError;
 use crate::shifting::{push_shifted, push_shifted_atoms};
-use crate::slots::{term_at, with_term};
+use crate::slots::{term_at, with_terms};
 use crate::trail::Trail;
 use c_tree::tree::{AssertId, Slot};
 use flow_graph::graph::Edge;
@@ -23,6 +23,7 @@ use linear_formula::formula::{Atoms, Cube};
 use linear_formula::term::Term;
 use shadow_elim::sum::{Sum, push_equal, total_rows};
 use std::alloc::Global;
+use summary_form::numbers::number_behind_both;
 use summary_form::path::{Path, Terms};
 use summary_form::query::ExitKind;
 
@@ -117,17 +118,21 @@ fn failed_behind(exit: ExitKind, old: Option<AssertId>) -> Option<AssertId>
     }
 }
 
-/// The slots behind the call: where the must returns, the call's slot has the outcome term.
-fn slots_behind(alloc: Global, trail: &Trail, slot: Slot, must: &Path) -> Result<Terms, OutOfMemory>
+/// The slots behind the call: where the must returns, the call's results have the outcome terms.
+fn slots_behind(
+    alloc: Global,
+    trail: &Trail,
+    results: &[Slot],
+    must: &Path,
+) -> Result<Terms, OutOfMemory>
     ensures { IfOk result
-        (λ ts. ts ≡ must_slots (trace_of trail.now) must.now.exit slot must.now) }
+        (λ ts. ts ≡ must_slots (trace_of trail.now) must.now.exit results.now must.now) }
 {
     match must.exit {
         ExitKind::Return => {
             let mut outcome = Vec::new(alloc);
             push_shifted(alloc, &mut outcome, must.outcome.as_slice(), trail.symbols)?;
-            let term = term_at(alloc, &outcome, 0)?;
-            with_term(alloc, &trail.slots, slot, term)
+            with_terms(alloc, &trail.slots, results, &outcome)
         }
         ExitKind::Fail(_) => trail.slots.copy(alloc),
     }
@@ -150,17 +155,21 @@ pub fn draft_by_must(
         (λ e. IfRefused e (IsFirstWide (carried_sums (trace_of trail.now) call.now must.now))) }
     ensures right { IfErr result (λ e. IfRefused e IsRight) }
 {
-    let Edge::Call { to, args, slot, .. } = call else {
+    let Edge::Call {
+        to,
+        args,
+        results,
+        ..
+    } = call
+    else {
         unreachable!()
     };
-    let Some(symbols) = trail.symbols.checked_add(must.symbols) else {
-        return Err(TrailError::Memory);
-    };
+    let symbols = number_behind_both(trail.symbols, must.symbols)?;
     let rows = match_rows(alloc, trail, args.as_slice(), must)?;
     let guard = joined_guard(alloc, trail, must, rows)?;
     let entry = trail.entry.copy(alloc)?;
     let inputs = joined_inputs(alloc, trail, must)?;
-    let slots = slots_behind(alloc, trail, *slot, must)?;
+    let slots = slots_behind(alloc, trail, results.as_slice(), must)?;
     Ok(Draft {
         node: node_behind(*to, fail, must.exit),
         symbols,

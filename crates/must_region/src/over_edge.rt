@@ -15,11 +15,11 @@ ghost use Rattle.must_region.specs.steps.Drafts.{drafted};
 use crate::draft::Draft;
 use crate::error::TrailError;
 use crate::reading::AtEnd;
-use crate::slots::{term_at, with_last, with_term};
+use crate::slots::{term_at, terms_at, with_last, with_term};
 use crate::trail::Trail;
 use c_tree::tree::Slot;
 use flow_graph::columns::FIRST_SYMBOL;
-use flow_graph::graph::{Edge, Lin};
+use flow_graph::graph::{Edge, Lin, Slots};
 use linear_formula::error::OutOfMemory;
 use linear_formula::formula::{Atoms, Cube};
 use linear_formula::question::Summands;
@@ -27,6 +27,7 @@ use linear_formula::reading::column_term;
 use linear_formula::term::Term;
 use shadow_elim::sum::{Sum, push_read, total_rows, total_term};
 use std::alloc::{AllocError, Global};
+use summary_form::numbers::MAX_NUMBER;
 use summary_form::path::Terms;
 
 /// The cube's rows with the terms at the end of a trail in the places of their columns.
@@ -165,13 +166,14 @@ fn over_rows(alloc: Global, trail: &Trail, to: u32, rows: &Cube) -> Result<Draft
     Ok(behind(alloc, trail, to, &read, slots)?)
 }
 
-/// The column of the next symbol, if it is one of 32 bits.
+/// The column of the next symbol, unless its number is too great.
 fn next_column(symbols: u32) -> Result<u32, OutOfMemory>
     ensures { IfOk result (λ x. x ≡ first_symbol + symbols) }
 {
-    match FIRST_SYMBOL.checked_add(symbols) {
-        Some(column) => Ok(column),
-        None => Err(AllocError),
+    if symbols < MAX_NUMBER {
+        Ok(FIRST_SYMBOL + symbols)
+    } else {
+        Err(AllocError)
     }
 }
 
@@ -226,13 +228,17 @@ fn over_pick(
     Ok(draft)
 }
 
-/// The term of what is returned stays alone.
-fn over_return(alloc: Global, trail: &Trail, to: u32, slot: Slot) -> Result<Draft, OutOfMemory>
+/// The terms of what is returned stay alone.
+fn over_return(
+    alloc: Global,
+    trail: &Trail,
+    to: u32,
+    returned: &Slots,
+) -> Result<Draft, OutOfMemory>
     ensures { IfOk result
-        (λ d. drafted d ≡ extended (trace_of trail.now) (Return trail.now.node to slot)) }
+        (λ d. drafted d ≡ extended (trace_of trail.now) (Return trail.now.node to returned.now)) }
 {
-    let term = term_at(alloc, trail.slots.as_slice(), slot)?;
-    let slots = Terms::from_vec(vec![in alloc; term]?);
+    let slots = terms_at(alloc, trail.slots.as_slice(), returned.as_slice())?;
     let rows = Cube {
         atoms: Atoms::new(alloc),
     };
@@ -265,7 +271,7 @@ pub fn draft_over(alloc: Global, trail: &Trail, edge: &Edge) -> Result<Draft, Tr
             draft.failed = Some(*id);
             Ok(draft)
         }
-        Edge::Return { to, slot, .. } => Ok(over_return(alloc, trail, *to, *slot)?),
+        Edge::Return { to, slots, .. } => Ok(over_return(alloc, trail, *to, slots)?),
         Edge::Entry { .. } | Edge::Call { .. } => unreachable!(),
     }
 }
