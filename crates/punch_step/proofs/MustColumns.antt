@@ -1,5 +1,5 @@
 -- The columns that a preimage over a must names: where slots are allowed, and what the must and the target name, no others.
-use Rattle.std.proofs.Common.{◌≡◌, ℕ, suc, ◌<◌, ◌^◌, Bool, true, false, ◌==◌, nat_le, Option, List, [], ◌∷◌, ◌++◌, None, Some, refl, arith}
+use Rattle.std.proofs.Common.{◌≡◌, ℕ, suc, ◌<◌, ◌^◌, Bool, true, false, ◌==◌, nat_le, Option, List, [], ◌∷◌, ◌++◌, drop, None, Some, refl, arith}
 use Rattle.std.specs.Prelude.{IsTrue, slice_get, if◌then◌else◌}
 use borrow.Author.Tests.{lt-ltb}
 use Rattle.linear_formula.specs.LinearSum.{LinearSum}
@@ -10,7 +10,8 @@ use Rattle.linear_formula.specs.declared.formula.Atom.{Atom}
 use Rattle.linear_formula.proofs.Limits.{both}
 use Rattle.shadow_elim.specs.Projection.{gives, projected, summed}
 use Rattle.shadow_elim.specs.ProjectionLaws.{FitsProjection, Pair}
-use Rattle.shadow_elim.specs.Sums.{equal_sums, first_wide, renaming, row_sums, rows_of_sums, term_at}
+use Rattle.shadow_elim.specs.Sums.{equal_sums, first_wide, renaming, row_sums, rows_of_sums}
+use Rattle.flow_graph.specs.Readings.{term_at, results_reading}
 use Rattle.shadow_elim.proofs.Projecting.{unless-none}
 use Rattle.flow_graph.specs.Columns.{first_entry, first_symbol, names_only, rows_name_only}
 use Rattle.summary_form.specs.Symbols.{all_name_only}
@@ -45,13 +46,23 @@ module _ (allowed : ℕ → Bool) (slots : (x : ℕ) → x < first_entry → IsT
   first_named [] h = refl
   first_named (t ∷ ts) h = (both (names_only allowed t) (all_name_only allowed ts) h).0
 
-  behind_named : (exit : ExitKind) (slot : ℕ) (outcome : List LinearSum) → IsTrue (all_name_only allowed outcome) →
-      (x : ℕ) → IsTrue (allowed x) → IsTrue (names_only allowed (exit_reading exit slot outcome x))
-  behind_named kind.Return slot outcome n x h = by_test (x == slot) where
-    by_test : (b : Bool) → IsTrue (names_only allowed (if b then term_at outcome 0 else column_sum x))
-    by_test true = first_named outcome n
-    by_test false = column_named allowed x h
-  behind_named (kind.Fail id) slot outcome n x h = column_named allowed x h
+  others_named_too : (ts : List LinearSum) → IsTrue (all_name_only allowed ts) → IsTrue (all_name_only allowed (drop 1 ts))
+  others_named_too [] h = h
+  others_named_too (t ∷ ts) h = (both (names_only allowed t) (all_name_only allowed ts) h).1
+
+  results_named : (results : List ℕ) (outcome : List LinearSum) → IsTrue (all_name_only allowed outcome) →
+      (x : ℕ) → IsTrue (allowed x) → IsTrue (names_only allowed (results_reading results outcome x))
+  results_named [] outcome n x h = column_named allowed x h
+  results_named (y ∷ ys) outcome n x h = by_test (x == y) (results_named ys (drop 1 outcome) (others_named_too outcome n) x h) where
+    by_test : (b : Bool) → IsTrue (names_only allowed (results_reading ys (drop 1 outcome) x)) →
+        IsTrue (names_only allowed (if b then term_at outcome 0 else results_reading ys (drop 1 outcome) x))
+    by_test true k = first_named outcome n
+    by_test false k = k
+
+  behind_named : (exit : ExitKind) (results : List ℕ) (outcome : List LinearSum) → IsTrue (all_name_only allowed outcome) →
+      (x : ℕ) → IsTrue (allowed x) → IsTrue (names_only allowed (exit_reading exit results outcome x))
+  behind_named kind.Return results outcome n x h = results_named results outcome n x h
+  behind_named (kind.Fail id) results outcome n x h = column_named allowed x h
 
   -- symbols by slots
   appended_named : (done : List (ℕ × ℕ)) (z x : ℕ) → x < first_entry → (y : ℕ) → IsTrue (allowed y) →
@@ -85,42 +96,45 @@ module _ (allowed : ℕ → Bool) (slots : (x : ℕ) → x < first_entry → IsT
       (with_named done (single t) x (k 0 x refl) y n h)
 
   -- A must and a target
-  module _ (must : Path) (args : List ℕ) (slot : ℕ) (target : List Atom) (low : (j a : ℕ) → slice_get args j ≡ Some a → a < first_entry)
+  module _ (must : Path) (args : List ℕ) (results : List ℕ) (target : List Atom) (low : (j a : ℕ) → slice_get args j ≡ Some a →
+      a < first_entry)
       (guard : IsTrue (rows_name_only allowed must.guard.atoms)) (entry : IsTrue (all_name_only allowed must.entry))
       (outcome : IsTrue (all_name_only allowed must.outcome)) (names : IsTrue (rows_name_only allowed target)) where
-    plain_named : IsTrue (rows_name_only allowed (plain_rows must args slot target))
+    plain_named : IsTrue (rows_name_only allowed (plain_rows must args results target))
     plain_named =
-        rows_named_append allowed must.guard.atoms (rows_of_sums (must_sums must args slot target)) guard
-        (rows_named allowed (must_sums must args slot target)
-        (sums_named_append allowed (other_sums [] args must.entry) (row_sums (exit_reading must.exit slot must.outcome) target)
+        rows_named_append allowed must.guard.atoms (rows_of_sums (must_sums must args results target)) guard
+        (rows_named allowed (must_sums must args results target)
+        (sums_named_append allowed (other_sums [] args must.entry) (row_sums (exit_reading must.exit results must.outcome) target)
         (others_named [] args must.entry low entry)
-        (row_sums_named allowed allowed (exit_reading must.exit slot must.outcome) (behind_named must.exit slot must.outcome outcome) target
+        (row_sums_named allowed allowed (exit_reading must.exit results must.outcome) (behind_named must.exit results must.outcome outcome)
+        target
         names)))
 
-    pub slots_named : IsTrue (sums_name_only allowed (slot_sums must args (plain_rows must args slot target)))
+    pub slots_named : IsTrue (sums_name_only allowed (slot_sums must args (plain_rows must args results target)))
     slots_named =
         row_sums_named allowed allowed (renaming (renamed_column (replacing [] args must.entry)))
         (λ x h. column_named allowed (renamed_column (replacing [] args must.entry) x) (renamed_named [] args must.entry low x h h))
-        (plain_rows must args slot target) plain_named
+        (plain_rows must args results target) plain_named
 
-    pub all_named : IsTrue (rows_name_only allowed (must_rows must args slot target))
-    all_named = rows_named allowed (slot_sums must args (plain_rows must args slot target)) slots_named
+    pub all_named : IsTrue (rows_name_only allowed (must_rows must args results target))
+    all_named = rows_named allowed (slot_sums must args (plain_rows must args results target)) slots_named
 
 -- The projection of the symbols that are left
 
-pub record IsMustAnswer (must : Path) (args : List ℕ) (slot : ℕ) (target rows : List Atom) (pair : Pair) : Type 0 where
-  pub fits : FitsProjection (symbol_columns (must_rows must args slot target)) (must_rows must args slot target)
-  pub was : projected (symbol_columns (must_rows must args slot target)) (must_rows must args slot target) ≡ gives rows pair
+pub record IsMustAnswer (must : Path) (args : List ℕ) (results : List ℕ) (target rows : List Atom) (pair : Pair) : Type 0 where
+  pub fits : FitsProjection (symbol_columns (must_rows must args results target)) (must_rows must args results target)
+  pub was : projected (symbol_columns (must_rows must args results target)) (must_rows must args results target) ≡ gives rows pair
 
-pub must_answer : (must : Path) (args : List ℕ) (slot : ℕ) (target : List Atom) → FitsMust must args slot target → (rows : List Atom)
-    (pair : Pair) → must_preimage must args slot target ≡ gives rows pair → IsMustAnswer must args slot target rows pair
-must_answer must args slot target f rows pair e =
-    let plain : List Atom = plain_rows must args slot target in
-    let all : List Atom = must_rows must args slot target in
-    let a = unless-none (first_wide (must_sums must args slot target))
+pub must_answer : (must : Path) (args : List ℕ) (results : List ℕ) (target : List Atom) → FitsMust must args results target →
+    (rows : List Atom)
+    (pair : Pair) → must_preimage must args results target ≡ gives rows pair → IsMustAnswer must args results target rows pair
+must_answer must args results target f rows pair e =
+    let plain : List Atom = plain_rows must args results target in
+    let all : List Atom = must_rows must args results target in
+    let a = unless-none (first_wide (must_sums must args results target))
     (summed (slot_sums must args plain) (λ rs. projected (symbol_columns rs) rs)) rows pair e in
     let b = unless-none (first_wide (slot_sums must args plain)) (projected (symbol_columns all) all) rows pair a.1 in
-    let numbered = slots_named is_number (λ x l. lt-ltb x (2 ^ 32) (omega (arith, l))) must args slot target f.behind.are_slots
+    let numbered = slots_named is_number (λ x l. lt-ltb x (2 ^ 32) (omega (arith, l))) must args results target f.behind.are_slots
     f.numbers.guard f.numbers.entry f.numbers.outcome
     (rows_wider inner_column is_number (λ x h. let l = inner_low x h in lt-ltb x (2 ^ 32) (omega (arith, l))) target f.behind.names) in
     record { fits = kind_fits (λ x. nat_le first_symbol x) all (sums_are_terms (slot_sums must args plain) numbered b.0); was = b.1 }

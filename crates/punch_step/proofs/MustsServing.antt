@@ -50,7 +50,7 @@ use Rattle.query_rules.specs.Steps.{Model}
 use Rattle.query_rules.specs.Turns.{HasPoint, StandsAt}
 use Rattle.query_rules.proofs.CalledPoints.{calls_parted}
 use Rattle.query_rules.proofs.Marked.{IsMarked}
-use Rattle.query_rules.proofs.Reaching.{Good, fits_must}
+use Rattle.query_rules.proofs.Reaching.{Good, fits_call, fits_must}
 use Rattle.query_rules.proofs.Shown.{names_same}
 use Rattle.punch_step.specs.ByMusts.{ServesNeither}
 use Rattle.punch_step.specs.Sights.{IsRead}
@@ -116,15 +116,15 @@ module _ (gs : List Graph) (linked : AreGraphs gs) (g : Graph) (table : List Sum
   held : MustHolds (graph_runs gs) (arity_in gs path.proc) path
   held = holds place (Must path) must_at.there
 
-  fits : FitsMust path c.args c.slot target
+  fits : FitsMust path c.args c.results target
   fits = fits_must gs linked g table holds m good k live c place path must_at
 
   inner_source : IsTrue (rows_name_only inner_column source)
   inner_source =
       let b = c.between in
-      let at : slice_get g.edges k.edge ≡ Some (Call c.from c.to c.proc c.args c.slot) = b.at_edge ∙ ap Some c.is_call in
-      let joined = good.keeps.connected k live (Call c.from c.to c.proc c.args c.slot) at b.source b.target b.at_source b.at_target in
-      let apart = ((g.well_formed.are_edges k.edge (Call c.from c.to c.proc c.args c.slot) at).leaves c.from refl).1 in
+      let at : slice_get g.edges k.edge ≡ Some (Call c.from c.to c.proc c.args c.results) = b.at_edge ∙ ap Some c.is_call in
+      let joined = good.keeps.connected k live (Call c.from c.to c.proc c.args c.results) at b.source b.target b.at_source b.at_target in
+      let apart = ((g.well_formed.are_edges k.edge (Call c.from c.to c.proc c.args c.results) at).leaves c.from refl).1 in
       names_same (node_column g.exit b.source.node) inner_column source (inner_at b.source.node (λ n. apart (sym joined.0 ∙ n)))
       (fit_names (node_column g.exit b.source.node) source (good.keeps.fit k.from b.source b.at_source))
     where
@@ -134,11 +134,12 @@ module _ (gs : List Graph) (linked : AreGraphs gs) (g : Graph) (table : List Sum
   few : length c.args < first_entry + 1
   few = omega (arith, fits.behind.many, held.entry_terms, few_entries (slice_get gs path.proc))
 
-  fits_here : FitsCall c.args c.slot source target
+  fits_here : FitsCall c.args c.results source target
   fits_here = record {
     are_slots = fits.behind.are_slots;
-    slot_low = fits.behind.slot_low;
+    results_low = fits.behind.results_low;
     few = few;
+    few_results = (fits_call gs linked g m good k live c).few_results;
     source_names = inner_source;
     target_names = fits.behind.names;
   }
@@ -151,13 +152,14 @@ module _ (gs : List Graph) (linked : AreGraphs gs) (g : Graph) (table : List Sum
   outcome_values (kind.Fail id) d called ins [] e run = none_values
   outcome_values (kind.Fail id) d called ins (z ∷ values) e run = absurd (let no : suc (length values) ≡ 0 = e in cc)
 
-  is_called : (q : Query) (rows : List Atom) → asked c.exit c.args c.slot source target ≡ gives rows None →
+  is_called : (q : Query) (rows : List Atom) → asked c.exit c.args c.results source target ≡ gives rows None →
       q.start.atoms ≡ start_of rows → q.end.atoms ≡ end_of rows → (y : AnswersYes q path) →
-      IsCalled c.exit c.args c.slot source target (values_of y.at path.entry) (values_of y.at path.outcome)
+      IsCalled c.exit c.args c.results source target (values_of y.at path.entry) (values_of y.at path.outcome)
   is_called q rows is start end y =
       let run = held.gives_runs y.at y.values y.guarded in
       let v : Valuation = valuation_of (values_of y.at path.entry) (values_of y.at path.outcome) in
-      asked_exact c.exit c.args c.slot source target fits_here rows None is refl (values_of y.at path.entry) (values_of y.at path.outcome)
+      asked_exact c.exit c.args c.results source target fits_here rows None is refl (values_of y.at path.entry)
+      (values_of y.at path.outcome)
       run.1.values
       (outcome_values path.exit run.0 (values_of y.at path.entry) (values_of y.at path.inputs) (values_of y.at path.outcome)
       (length-map path.outcome (value_of y.at) ∙ held.outcome_terms) run.1)
@@ -166,23 +168,23 @@ module _ (gs : List Graph) (linked : AreGraphs gs) (g : Graph) (table : List Sum
       (subst (λ (xs : List Atom). HoldsAll v (q.start.atoms ++ xs)) end y.met)))
 
   -- so something in the source meets the preimage
-  in_source : (q : Query) (rows : List Atom) → asked c.exit c.args c.slot source target ≡ gives rows None →
+  in_source : (q : Query) (rows : List Atom) → asked c.exit c.args c.results source target ≡ gives rows None →
       q.start.atoms ≡ start_of rows → q.end.atoms ≡ end_of rows → AnswersYes q path → (pre : List Atom) →
-      must_preimage path c.args c.slot target ≡ gives pre None → HasPoint (source ++ pre)
+      must_preimage path c.args c.results target ≡ gives pre None → HasPoint (source ++ pre)
   in_source q rows is start end y pre exact =
       let w = is_called q rows is start end y in
-      let leads : Leads path c.args c.slot target w.state w.entry = record {
+      let leads : Leads path c.args c.results target w.state w.entry = record {
         symbols = y.at;
         bits = y.values;
         guard = y.guarded;
         passes = sym w.passes;
-        into = subst (λ (x : ExitKind). LiesBehind x c.slot w.state w.entry (values_of y.at path.outcome) target) (sym must_at.of_exit)
+        into = subst (λ (x : ExitKind). LiesBehind x c.results w.state w.entry (values_of y.at path.outcome) target) (sym must_at.of_exit)
             w.into;
       } in (
         columns_of w.state w.entry [],
         columns_64 w.state w.entry [] w.are_values w.entry_values none_values,
         holds_append (columns_of w.state w.entry []) source pre w.from
-            (must_holds path c.args c.slot target fits pre None exact w.state w.entry w.are_values w.entry_values leads),
+            (must_holds path c.args c.results target fits pre None exact w.state w.entry w.are_values w.entry_values leads),
       )
 
   -- The must serves
@@ -200,12 +202,12 @@ module _ (gs : List Graph) (linked : AreGraphs gs) (g : Graph) (table : List Sum
       (terms_read w.trail n (source ++ pre) (rows_named_append inner_column source pre inner_source names) read)
 
   pub must_serves : (w : StandsAt gs g m k) → TraceNamesOwn w.trail → NamesTerms w.trail → (q : Query) (rows : List Atom) →
-      asked c.exit c.args c.slot source target ≡ gives rows None → q.start.atoms ≡ start_of rows → q.end.atoms ≡ end_of rows →
-      AnswersYes q path → (pre : List Atom) → must_preimage path c.args c.slot target ≡ gives pre None →
-      ¬ ServesNeither m.query w.trail g.fail (Call c.from c.to c.proc c.args c.slot) source target path
+      asked c.exit c.args c.results source target ≡ gives rows None → q.start.atoms ≡ start_of rows → q.end.atoms ≡ end_of rows →
+      AnswersYes q path → (pre : List Atom) → must_preimage path c.args c.results target ≡ gives pre None →
+      ¬ ServesNeither m.query w.trail g.fail (Call c.from c.to c.proc c.args c.results) source target path
   must_serves w own n q rows is start end y pre exact = λ s. by_part s.parts_not.pre (same s) s.parts_not.fails (parted s) where
     Neither : Type 0
-    Neither = ServesNeither m.query w.trail g.fail (Call c.from c.to c.proc c.args c.slot) source target path
+    Neither = ServesNeither m.query w.trail g.fail (Call c.from c.to c.proc c.args c.results) source target path
 
     Parted : Type 0
     Parted = (pre ≢ []) × (¬ HasPoint (seen_at m.query w.trail (source ++ pre)))
@@ -228,5 +230,5 @@ module _ (gs : List Graph) (linked : AreGraphs gs) (g : Graph) (table : List Sum
         never_apart (source ++ pre) (subst (λ (xs : List Atom). IsNever (source ++ xs)) e never) point.0 point.1 point.2
     by_part other e (inr (inr seen)) p =
         let here = subst (λ (xs : List Atom). IsRead w.trail (source ++ xs) × IsMet (seen_at m.query w.trail (source ++ xs))) e seen in
-        let names = (must_region path c.args c.slot target fits pre None exact).names in
+        let names = (must_region path c.args c.results target fits pre None exact).names in
         p.1 (met_point (seen_at m.query w.trail (source ++ pre)) (seen_terms w n pre names here.0) here.1)

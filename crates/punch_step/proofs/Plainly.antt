@@ -10,9 +10,7 @@ use Rattle.shadow_elim.specs.Elimination.{Remainder, remains, wide, too_many, el
 use Rattle.shadow_elim.specs.Plan.{found, nothing}
 use Rattle.shadow_elim.specs.Projection.{Projected, cube_of, gives, refuses, left_by, projected, unless_wide, wide_rows, long_rows}
 use Rattle.shadow_elim.specs.Sums.{total, first_wide, row_sums, rows_of_sums, wide_sum}
-use Rattle.flow_graph.specs.Columns.{first_exit}
-use Rattle.flow_graph.specs.Readings.{entry_reading, one_reading}
-use Rattle.linear_formula.specs.Replaced.{column_sum}
+use Rattle.flow_graph.specs.Readings.{entry_reading, return_reading}
 use Rattle.must_region.specs.Rules.{extended}
 use Rattle.punch_step.proofs.Deciding.{contains_wide, contains_earlier, contains_later}
 use Rattle.shadow_elim.specs.declared.sum.Sum.{Sum}
@@ -89,9 +87,9 @@ own_projection (edges.Assign from to slot value) target rows pair h = absurd (ex
 own_projection (edges.Guard from to more) target rows pair h = cc
 own_projection (edges.Input from to slot) target rows pair h = (slot, refl, h)
 own_projection (edges.Pick from to slot more) target rows pair h = (slot, refl, h)
-own_projection (edges.Call from to proc args slot) target rows pair h = cc
+own_projection (edges.Call from to proc args results) target rows pair h = cc
 own_projection (edges.Assert from to id more) target rows pair h = cc
-own_projection (edges.Return from to slot) target rows pair h = absurd (exact_read _ _ rows pair h)
+own_projection (edges.Return from to slots) target rows pair h = absurd (exact_read _ _ rows pair h)
 
 pub own_columns : (edge : Edge) (target rows : List Atom) (pair : ℕ × (LinearSum × LinearSum)) → preimage edge target
     ≡ gives rows (Some pair) →
@@ -199,8 +197,8 @@ refused_question q t (edges.Entry to params) source target kept h =
     let sums = row_sums (entry_reading params) target in
     let r = refused_sum sums (first_wide sums) (gives (rows_of_sums sums) None) kept refl (never_refused (rows_of_sums sums)) h in
     of_pre_sum r.0 r.1 r.2
-refused_question q t (edges.Return from to slot) source target kept h =
-    let sums = row_sums (one_reading first_exit (column_sum slot)) target in
+refused_question q t (edges.Return from to slots) source target kept h =
+    let sums = row_sums (return_reading slots) target in
     let r = refused_sum sums (first_wide sums) (gives (rows_of_sums sums) None) kept refl (never_refused (rows_of_sums sums)) h in
     of_pre_sum r.0 r.1 r.2
 refused_question q t (edges.Input from to slot) source target kept h =
@@ -209,7 +207,7 @@ refused_question q t (edges.Pick from to slot more) source target kept h =
     of_elimination slot (0, omega arith, refl) (refused_elimination (slot ∷ []) (target ++ more.atoms) kept h)
 refused_question q t (edges.Guard from to more) source target kept h = absurd (never_refused _ kept h)
 refused_question q t (edges.Assert from to id more) source target kept h = absurd (never_refused _ kept h)
-refused_question q t (edges.Call from to proc args slot) source target kept h = absurd (never_refused _ kept h)
+refused_question q t (edges.Call from to proc args results) source target kept h = absurd (never_refused _ kept h)
 refused_question q t (edges.Assign from to slot value) source target kept h =
     let one = lin_sum value ∷ [] in let sums = assigned_sums slot (total (lin_sum value)) target in
     let next = unless_wide (first_wide sums) (gives (rows_of_sums sums) None) in

@@ -26,7 +26,7 @@ pub enum Computed {
 pub struct KnownPreimage {
     must: Path,
     args: Slots,
-    slot: Slot,
+    results: Slots,
     target: Cube,
     computed: Computed,
 }
@@ -39,7 +39,7 @@ impl Model for KnownPreimage {
 
     ghost view = { λ k. k.computed };
 
-    ghost invariant = { λ k. IsComputed k.must k.args k.slot k.target.atoms k.computed };
+    ghost invariant = { λ k. IsComputed k.must k.args k.results k.target.atoms k.computed };
 }
 
 /// Whether the musts differ in nothing that a preimage reads.
@@ -54,11 +54,11 @@ fn are_alike(left: &Path, right: &Path) -> bool
 
 impl KnownPreimage {
     /// Whether it is the preimage of the target over the call with these slots by the must.
-    pub(crate) fn is_of(&self, must: &Path, args: &[Slot], slot: Slot, target: &Cube) -> bool
+    pub(crate) fn is_of(&self, must: &Path, args: &[Slot], results: &[Slot], target: &Cube) -> bool
         ensures { IsTrue result →
-            IsComputed must.now args.now slot target.now.atoms self.now }
+            IsComputed must.now args.now results.now target.now.atoms self.now }
     {
-        self.slot == slot
+        self.results.as_slice() == results
             && self.args.as_slice() == args
             && self.target == *target
             && are_alike(&self.must, must)
@@ -71,26 +71,34 @@ impl KnownPreimage {
     }
 }
 
+fn copied(alloc: Global, slots: &[Slot]) -> Result<Slots, OutOfMemory>
+    ensures { IfOk result (λ s. s ≡ slots.now) }
+{
+    let mut items = Vec::with_capacity(alloc, slots.len())?;
+    items.extend_from_slice(slots)?;
+    Ok(Slots::from_vec(items))
+}
+
 /// What was computed, with copies of what it is of.
 pub(crate) fn known_of(
     alloc: Global,
     must: &Path,
     args: &[Slot],
-    slot: Slot,
+    results: &[Slot],
     target: &Cube,
     computed: Computed,
 ) -> Result<KnownPreimage, OutOfMemory>
-    requires { IsComputed must.now args.now slot target.now.atoms computed }
+    requires { IsComputed must.now args.now results.now target.now.atoms computed }
     ensures { IfOk result (λ known. known ≡ computed) }
 {
     let must = must.copy(alloc)?;
     let target = target.copy(alloc)?;
-    let mut copied = Vec::with_capacity(alloc, args.len())?;
-    copied.extend_from_slice(args)?;
+    let args = copied(alloc, args)?;
+    let results = copied(alloc, results)?;
     Ok(KnownPreimage {
         must,
-        args: Slots::from_vec(copied),
-        slot,
+        args,
+        results,
         target,
         computed,
     })

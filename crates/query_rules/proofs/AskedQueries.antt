@@ -1,7 +1,8 @@
 -- A query that may be asked fits the called procedure.
-use Rattle.std.proofs.Common.{◌≡◌, ℕ, List, length, Option, Some, None, refl, sym, subst, ap, ◌∙◌}
+use Rattle.std.proofs.Common.{◌≡◌, ℕ, ◌==◌, List, length, Option, Some, None, refl, sym, subst, ap, ◌∙◌}
 use Rattle.std.specs.Prelude.{slice_get, IsTrue}
 use borrow.Author.Tests.{eqb-true}
+use Rattle.linear_formula.proofs.Limits.{both}
 use Rattle.linear_formula.specs.Formula.{are_terms}
 use Rattle.linear_formula.specs.declared.formula.Atom.{Atom}
 use Rattle.flow_graph.specs.declared.graph.Graph.{Graph}
@@ -19,16 +20,18 @@ use Rattle.query_rules.specs.Rows.{AsksAt}
 use Rattle.query_rules.specs.Steps.{Model}
 use Rattle.query_rules.proofs.Reaching.{Good, fits_call}
 
-abbrev with_entries : ℕ → Arity
-with_entries n = record { entries = n; exits = 1 }
+abbrev with_values : (entries exits : ℕ) → Arity
+with_values n m = record { entries = n; exits = m }
 
-taken : (o : Option Graph) (n : ℕ) → IsTrue (takes o n) → (callee : Graph) × (o ≡ Some callee)
-taken None n t = absurd cc
-taken (Some callee) n t = (callee, refl)
+taken : (o : Option Graph) (n m : ℕ) → IsTrue (takes o n m) → (callee : Graph) × (o ≡ Some callee)
+taken None n m t = absurd cc
+taken (Some callee) n m t = (callee, refl)
 
-same_arity : (o : Option Graph) (n : ℕ) → IsTrue (takes o n) → with_entries n ≡ arity_of o
-same_arity None n t = absurd cc
-same_arity (Some callee) n t = ap with_entries (sym (eqb-true callee.params n t))
+same_arity : (o : Option Graph) (n m : ℕ) → IsTrue (takes o n m) → with_values n m ≡ arity_of o
+same_arity None n m t = absurd cc
+same_arity (Some callee) n m t =
+    let r = both (callee.params == n) (callee.exits == m) t in
+    ap (λ k. with_values k m) (sym (eqb-true callee.params n r.0)) ∙ ap (with_values callee.params) (sym (eqb-true callee.exits m r.1))
 
 -- a query with the procedure, the exit, the start and the end of one that fits
 same_fits : (p : ℕ) (a : Arity) (exit : ExitKind) (rows : List Atom) (q : Query) → q.exit ≡ exit → q.start.atoms ≡ start_of rows →
@@ -47,15 +50,17 @@ pub asks_fitting : (gs : List Graph) (linked : AreGraphs gs) (g : Graph) (m : Mo
     (callee : Graph) × (slice_get gs q.proc ≡ Some callee) × Fits q.proc (arity_in gs q.proc) q
 asks_fitting gs linked g m h k live q a =
     let c = a.call in
-    let t : IsTrue (takes (slice_get gs c.proc) (length c.args)) = linked m.query.proc g h.at k.edge c.from c.to c.proc c.args c.slot
+    let t : IsTrue (takes (slice_get gs c.proc) (length c.args) (length c.results)) = linked m.query.proc g h.at k.edge c.from c.to c.proc
+    c.args c.results
     (c.between.at_edge ∙ ap Some c.is_call) in
-    let callee = taken (slice_get gs c.proc) (length c.args) t in
-    let arity : with_entries (length c.args) ≡ arity_in gs q.proc = same_arity (slice_get gs c.proc) (length c.args) t
+    let callee = taken (slice_get gs c.proc) (length c.args) (length c.results) t in
+    let arity : with_values (length c.args) (length c.results) ≡ arity_in gs q.proc = same_arity (slice_get gs c.proc) (length c.args)
+    (length c.results) t
     ∙ ap (arity_in gs) (sym a.of_procedure) in (
       callee.0,
       ap (slice_get gs) a.of_procedure ∙ callee.1,
       same_fits c.proc (arity_in gs q.proc) c.exit a.rows q a.of_exit a.start a.end
           (subst (λ (n : Arity). Fits c.proc n (query_of c.proc c.exit a.rows)) arity
-          (asked_fits c.proc c.exit c.args c.slot c.between.source.cube.atoms c.between.target.cube.atoms a.rows a.pair
+          (asked_fits c.proc c.exit c.args c.results c.between.source.cube.atoms c.between.target.cube.atoms a.rows a.pair
           (fits_call gs linked g m h k live c) a.is_asked)),
     )

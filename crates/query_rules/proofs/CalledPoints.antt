@@ -55,17 +55,18 @@ use Rattle.query_rules.proofs.Points.{entry_read, inner_read, inner_columns}
 use Rattle.query_rules.proofs.Reaching.{Good, fits_must, inner_target}
 
 -- the place behind a call
-behind_call : (exit : ExitKind) (to slot : ℕ) (s : State) (entry vs : List ℤ) (target : List Atom) → LiesBehind exit slot s entry vs
+behind_call : (exit : ExitKind) (to : ℕ) (results : List ℕ) (s : State) (entry vs : List ℤ) (target : List Atom) → LiesBehind exit results s
+    entry vs
     target →
-    HoldsAll (place_columns entry (after_call to slot s (end_with exit vs))) target
-behind_call kind.Return to slot s entry vs target h = h
-behind_call (kind.Fail id) to slot s entry vs target h = h
+    HoldsAll (place_columns entry (after_call to results s (end_with exit vs))) target
+behind_call kind.Return to results s entry vs target h = h
+behind_call (kind.Fail id) to results s entry vs target h = h
 
 module _ (gs : List Graph) (linked : AreGraphs gs) (g : Graph) (table : List Summary) (holds : AllHold gs table) (m : Model)
     (h : IsMarked gs linked g m) (good : Good gs linked g m) where
   pub carries_called : (k : RegionEdge) → IsTrue (m.parted.live k) → (c : CallAt g m k) (place : ℕ) (path : Path) →
       MustAt table c.proc place c.exit path → (n : ℕ) (t : Trace) → MarksWith m n t k.from → TraceNamesOwn t → (pre : List Atom) →
-      must_preimage path c.args c.slot c.between.target.cube.atoms ≡ gives pre None → HasPoint (seen_at m.query t pre) →
+      must_preimage path c.args c.results c.between.target.cube.atoms ≡ gives pre None → HasPoint (seen_at m.query t pre) →
       HasPoint (seen_at m.query (called_trail t c path) c.between.target.cube.atoms)
   carries_called k live c place path must_at n t w names pre is (v, v64, met) = (
     step.0,
@@ -87,11 +88,11 @@ module _ (gs : List Graph) (linked : AreGraphs gs) (g : Graph) (table : List Sum
       stands : t.node ≡ c.from
       stands = at_source gs g g.well_formed m h.marks h.joined.connected k live c.between n t w c.from (ap source c.is_call)
 
-      at : slice_get g.edges k.edge ≡ Some (Call t.node c.to c.proc c.args c.slot)
-      at = c.between.at_edge ∙ ap Some c.is_call ∙ ap (λ x. Some (Call x c.to c.proc c.args c.slot)) (sym stands)
+      at : slice_get g.edges k.edge ≡ Some (Call t.node c.to c.proc c.args c.results)
+      at = c.between.at_edge ∙ ap Some c.is_call ∙ ap (λ x. Some (Call x c.to c.proc c.args c.results)) (sym stands)
 
-      edge_ok : IsEdge g.nodes g.exit g.fail g.slots (Call t.node c.to c.proc c.args c.slot)
-      edge_ok = g.well_formed.are_edges k.edge (Call t.node c.to c.proc c.args c.slot) at
+      edge_ok : IsEdge g.nodes g.exit g.fail g.exits g.slots (Call t.node c.to c.proc c.args c.results)
+      edge_ok = g.well_formed.are_edges k.edge (Call t.node c.to c.proc c.args c.results) at
 
       apart : (t.node < g.nodes) × (t.node ≢ g.exit) × (t.node ≢ g.fail)
       apart = edge_ok.leaves t.node refl
@@ -115,26 +116,26 @@ module _ (gs : List Graph) (linked : AreGraphs gs) (g : Graph) (table : List Sum
           (values_of v t.inputs ++ []) [] entry_good (f.2 []) in
           subst HoldsValues place there
 
-      fits : FitsMust path c.args c.slot c.between.target.cube.atoms
+      fits : FitsMust path c.args c.results c.between.target.cube.atoms
       fits = fits_must gs linked g table holds m good k live c place path must_at
 
       meets : HoldsAll (columns_of (slots_at v t.slots) (values_of v t.entry) []) pre
       meets = holds_agree inner_column (replaced_valuation (reading t.slots t.entry) v)
           (columns_of (slots_at v t.slots) (values_of v t.entry) [])
           pre
-          (λ x l. sym (inner_read v t.slots t.entry x l)) (must_region path c.args c.slot c.between.target.cube.atoms fits pre None
+          (λ x l. sym (inner_read v t.slots t.entry x l)) (must_region path c.args c.results c.between.target.cube.atoms fits pre None
           is).names
           (hold-sums v (reading t.slots t.entry) pre parts.1)
 
-      leads : Leads path c.args c.slot c.between.target.cube.atoms (slots_at v t.slots) (values_of v t.entry)
-      leads = must_exact path c.args c.slot c.between.target.cube.atoms fits pre None is refl (slots_at v t.slots) (values_of v t.entry)
+      leads : Leads path c.args c.results c.between.target.cube.atoms (slots_at v t.slots) (values_of v t.entry)
+      leads = must_exact path c.args c.results c.between.target.cube.atoms fits pre None is refl (slots_at v t.slots) (values_of v t.entry)
           values entry_good meets
 
       step : (u : Valuation) × Is64 u × ((x : ℕ) → IsTrue (is_symbol_column t.symbols x) → u x ≡ v x) × HoldsAll u new.guard.atoms
-          × (end_place g.exit u new.node new.slots new.failed ≡ after_call c.to c.slot (slots_at v t.slots)
+          × (end_place g.exit u new.node new.slots new.failed ≡ after_call c.to c.results (slots_at v t.slots)
           (end_with path.exit (values_of leads.symbols path.outcome)))
       step =
-          let s = loses_none_by gs g t k.edge c.to c.proc c.args c.slot path is_trail names at v leads.symbols v64 leads.bits begun.0
+          let s = loses_none_by gs g t k.edge c.to c.proc c.args c.results path is_trail names at v leads.symbols v64 leads.bits begun.0
           leads.guard leads.passes in
           (s.0, s.1, s.2, s.3, s.4)
 
@@ -155,10 +156,10 @@ module _ (gs : List Graph) (linked : AreGraphs gs) (g : Graph) (table : List Sum
       at_place : HoldsAll (place_columns (values_of step.0 t.entry) (end_place g.exit step.0 new.node new.slots new.failed))
           c.between.target.cube.atoms
       at_place =
-          let place = after_call c.to c.slot (slots_at v t.slots) (end_with path.exit (values_of leads.symbols path.outcome)) in
+          let place = after_call c.to c.results (slots_at v t.slots) (end_with path.exit (values_of leads.symbols path.outcome)) in
           subst (λ p. HoldsAll (place_columns (values_of step.0 t.entry) p) c.between.target.cube.atoms) (sym step.4)
           (subst (λ vs. HoldsAll (place_columns vs place) c.between.target.cube.atoms) (sym same_entry)
-          (behind_call path.exit c.to c.slot (slots_at v t.slots) (values_of v t.entry) (values_of leads.symbols path.outcome)
+          (behind_call path.exit c.to c.results (slots_at v t.slots) (values_of v t.entry) (values_of leads.symbols path.outcome)
           c.between.target.cube.atoms leads.into))
 
       no_exit : (exit : ExitKind) → must_node c.to g.fail exit ≢ g.exit
@@ -174,7 +175,7 @@ module _ (gs : List Graph) (linked : AreGraphs gs) (g : Graph) (table : List Sum
 
   pub calls_parted : (k : RegionEdge) → IsTrue (m.parted.live k) → (c : CallAt g m k) (place : ℕ) (path : Path) →
       MustAt table c.proc place c.exit path → (w : StandsAt gs g m k) → TraceNamesOwn w.trail → (pre : List Atom) →
-      must_preimage path c.args c.slot c.between.target.cube.atoms ≡ gives pre None →
+      must_preimage path c.args c.results c.between.target.cube.atoms ≡ gives pre None →
       ¬ HasPoint (seen_at m.query (called_trail w.trail c path) c.between.target.cube.atoms) →
       (pre ≢ []) × (¬ HasPoint (seen_at m.query w.trail (c.between.source.cube.atoms ++ pre)))
   calls_parted k live c place path must_at w names pre is never = (some, apart) where
@@ -185,7 +186,7 @@ module _ (gs : List Graph) (linked : AreGraphs gs) (g : Graph) (table : List Sum
     inside_edge : ¬ (k.edge ≡ 0)
     inside_edge e = other (same_Some _ _ (sym (entry_edge g.params g.edges g.well_formed.begins) ∙ ap (slice_get g.edges) (sym e)
         ∙ c.between.at_edge ∙ ap Some c.is_call)) where
-          other : Entry (first_node g.edges) g.params ≡ Call c.from c.to c.proc c.args c.slot → ⊥
+          other : Entry (first_node g.edges) g.params ≡ Call c.from c.to c.proc c.args c.results → ⊥
           other x = cc
 
     some : pre ≢ []

@@ -29,7 +29,7 @@ use Rattle.query_rules.specs.invariants.Leading.{IsLed, IsInRange, KeepsLeading}
 use Rattle.query_rules.proofs.Finding.{any_at}
 
 -- The beginning
-begin_range : (g : Graph) (q : Query) → IsGraph g.nodes g.exit g.fail g.params g.slots g.edges → (e : RegionEdge) →
+begin_range : (g : Graph) (q : Query) → IsGraph g.nodes g.exit g.fail g.params g.exits g.slots g.edges → (e : RegionEdge) →
     IsTrue ((begin_parted g q).live e) → IsInRange (begin_parted g q) e
 begin_range g q ok e h = by_edge (slice_get g.edges e.edge) refl h where
   count : length (begin_parted g q).regions ≡ suc g.nodes
@@ -58,7 +58,8 @@ begin_range g q ok e h = by_edge (slice_get g.edges e.edge) refl h where
       (both (not (left_out q.exit x)) (leaves_at (source x) e.from && comes_to g.fail x e.to) l).1 in
       (from_low x at (source x) refl u.0, to_low x at e.to u.1)
 
-pub begin_leading : (g : Graph) (q : Query) → IsGraph g.nodes g.exit g.fail g.params g.slots g.edges → KeepsLeading [] (begin_parted g q)
+pub begin_leading : (g : Graph) (q : Query) → IsGraph g.nodes g.exit g.fail g.params g.exits g.slots g.edges →
+    KeepsLeading [] (begin_parted g q)
     (record { trail = 0; region = 0; point = [] } ∷ [])
 begin_leading g q ok = record { led = led; one = one; live_in = begin_range g q ok; stuck_in = λ e t. absurd (no t) } where
   no : IsTrue false → ⊥
@@ -124,7 +125,7 @@ mark_there m n t r w =
     (a.0, a.1, a.2, eqb-true a.1.region r b.1, eqb-true a.1.trail n b.0)
 
 -- no edge by which the frame begins leaves an inner region
-pub entry_outside : (g : Graph) → IsGraph g.nodes g.exit g.fail g.params g.slots g.edges → (q : Query) (p : Parted) →
+pub entry_outside : (g : Graph) → IsGraph g.nodes g.exit g.fail g.params g.exits g.slots g.edges → (q : Query) (p : Parted) →
     AreConnected g q.exit p → HasOneOutside g p → (x : RegionEdge) → IsTrue (p.live x) → IsInRange p x → x.edge ≡ 0 → x.from ≡ 0
 entry_outside g ok q p joined one x live range zero_edge = by_regions (slice_get_cases p.regions x.from).1
     (slice_get_cases p.regions x.to).1 where

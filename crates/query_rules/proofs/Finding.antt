@@ -65,7 +65,8 @@ any_at p (x ∷ xs) h = by_test (p x) refl (λ k. any_at p xs k) h where
   by_test false e rest k = let r = rest k in (suc r.0, r.1, r.2, r.3)
 
 -- an entry edge stands at place 0 alone
-pub entry_first : (g : Graph) → IsGraph g.nodes g.exit g.fail g.params g.slots g.edges → (i : ℕ) (e : Edge) → slice_get g.edges i ≡ Some e →
+pub entry_first : (g : Graph) → IsGraph g.nodes g.exit g.fail g.params g.exits g.slots g.edges → (i : ℕ) (e : Edge) → slice_get g.edges i
+    ≡ Some e →
     i ≢ 0 → is_entry e ≡ false
 entry_first g ok zero e at h = absurd (h refl)
 entry_first g ok (suc i) e at h = ok.one_entry (suc i) e (omega arith) at
@@ -76,9 +77,9 @@ node_target t (Assign from to slot value) c n = refl
 node_target t (Guard from to rows) c n = refl
 node_target t (Input from to slot) c n = refl
 node_target t (Pick from to slot rows) c n = refl
-node_target t (Call from to proc args slot) c n = absurd cc
+node_target t (Call from to proc args results) c n = absurd cc
 node_target t (Assert from to id rows) c n = refl
-node_target t (Return from to slot) c n = refl
+node_target t (Return from to slots) c n = refl
 
 pub source_some : (e : Edge) → is_entry e ≡ false → (n : ℕ) × (source e ≡ Some n)
 source_some (Entry to params) n = absurd cc
@@ -86,9 +87,9 @@ source_some (Assign from to slot value) n = (from, refl)
 source_some (Guard from to rows) n = (from, refl)
 source_some (Input from to slot) n = (from, refl)
 source_some (Pick from to slot rows) n = (from, refl)
-source_some (Call from to proc args slot) n = (from, refl)
+source_some (Call from to proc args results) n = (from, refl)
 source_some (Assert from to id rows) n = (from, refl)
-source_some (Return from to slot) n = (from, refl)
+source_some (Return from to slots) n = (from, refl)
 
 -- where a call by a must of the region edge's exit kind leads
 call_node : (fail : ℕ) (exit : ExitKind) (to node : ℕ) (e : ExitKind) → call_exit fail exit node ≡ Some e →
@@ -107,12 +108,12 @@ fails_extended exit t (Assign from to slot value) l f = f
 fails_extended exit t (Guard from to rows) l f = f
 fails_extended exit t (Input from to slot) l f = f
 fails_extended exit t (Pick from to slot rows) l f = f
-fails_extended exit t (Call from to proc args slot) l f = f
+fails_extended exit t (Call from to proc args results) l f = f
 fails_extended exit t (Assert from to own rows) l f = λ id other x e.
     let same : own ≡ other = same_Some own other e in
     let u : IsTrue (not (not (own == id))) = subst (λ y. IsTrue (not (left_out y (Assert from to own rows)))) x l in
     sym same ∙ eqb-true own id (not-false (own == id) (not-true (not (own == id)) u))
-fails_extended exit t (Return from to slot) l f = f
+fails_extended exit t (Return from to slots) l f = f
 
 fails_must : (exit : ExitKind) (t : Trace) (x : ExitKind) → ((id : ℕ) → x ≡ kind.Fail id → exit ≡ kind.Fail id) → FailsAsAsked exit t →
     (id other : ℕ) → exit ≡ kind.Fail id → must_failed x t.failed ≡ Some other → other ≡ id
@@ -133,17 +134,18 @@ call_fails fail exit node e h id f = ⊎_elim (λ r. absurd (apart id (sym r.1 �
       apart i x = cc
 
 -- the node after the entry is no end
-no_first : (g : Graph) → IsGraph g.nodes g.exit g.fail g.params g.slots g.edges → (exit : ExitKind) → end_node g exit ≡ first_node g.edges →
+no_first : (g : Graph) → IsGraph g.nodes g.exit g.fail g.params g.exits g.slots g.edges → (exit : ExitKind) → end_node g exit
+    ≡ first_node g.edges →
     ⊥
 no_first g ok exit e = by_exit exit e where
-  k : IsEdge g.nodes g.exit g.fail g.slots (Entry (first_node g.edges) g.params)
+  k : IsEdge g.nodes g.exit g.fail g.exits g.slots (Entry (first_node g.edges) g.params)
   k = ok.are_edges 0 (Entry (first_node g.edges) g.params) (entry_edge g.params g.edges ok.begins)
 
   by_exit : (x : ExitKind) → end_node g x ≡ first_node g.edges → ⊥
   by_exit kind.Return f = eqb-false (first_node g.edges) g.exit (sym k.to_exit) (sym f)
   by_exit (kind.Fail id) f = eqb-false (first_node g.edges) g.fail (sym k.to_fail) (sym f)
 
-module _ (gs : List Graph) (g : Graph) (ok : IsGraph g.nodes g.exit g.fail g.params g.slots g.edges) (m : Model)
+module _ (gs : List Graph) (g : Graph) (ok : IsGraph g.nodes g.exit g.fail g.params g.exits g.slots g.edges) (m : Model)
     (h : KeepsMarks gs g m.query m.trails m.marks m.parted.regions) (joined : AreConnected g m.query.exit m.parted) where
   -- the mark of a trail
   mark_of : (n : ℕ) (t : Trace) (r : ℕ) → MarksWith m n t r → (k : Mark) × (k.trail ≡ n) × (k.region ≡ r) × IsGoodMark m.query m.trails
@@ -311,7 +313,7 @@ module _ (gs : List Graph) (g : Graph) (ok : IsGraph g.nodes g.exit g.fail g.par
   -- Calls
   pub extend_called : AreGraphs gs → slice_get gs m.query.proc ≡ Some g → (table : List Summary) → AllHold gs table → (k : RegionEdge) →
       IsTrue (m.parted.live k) → (n place : ℕ) (point : Point) → (l : ExtendsCall g table m k n place point) →
-      KeepsMarks gs g m.query (m.trails ++ extended_must l.trail l.call.to g.fail l.call.args l.call.slot l.path ∷ [])
+      KeepsMarks gs g m.query (m.trails ++ extended_must l.trail l.call.to g.fail l.call.args l.call.results l.path ∷ [])
       (m.marks ++ record { trail = length m.trails; region = k.to; point = point } ∷ []) m.parted.regions
   extend_called linked at table musts k live n place point l =
       marks_more gs g m.query m.trails m.marks m.parted.regions (new ∷ [])
@@ -331,11 +333,11 @@ module _ (gs : List Graph) (g : Graph) (ok : IsGraph g.nodes g.exit g.fail g.par
       b : Between g m k
       b = l.call.between
 
-      call_at : slice_get g.edges k.edge ≡ Some (Call l.call.from l.call.to l.call.proc l.call.args l.call.slot)
+      call_at : slice_get g.edges k.edge ≡ Some (Call l.call.from l.call.to l.call.proc l.call.args l.call.results)
       call_at = l.call.between.at_edge ∙ ap Some l.call.is_call
 
-      call_ok : IsEdge g.nodes g.exit g.fail g.slots (Call l.call.from l.call.to l.call.proc l.call.args l.call.slot)
-      call_ok = ok.are_edges k.edge (Call l.call.from l.call.to l.call.proc l.call.args l.call.slot) call_at
+      call_ok : IsEdge g.nodes g.exit g.fail g.exits g.slots (Call l.call.from l.call.to l.call.proc l.call.args l.call.results)
+      call_ok = ok.are_edges k.edge (Call l.call.from l.call.to l.call.proc l.call.args l.call.results) call_at
 
       held : MustHolds (graph_runs gs) (arity_in gs l.path.proc) l.path
       held = musts place (Must l.path) l.must_at.there
@@ -348,21 +350,22 @@ module _ (gs : List Graph) (g : Graph) (ok : IsGraph g.nodes g.exit g.fail g.par
 
       count : length l.call.args ≡ length l.path.entry
       count =
-          takes_entries (slice_get gs l.call.proc) (length l.call.args) (linked m.query.proc g at k.edge l.call.from l.call.to l.call.proc
-          l.call.args l.call.slot call_at)
+          takes_entries (slice_get gs l.call.proc) (length l.call.args) (length l.call.results)
+          (linked m.query.proc g at k.edge l.call.from l.call.to l.call.proc
+          l.call.args l.call.results call_at)
           ∙ ap (λ p. (arity_in gs p).entries) (sym l.must_at.of_procedure) ∙ sym held.entry_terms
 
       new : Trace
-      new = extended_must l.trail l.call.to g.fail l.call.args l.call.slot l.path
+      new = extended_must l.trail l.call.to g.fail l.call.args l.call.results l.path
 
-      is_trail : IsTrail gs g (extended_must l.trail l.call.to g.fail l.call.args l.call.slot l.path)
+      is_trail : IsTrail gs g (extended_must l.trail l.call.to g.fail l.call.args l.call.results l.path)
       is_trail = extended_must_trail gs g ok l.trail (h.are_trails n l.trail l.marks.0).0 k.edge l.call.from l.call.to l.call.proc
-          l.call.slot l.call.args call_at (sym stands) l.path gives l.must_at.of_procedure count
+          l.call.args l.call.results call_at (sym stands) l.path gives l.must_at.of_procedure count
 
       kind_of : (id : ℕ) → l.call.exit ≡ kind.Fail id → m.query.exit ≡ kind.Fail id
       kind_of id e = call_fails g.fail m.query.exit l.call.between.target.node l.call.exit l.call.is_kind id e
 
-      fails_as : FailsAsAsked m.query.exit (extended_must l.trail l.call.to g.fail l.call.args l.call.slot l.path)
+      fails_as : FailsAsAsked m.query.exit (extended_must l.trail l.call.to g.fail l.call.args l.call.results l.path)
       fails_as = fails_must m.query.exit l.trail l.path.exit (λ id e. kind_of id (sym l.must_at.of_exit ∙ e))
           (h.are_trails n l.trail l.marks.0).1
 
@@ -374,7 +377,7 @@ module _ (gs : List Graph) (g : Graph) (ok : IsGraph g.nodes g.exit g.fail g.par
       there = subst (λ j. slice_get (m.trails ++ new ∷ []) j ≡ Some new) (let z : length m.trails + 0 ≡ length m.trails = omega arith in z)
           (get_right m.trails 0 (new ∷ []) new refl)
 
-      leads_to : IsTrue (leads g.fail (Call l.call.from l.call.to l.call.proc l.call.args l.call.slot) l.call.between.target.node)
+      leads_to : IsTrue (leads g.fail (Call l.call.from l.call.to l.call.proc l.call.args l.call.results) l.call.between.target.node)
       leads_to = subst (λ e. IsTrue (leads g.fail e l.call.between.target.node)) l.call.is_call
           (joined k live l.call.between.edge l.call.between.at_edge l.call.between.source l.call.between.target l.call.between.at_source
           l.call.between.at_target).1
@@ -390,7 +393,7 @@ module _ (gs : List Graph) (g : Graph) (ok : IsGraph g.nodes g.exit g.fail g.par
         must_low (kind.Fail id) = ok.fail_named
 
 -- The beginning
-pub begin_marks : (gs : List Graph) (g : Graph) (q : Query) → IsGraph g.nodes g.exit g.fail g.params g.slots g.edges →
+pub begin_marks : (gs : List Graph) (g : Graph) (q : Query) → IsGraph g.nodes g.exit g.fail g.params g.exits g.slots g.edges →
     KeepsMarks gs g q (begin_trail (first_node g.edges) g.params g.slots ∷ []) (record { trail = 0; region = 0; point = [] } ∷ [])
     (begin_parted g q).regions
 begin_marks gs g q ok = record {
@@ -436,7 +439,7 @@ begin_marks gs g q ok = record {
           zero_plus = omega arith
 
 -- A closed query
-module _ (gs : List Graph) (g : Graph) (ok : IsGraph g.nodes g.exit g.fail g.params g.slots g.edges) (q : Query)
+module _ (gs : List Graph) (g : Graph) (ok : IsGraph g.nodes g.exit g.fail g.params g.exits g.slots g.edges) (q : Query)
     (at : slice_get gs q.proc ≡ Some g) (fits : Fits q.proc (arity_of (Some g)) q) where
   ended : (exit : ExitKind) → q.exit ≡ exit → (t : Trace) → IsTrail gs g t → FailsAsAsked q.exit t → t.node ≡ end_node g exit →
       (v : Valuation) → Is64 v → HoldsAll v t.guard.atoms → (d : ℕ) × GraphRuns gs d q.proc (values_of v t.entry) (values_of v t.inputs)
@@ -446,7 +449,8 @@ module _ (gs : List Graph) (g : Graph) (ok : IsGraph g.nodes g.exit g.fail g.par
       let failed_at = h.is_failed n in
       fails_run gs q.proc g at ok t h id (failed_at.1 ∙ ap Some (f id failed_at.0 e failed_at.1)) v v64 m
 
-  outcomes_of : (exit : ExitKind) → (t : Trace) → IsTrail gs g t → t.node ≡ end_node g exit → length (outcome_of exit t) ≡ exits_of exit 1
+  outcomes_of : (exit : ExitKind) → (t : Trace) → IsTrail gs g t → t.node ≡ end_node g exit → length (outcome_of exit t) ≡ exits_of exit
+      g.exits
   outcomes_of kind.Return t h n = h.returned n
   outcomes_of (kind.Fail id) t h n = refl
 

@@ -41,7 +41,7 @@ at_end g t kind.Return n f = n
 at_end g t (kind.Fail id) n f = f id refl
 
 -- What meets the guard meets the query's cubes
-module _ (count : ℕ) (few : count ≤ first_entry) (t : Trace) (v : Valuation) where
+module _ (count exits : ℕ) (few : count ≤ first_entry) (few_exits : exits ≤ first_entry) (t : Trace) (v : Valuation) where
   abbrev read : Valuation
   read = replaced_valuation (reading t.slots t.entry) v
 
@@ -51,10 +51,11 @@ module _ (count : ℕ) (few : count ≤ first_entry) (t : Trace) (v : Valuation)
       (λ x n. entry_read v t.slots t.entry count x few n ∙ sym (entry_stands no_slots (values_of v t.entry) exit count x few n)) names h
 
   end_met : (exit : ExitKind) (atoms : List Atom) →
-      IsTrue (rows_name_only (is_end_column (record { entries = count; exits = 1 }) exit) atoms) → HoldsAll read atoms →
+      IsTrue (rows_name_only (is_end_column (record { entries = count; exits = exits }) exit) atoms) → HoldsAll read atoms →
       HoldsAll (valuation_of (values_of v t.entry) (values_of v (outcome_of exit t))) atoms
-  end_met kind.Return atoms names h = holds_agree (is_value_column count 1) read (valuation_of (values_of v t.entry) (values_of v t.slots))
-      atoms (λ x n. sym (value_read v t.slots t.entry x (values_more count 1 first_entry x few (omega arith) n))) names h
+  end_met kind.Return atoms names h = holds_agree (is_value_column count exits) read
+      (valuation_of (values_of v t.entry) (values_of v t.slots))
+      atoms (λ x n. sym (value_read v t.slots t.entry x (values_more count exits first_entry x few few_exits n))) names h
   end_met (kind.Fail id) atoms names h = entries_met atoms [] names h
 
 guard_meets : (g : Graph) (q : Query) → Fits q.proc (arity_of (Some g)) q → (t : Trace) (v : Valuation) →
@@ -63,13 +64,16 @@ guard_meets : (g : Graph) (q : Query) → Fits q.proc (arity_of (Some g)) q → 
 guard_meets g q fits t v h =
     let ok = g.well_formed in
     let few : g.params ≤ first_entry = omega (arith, ok.params_in_slots, ok.few_slots) in
+    let few_exits : g.exits ≤ first_entry = omega (arith, ok.few_exits) in
     let exit : List ℤ = values_of v (outcome_of q.exit t) in
     let rows = λ (atoms : List Atom). rows_of_sums (row_sums (reading t.slots t.entry) atoms) in
     let parts = holds_split v (t.guard.atoms ++ rows q.start.atoms) (rows q.end.atoms) h in
     let start = (holds_split v t.guard.atoms (rows q.start.atoms) parts.0).1 in
     holds_append (valuation_of (values_of v t.entry) exit) q.start.atoms q.end.atoms
-    (entries_met g.params few t v q.start.atoms exit fits.start_names (hold-sums v (reading t.slots t.entry) q.start.atoms start))
-    (end_met g.params few t v q.exit q.end.atoms fits.end_names (hold-sums v (reading t.slots t.entry) q.end.atoms parts.1))
+    (entries_met g.params g.exits few few_exits t v q.start.atoms exit fits.start_names (hold-sums v (reading t.slots t.entry) q.start.atoms
+    start))
+    (end_met g.params g.exits few few_exits t v q.exit q.end.atoms fits.end_names (hold-sums v (reading t.slots t.entry) q.end.atoms
+    parts.1))
 
 -- a path of the trail, at a point of its guard
 found_answers : (gs : List Graph) (g : Graph) (q : Query) → Fits q.proc (arity_of (Some g)) q → (t : Trace) (point : Point) →

@@ -36,7 +36,7 @@ use Rattle.must_region.specs.Traces.{Trace, TraceNamesOwn}
 use Rattle.must_region.specs.Trails.{IsTrail, end_place, slots_at}
 use Rattle.must_region.proofs.Agreeing.{values_agree}
 use Rattle.must_region.proofs.Ending.{entry_values}
-use Rattle.must_region.proofs.Extending.{inner_place}
+use Rattle.must_region.proofs.Extending.{inner_place, trail_terms}
 use Rattle.must_region.proofs.Losing.{loses_none}
 use Rattle.call_bridge.specs.Calls.{inner_column}
 use Rattle.query_rules.specs.Rows.{Between, MarksWith, seen_at, started}
@@ -117,9 +117,9 @@ meets_before (Assign from to slot value) n rows s entry h = h
 meets_before (Guard from to more) n rows s entry h = h
 meets_before (Input from to slot) n rows s entry h = h
 meets_before (Pick from to slot more) n rows s entry h = h
-meets_before (Call from to proc args slot) n rows s entry h = h
+meets_before (Call from to proc args results) n rows s entry h = h
 meets_before (Assert from to id more) n rows s entry h = h
-meets_before (Return from to slot) n rows s entry h = h
+meets_before (Return from to slots) n rows s entry h = h
 
 abbrev StepsInto : Edge → List Atom → State → List ℤ → Type 0
 StepsInto e rows s entry = (ins rest : List ℤ) × (b : Place) × Step (GraphRun [] 0) e s ins b rest × LiesIn entry rows b
@@ -131,9 +131,9 @@ steps_into (Assign from to slot value) n rows s entry h = h
 steps_into (Guard from to more) n rows s entry h = h
 steps_into (Input from to slot) n rows s entry h = h
 steps_into (Pick from to slot more) n rows s entry h = h
-steps_into (Call from to proc args slot) n rows s entry h = h
+steps_into (Call from to proc args results) n rows s entry h = h
 steps_into (Assert from to id more) n rows s entry h = h
-steps_into (Return from to slot) n rows s entry h = h
+steps_into (Return from to slots) n rows s entry h = h
 
 no_return_named : (e : Edge) → is_return e ≡ false → (rows : List Atom) → IsTrue (rows_name_only (is_region_column e) rows) →
     IsTrue (rows_name_only inner_column rows)
@@ -142,9 +142,9 @@ no_return_named (Assign from to slot value) n rows h = h
 no_return_named (Guard from to more) n rows h = h
 no_return_named (Input from to slot) n rows h = h
 no_return_named (Pick from to slot more) n rows h = h
-no_return_named (Call from to proc args slot) n rows h = h
+no_return_named (Call from to proc args results) n rows h = h
 no_return_named (Assert from to id more) n rows h = h
-no_return_named (Return from to slot) n rows h = absurd cc
+no_return_named (Return from to slots) n rows h = absurd cc
 
 return_named : (e : Edge) → is_return e ≡ true → (rows : List Atom) → IsTrue (rows_name_only (is_region_column e) rows) →
     IsTrue (rows_name_only (is_value_column first_entry first_entry) rows)
@@ -153,9 +153,9 @@ return_named (Assign from to slot value) n rows h = absurd cc
 return_named (Guard from to more) n rows h = absurd cc
 return_named (Input from to slot) n rows h = absurd cc
 return_named (Pick from to slot more) n rows h = absurd cc
-return_named (Call from to proc args slot) n rows h = absurd cc
+return_named (Call from to proc args results) n rows h = absurd cc
 return_named (Assert from to id more) n rows h = absurd cc
-return_named (Return from to slot) n rows h = h
+return_named (Return from to slots) n rows h = h
 
 return_fails : (t : Trace) (e : Edge) → is_return e ≡ true → t.failed ≡ None → (extended t e).failed ≡ None
 return_fails t (Entry to params) n h = absurd cc
@@ -163,9 +163,9 @@ return_fails t (Assign from to slot value) n h = absurd cc
 return_fails t (Guard from to more) n h = absurd cc
 return_fails t (Input from to slot) n h = absurd cc
 return_fails t (Pick from to slot more) n h = absurd cc
-return_fails t (Call from to proc args slot) n h = absurd cc
+return_fails t (Call from to proc args results) n h = absurd cc
 return_fails t (Assert from to id more) n h = absurd cc
-return_fails t (Return from to slot) n h = h
+return_fails t (Return from to slots) n h = h
 
 module _ (gs : List Graph) (linked : AreGraphs gs) (g : Graph) (m : Model) (h : IsMarked gs linked g m) (good : Good gs linked g m) where
   pub carries_point : (k : RegionEdge) → IsTrue (m.parted.live k) → ¬ (k.edge ≡ 0) → (b : Between g m k) → is_call b.edge ≡ false →
@@ -241,7 +241,8 @@ module _ (gs : List Graph) (linked : AreGraphs gs) (g : Graph) (m : Model) (h : 
       step : (u : Valuation) × Is64 u × ((x : ℕ) → IsTrue (is_symbol_column t.symbols x) → u x ≡ v x) × HoldsAll u new.guard.atoms
           × (end_place g.exit u new.node new.slots new.failed ≡ into.2)
       step =
-          let s = loses_none gs g g.well_formed t is_trail names k.edge b.edge b.at_edge src plain v v64 begun.0 into.0 into.1 into.2 into.3
+          let s = loses_none g g.well_formed t (trail_terms gs g t is_trail) names k.edge b.edge b.at_edge src plain v v64 begun.0 into.0
+          into.1 into.2 into.3
           in
           (s.0, s.1, s.2, s.3, s.4)
 

@@ -59,7 +59,7 @@ use Rattle.query_rules.specs.States.{IsTrueNews, Happening, made, heard, after, 
 use Rattle.query_rules.specs.Steps.{Model, effect, stepped, begin_model, with_news, with_child, lowest_of, news_lowest}
 use Rattle.query_rules.specs.invariants.Keeping.{Asks, Keeps, killed, split, core_of}
 use Rattle.query_rules.proofs.Closing.{turn_live}
-use Rattle.query_rules.proofs.Killing.{Predicts, takes_entries, idle_refuted, cut_by, IsCutBy}
+use Rattle.query_rules.proofs.Killing.{Predicts, takes_entries, takes_exits, idle_refuted, cut_by, IsCutBy}
 use Rattle.query_rules.proofs.Preimages.{preimage_region, behind_column, some_region, both_fit}
 use Rattle.query_rules.proofs.Shown.{refuted_never, entails_answers, some_hold, leads_node, column_named, names_same}
 use Rattle.query_rules.proofs.Stepping.{keeps_kill, kill_table, kill_child, kill_ancestor, keeps_split, keeps_ask, keeps_update, begin_keeps, closed_alone, closed_given}
@@ -79,7 +79,8 @@ slots_below (x ∷ args) h zero a e = subst (λ n. n < first_entry) (same_Some x
 slots_below (x ∷ args) h (suc j) a e = slots_below args (both (nat_lt x max_slots) (list_all (λ y. nat_lt y max_slots) args) h).1 j a e
 
 -- an edge that is no return leads to no exit
-leads_exit : (g : Graph) → IsGraph g.nodes g.exit g.fail g.params g.slots g.edges → (e : Edge) → IsEdge g.nodes g.exit g.fail g.slots e →
+leads_exit : (g : Graph) → IsGraph g.nodes g.exit g.fail g.params g.exits g.slots g.edges → (e : Edge) → IsEdge g.nodes g.exit g.fail
+    g.exits g.slots e →
     is_return e ≡ false → (n : ℕ) → IsTrue (leads g.fail e n) → n ≡ g.exit → ⊥
 leads_exit g ok e k r n l x = ⊎_elim (λ t. eqb-false (target e) g.exit (sym k.to_exit ∙ r) (eqb-true (target e) n t ∙ x))
     (λ t. ok.two_ends (sym x ∙ eqb-true n g.fail (both (is_call e) (n == g.fail) t).1))
@@ -89,7 +90,8 @@ leads_exit g ok e k r n l x = ⊎_elim (λ t. eqb-false (target e) g.exit (sym k
       or_cases false u h = inr h
 
 -- no step from an inner place is over edge 0
-no_entry : (C : Called) (g : Graph) → IsGraph g.nodes g.exit g.fail g.params g.slots g.edges → (entry : List ℤ) (b : Place) (y : Spot) →
+pub no_entry : (C : Called) (g : Graph) → IsGraph g.nodes g.exit g.fail g.params g.exits g.slots g.edges → (entry : List ℤ) (b : Place)
+    (y : Spot) →
     Goes C g entry 0 (standing b) y → ⊥
 no_entry C g ok entry (inside n s) outside go = go
 no_entry C g ok entry (inside n s) (standing c) go = by_edge go.0 go.4 (subst (λ o. IsTrue (is_entry_of g.params o)) go.3 ok.begins) where
@@ -99,9 +101,9 @@ no_entry C g ok entry (inside n s) (standing c) go = by_edge go.0 go.4 (subst (�
   by_edge (Guard from to rows) src t = cc
   by_edge (Input from to slot) src t = cc
   by_edge (Pick from to slot rows) src t = cc
-  by_edge (Call from to proc args slot) src t = cc
+  by_edge (Call from to proc args results) src t = cc
   by_edge (Assert from to id rows) src t = cc
-  by_edge (Return from to slot) src t = cc
+  by_edge (Return from to slots) src t = cc
 no_entry C g ok entry (left vs) y go = go
 no_entry C g ok entry (failing id s) y go = go
 no_entry C g ok entry halted y go = go
@@ -110,10 +112,11 @@ no_entry C g ok entry halted y go = go
 inner_at : (exit node : ℕ) → (node ≡ exit → ⊥) → (x : ℕ) → node_column exit node x ≡ inner_column x
 inner_at exit node n x = rw (ne_eqb node exit n) refl
 
--- the columns behind an edge, where a region at the exit names one exit value
-behind_named : (g : Graph) (e : Edge) → IsEdge g.nodes g.exit g.fail g.slots e → (node : ℕ) → node ≡ target e → (atoms : List Atom) →
+-- the columns behind an edge, where a region at the exit names the exit values
+behind_named : (g : Graph) (e : Edge) → IsEdge g.nodes g.exit g.fail g.exits g.slots e → (node : ℕ) → node ≡ target e →
+    (atoms : List Atom) →
     IsTrue (rows_name_only (node_column g.exit node) atoms) →
-    (node ≡ g.exit → IsTrue (rows_name_only (is_value_column first_entry 1) atoms)) →
+    (node ≡ g.exit → IsTrue (rows_name_only (is_value_column first_entry g.exits) atoms)) →
     IsTrue (rows_name_only (behind_column e) atoms)
 behind_named g e ok node same atoms names at_exit = by_edge e ok same where
   inner : (to : ℕ) → false ≡ (to == g.exit) → node ≡ to → IsTrue (rows_name_only inner_column atoms)
@@ -121,15 +124,17 @@ behind_named g e ok node same atoms names at_exit = by_edge e ok same where
       (inner_at g.exit node (λ k. eqb-false to g.exit (sym h) (sym s ∙ k)))
       names
 
-  by_edge : (e : Edge) → IsEdge g.nodes g.exit g.fail g.slots e → node ≡ target e → IsTrue (rows_name_only (behind_column e) atoms)
+  by_edge : (e : Edge) → IsEdge g.nodes g.exit g.fail g.exits g.slots e → node ≡ target e → IsTrue (rows_name_only (behind_column e) atoms)
   by_edge (Entry to params) k s = inner to k.to_exit s
   by_edge (Assign from to slot value) k s = inner to k.to_exit s
   by_edge (Guard from to rows) k s = inner to k.to_exit s
   by_edge (Input from to slot) k s = inner to k.to_exit s
   by_edge (Pick from to slot rows) k s = inner to k.to_exit s
-  by_edge (Call from to proc args slot) k s = inner to k.to_exit s
+  by_edge (Call from to proc args results) k s = inner to k.to_exit s
   by_edge (Assert from to id rows) k s = inner to k.to_exit s
-  by_edge (Return from to slot) k s = at_exit (s ∙ eqb-true to g.exit (sym k.to_exit))
+  by_edge (Return from to slots) k s =
+      subst (λ n. IsTrue (rows_name_only (is_value_column first_entry n) atoms)) (sym (eqb-true (length slots) g.exits k.lists))
+      (at_exit (s ∙ eqb-true to g.exit (sym k.to_exit)))
 
 asked_terms : (e : Edge) → IsTrue (has_terms e) → (atoms : List Atom) → IsTrue (are_terms atoms) → IsTrue (are_terms (asked_atoms e atoms))
 asked_terms (Entry to params) h atoms t = t
@@ -137,11 +142,11 @@ asked_terms (Assign from to slot value) h atoms t = t
 asked_terms (Guard from to rows) h atoms t = t
 asked_terms (Input from to slot) h atoms t = t
 asked_terms (Pick from to slot rows) h atoms t = are_terms-append atoms rows.atoms t h
-asked_terms (Call from to proc args slot) h atoms t = t
+asked_terms (Call from to proc args results) h atoms t = t
 asked_terms (Assert from to id rows) h atoms t = t
-asked_terms (Return from to slot) h atoms t = t
+asked_terms (Return from to slots) h atoms t = t
 
-holds_filter : (v : Valuation) (p : Atom → Bool) (atoms : List Atom) → HoldsAll v atoms → HoldsAll v (filter p atoms)
+pub holds_filter : (v : Valuation) (p : Atom → Bool) (atoms : List Atom) → HoldsAll v atoms → HoldsAll v (filter p atoms)
 holds_filter v p [] h = tt
 holds_filter v p (a ∷ atoms) h = by_test (p a) (holds_filter v p atoms h.1) where
   by_test : (b : Bool) → HoldsAll v (filter p atoms) → HoldsAll v (cond b (a ∷ filter p atoms) (filter p atoms))
@@ -155,7 +160,7 @@ module _ (gs : List Graph) (linked : AreGraphs gs) (g : Graph) where
     pub fits : Fits m.query.proc (arity_of (Some g)) m.query
     pub keeps : Keeps gs g m.query (levels_of m.ancestors m.query) (core_of m)
 
-  ok : IsGraph g.nodes g.exit g.fail g.params g.slots g.edges
+  ok : IsGraph g.nodes g.exit g.fail g.params g.exits g.slots g.edges
   ok = g.well_formed
 
   -- the target of a live edge that is no call is as the edge wants it
@@ -189,7 +194,7 @@ module _ (gs : List Graph) (linked : AreGraphs gs) (g : Graph) where
   }
 
   -- such an edge is predicted by its preimage
-  predicts : (m : Model) → Good m → (k : RegionEdge) → IsTrue (m.parted.live k) → (b : Between g m k) → is_call b.edge ≡ false →
+  pub predicts : (m : Model) → Good m → (k : RegionEdge) → IsTrue (m.parted.live k) → (b : Between g m k) → is_call b.edge ≡ false →
       (pre : List Atom) → IsPreimage b.edge b.target.cube.atoms pre → Predicts g k b.target.cube.atoms pre
   predicts m h k live b plain pre is e at =
       let same : b.edge ≡ e = same_Some b.edge e (sym b.at_edge ∙ at) in
@@ -214,9 +219,9 @@ module _ (gs : List Graph) (linked : AreGraphs gs) (g : Graph) where
       IsTrue (rows_name_only inner_column c.between.source.cube.atoms)
   inner_source m h k live c =
       let b = c.between in
-      let e : slice_get g.edges k.edge ≡ Some (Call c.from c.to c.proc c.args c.slot) = b.at_edge ∙ ap Some c.is_call in
-      let joined = h.keeps.connected k live (Call c.from c.to c.proc c.args c.slot) e b.source b.target b.at_source b.at_target in
-      let edge_ok = ok.are_edges k.edge (Call c.from c.to c.proc c.args c.slot) e in
+      let e : slice_get g.edges k.edge ≡ Some (Call c.from c.to c.proc c.args c.results) = b.at_edge ∙ ap Some c.is_call in
+      let joined = h.keeps.connected k live (Call c.from c.to c.proc c.args c.results) e b.source b.target b.at_source b.at_target in
+      let edge_ok = ok.are_edges k.edge (Call c.from c.to c.proc c.args c.results) e in
       names_same (node_column g.exit b.source.node) inner_column b.source.cube.atoms
       (inner_at g.exit b.source.node (λ n. (edge_ok.leaves c.from refl).1 (sym joined.0 ∙ n)))
       (fit_names (node_column g.exit b.source.node) b.source.cube.atoms (h.keeps.fit k.from b.source b.at_source))
@@ -225,46 +230,56 @@ module _ (gs : List Graph) (linked : AreGraphs gs) (g : Graph) where
       IsTrue (rows_name_only inner_column c.between.target.cube.atoms)
   inner_target m h k live c =
       let b = c.between in
-      let e : slice_get g.edges k.edge ≡ Some (Call c.from c.to c.proc c.args c.slot) = b.at_edge ∙ ap Some c.is_call in
-      let joined = h.keeps.connected k live (Call c.from c.to c.proc c.args c.slot) e b.source b.target b.at_source b.at_target in
-      let edge_ok = ok.are_edges k.edge (Call c.from c.to c.proc c.args c.slot) e in
+      let e : slice_get g.edges k.edge ≡ Some (Call c.from c.to c.proc c.args c.results) = b.at_edge ∙ ap Some c.is_call in
+      let joined = h.keeps.connected k live (Call c.from c.to c.proc c.args c.results) e b.source b.target b.at_source b.at_target in
+      let edge_ok = ok.are_edges k.edge (Call c.from c.to c.proc c.args c.results) e in
       names_same (node_column g.exit b.target.node) inner_column b.target.cube.atoms
-      (inner_at g.exit b.target.node (leads_exit g ok (Call c.from c.to c.proc c.args c.slot) edge_ok refl b.target.node joined.1))
+      (inner_at g.exit b.target.node (leads_exit g ok (Call c.from c.to c.proc c.args c.results) edge_ok refl b.target.node joined.1))
       (target_names m h k b)
 
   -- the slots of a call
-  call_slots : (m : Model) (k : RegionEdge) (c : CallAt g m k) → IsTrue (nat_lt c.slot max_slots)
+  call_slots : (m : Model) (k : RegionEdge) (c : CallAt g m k) → IsTrue (list_all (λ x. nat_lt x max_slots) c.results)
       × IsTrue (list_all (λ x. nat_lt x max_slots) c.args)
-  call_slots m k c = both (nat_lt c.slot max_slots) (list_all (λ x. nat_lt x max_slots) c.args)
-      (slots_of k (Call c.from c.to c.proc c.args c.slot) (c.between.at_edge ∙ ap Some c.is_call))
+  call_slots m k c = both (list_all (λ x. nat_lt x max_slots) c.results) (list_all (λ x. nat_lt x max_slots) c.args)
+      (slots_of k (Call c.from c.to c.proc c.args c.results) (c.between.at_edge ∙ ap Some c.is_call))
 
   -- as many arguments as the called procedure has parameters
   call_many : (m : Model) → Good m → (k : RegionEdge) (c : CallAt g m k) → length c.args ≡ (arity_in gs c.proc).entries
-  call_many m h k c = takes_entries (slice_get gs c.proc) (length c.args)
-      (linked m.query.proc g h.at k.edge c.from c.to c.proc c.args c.slot (c.between.at_edge ∙ ap Some c.is_call))
+  call_many m h k c = takes_entries (slice_get gs c.proc) (length c.args) (length c.results)
+      (linked m.query.proc g h.at k.edge c.from c.to c.proc c.args c.results (c.between.at_edge ∙ ap Some c.is_call))
+
+  -- and as many results as it has exit values
+  call_exits : (m : Model) → Good m → (k : RegionEdge) (c : CallAt g m k) → length c.results ≡ (arity_in gs c.proc).exits
+  call_exits m h k c = takes_exits (slice_get gs c.proc) (length c.args) (length c.results)
+      (linked m.query.proc g h.at k.edge c.from c.to c.proc c.args c.results (c.between.at_edge ∙ ap Some c.is_call))
+
+  few_exits : (o : Option Graph) → (arity_of o).exits ≤ first_entry
+  few_exits None = omega arith
+  few_exits (Some other) = let w = other.well_formed in omega (arith, w.few_exits)
 
   few_entries : (o : Option Graph) → (arity_of o).entries ≤ first_entry
   few_entries None = omega arith
   few_entries (Some other) = let w = other.well_formed in omega (arith, w.params_in_slots, w.few_slots)
 
   pub fits_call : (m : Model) → Good m → (k : RegionEdge) → IsTrue (m.parted.live k) → (c : CallAt g m k) →
-      FitsCall c.args c.slot c.between.source.cube.atoms c.between.target.cube.atoms
+      FitsCall c.args c.results c.between.source.cube.atoms c.between.target.cube.atoms
   fits_call m h k live c = record {
     are_slots = slots_below c.args (call_slots m k c).1;
-    slot_low = ltb-true c.slot first_entry (call_slots m k c).0;
+    results_low = slots_below c.results (call_slots m k c).0;
+    few_results = omega (arith, call_exits m h k c, few_exits (slice_get gs c.proc));
     few = omega (arith, call_many m h k c, few_entries (slice_get gs c.proc));
     source_names = inner_source m h k live c;
     target_names = inner_target m h k live c;
   }
 
   -- every call of the edge meets the asked query
-  asks_of : (m : Model) → Good m → (k : RegionEdge) → IsTrue (m.parted.live k) → (q : Query) → AsksAt g m k q →
+  pub asks_of : (m : Model) → Good m → (k : RegionEdge) → IsTrue (m.parted.live k) → (q : Query) → AsksAt g m k q →
       Asks g m.query.exit m.parted.regions k q
   asks_of m h k live q a = record {
     from = a.call.from;
     to = a.call.to;
     proc = a.call.proc;
-    slot = a.call.slot;
+    results = a.call.results;
     args = a.call.args;
     call = a.call.between.at_edge ∙ ap Some a.call.is_call;
     source = a.call.between.source;
@@ -277,7 +292,7 @@ module _ (gs : List Graph) (linked : AreGraphs gs) (g : Graph) where
       of_procedure = a.of_procedure;
       of_exit = a.of_exit;
       meets = λ s entry values vs ve vx hs hb. meets s values
-          (asked_holds a.call.exit a.call.args a.call.slot a.call.between.source.cube.atoms a.call.between.target.cube.atoms
+          (asked_holds a.call.exit a.call.args a.call.results a.call.between.source.cube.atoms a.call.between.target.cube.atoms
           (fits_call m h k live a.call) a.rows a.pair a.is_asked s entry values vs ve vx hs hb);
     };
   }
@@ -312,12 +327,12 @@ module _ (gs : List Graph) (linked : AreGraphs gs) (g : Graph) where
   -- Splits
 
   -- the source of a split is neither the outside nor an end
-  not_outside : (m : Model) → Good m → (k : RegionEdge) (s : Region) → slice_get m.parted.regions k.from ≡ Some s → k.from ≢ 0 →
+  pub not_outside : (m : Model) → Good m → (k : RegionEdge) (s : Region) → slice_get m.parted.regions k.from ≡ Some s → k.from ≢ 0 →
       s.node ≡ g.nodes → ⊥
   not_outside m h k s e inner n = inner (h.keeps.one_outside k.from s e n)
 
   -- nor does a live edge leave an end
-  apart_ends : (m : Model) → Good m → (k : RegionEdge) → IsTrue (m.parted.live k) → (b : Between g m k) → (b.source.node ≢ g.exit)
+  pub apart_ends : (m : Model) → Good m → (k : RegionEdge) → IsTrue (m.parted.live k) → (b : Between g m k) → (b.source.node ≢ g.exit)
       × (b.source.node ≢ g.fail)
   apart_ends m h k live b = by_source (source b.edge) refl (h.keeps.connected k live b.edge b.at_edge b.source b.target b.at_source
       b.at_target).0 where
@@ -343,7 +358,7 @@ module _ (gs : List Graph) (linked : AreGraphs gs) (g : Graph) where
       omega (arith, low.0, l, outer)
 
   -- an edge from an inner region is none of the entry
-  source_node : (m : Model) → Good m → (k : RegionEdge) → IsTrue (m.parted.live k) → (b : Between g m k) → k.from ≢ 0 →
+  pub source_node : (m : Model) → Good m → (k : RegionEdge) → IsTrue (m.parted.live k) → (b : Between g m k) → k.from ≢ 0 →
       (n : ℕ) × (source b.edge ≡ Some n)
   source_node m h k live b inner = by_source (source b.edge) refl (h.keeps.connected k live b.edge b.at_edge b.source b.target b.at_source
       b.at_target).0 where
@@ -366,21 +381,22 @@ module _ (gs : List Graph) (linked : AreGraphs gs) (g : Graph) where
       (λ d. cut_by gs d g m.query m.parted k b.source b.target b.at_source b.at_target l.pre p atoms (some_hold atoms l.pre l.some)) h.keeps
 
   -- no step is over edge 0 from an inner node
-  entry_idle : (C : Called) (m : Model) → Good m → (k : RegionEdge) (s : Region) → slice_get m.parted.regions k.from ≡ Some s → k.from ≢ 0 →
+  pub entry_idle : (C : Called) (m : Model) → Good m → (k : RegionEdge) (s : Region) → slice_get m.parted.regions k.from ≡ Some s →
+      k.from ≢ 0 →
       (atoms : List Atom) → IsCutBy C g m.query m.parted (record { edge = 0; from = k.from; to = k.from }) atoms
   entry_idle C m h k s e inner atoms entry outside y ox oy go sx sy =
       absurd (inner (h.keeps.one_outside k.from sx.region sx.there sx.lies.stands))
   entry_idle C m h k s e inner atoms entry (standing b) y ox oy go sx sy = absurd (no_entry C g ok entry b y go)
 
   pub fits_must : (table : List Summary) → AllHold gs table → (m : Model) → Good m → (k : RegionEdge) → IsTrue (m.parted.live k) →
-      (c : CallAt g m k) (place : ℕ) (path : Path) → MustAt table c.proc place c.exit path → FitsMust path c.args c.slot
+      (c : CallAt g m k) (place : ℕ) (path : Path) → MustAt table c.proc place c.exit path → FitsMust path c.args c.results
       c.between.target.cube.atoms
   fits_must table holds m h k live c place path must_at =
       let held : MustHolds (graph_runs gs) (arity_in gs path.proc) path = holds place (Must path) must_at.there in
       record {
         behind = record {
           are_slots = slots_below c.args (call_slots m k c).1;
-          slot_low = ltb-true c.slot first_entry (call_slots m k c).0;
+          results_low = slots_below c.results (call_slots m k c).0;
           many = held.entry_terms ∙ ap (λ p. (arity_in gs p).entries) must_at.of_procedure ∙ sym (call_many m h k c);
           names = inner_target m h k live c;
         };
@@ -392,7 +408,7 @@ module _ (gs : List Graph) (linked : AreGraphs gs) (g : Graph) where
       (proofs : List Certificate) → Good m → IsTrue (m.parted.live k) → SplitsCall g table m k place atoms proofs → IsRegion atoms
   must_rows table holds m k place atoms proofs h live l =
       let c = l.call in
-      must_region l.path c.args c.slot c.between.target.cube.atoms (fits_must table holds m h k live c place l.path l.must_at) atoms
+      must_region l.path c.args c.results c.between.target.cube.atoms (fits_must table holds m h k live c place l.path l.must_at) atoms
       l.is_pre.0 l.is_pre.1
 
   call_split_holds : (table : List Summary) → AllHold gs table → (m : Model) (k : RegionEdge) (place : ℕ)

@@ -54,10 +54,11 @@ use Rattle.query_rules.proofs.Leaned.{entails_not_may, leaned_left, leaned_right
 use Rattle.query_rules.proofs.Walking.{closed_not_may, end_there}
 
 -- Smaller regions
-lies_smaller : (exit : ExitKind) (slot : ℕ) (s : State) (entry values : List ℤ) (old new : List Atom) →
-    ((v : Valuation) → HoldsAll v new → HoldsAll v old) → LiesBehind exit slot s entry values new → LiesBehind exit slot s entry values old
-lies_smaller kind.Return slot s entry values old new f h = f _ h
-lies_smaller (kind.Fail id) slot s entry values old new f h = f _ h
+lies_smaller : (exit : ExitKind) (results : List ℕ) (s : State) (entry values : List ℤ) (old new : List Atom) →
+    ((v : Valuation) → HoldsAll v new → HoldsAll v old) → LiesBehind exit results s entry values new → LiesBehind exit results s entry
+    values old
+lies_smaller kind.Return results s entry values old new f h = f _ h
+lies_smaller (kind.Fail id) results s entry values old new f h = f _ h
 
 asks_split : (g : Graph) (exit : ExitKind) (regions : List Region) (from : ℕ) (atoms : List Atom) → from < length regions →
     (k : RegionEdge) (q : Query) → Asks g exit regions k q → Asks g exit (split_regions regions from atoms) k q
@@ -68,7 +69,7 @@ asks_split g exit regions from atoms lt k q a =
       from = a.from;
       to = a.to;
       proc = a.proc;
-      slot = a.slot;
+      results = a.results;
       args = a.args;
       call = a.call;
       source = s.0;
@@ -81,7 +82,7 @@ asks_split g exit regions from atoms lt k q a =
         of_procedure = a.met.of_procedure;
         of_exit = a.met.of_exit;
         meets = λ st entry values vs ve vx h l. a.met.meets st entry values vs ve vx (s.2.had (columns_of st entry []) h)
-            (lies_smaller a.kind a.slot st entry values a.target.cube.atoms t.0.cube.atoms t.2.had l);
+            (lies_smaller a.kind a.results st entry values a.target.cube.atoms t.0.cube.atoms t.2.had l);
       };
     }
 
@@ -92,9 +93,10 @@ split_outside g regions from atoms lt out r e =
     c.2 ∙ out c.0 (subst (λ n. slice_get regions n ≡ Some c.0) (parent_old (length regions) from 0 (omega (arith, lt))) c.1)
 
 -- a region at the exit is no piece
-split_at_exit : (exit : ℕ) (regions : List Region) (from : ℕ) (atoms : List Atom) → from < length regions → (s : Region) →
-    slice_get regions from ≡ Some s → (s.node ≡ exit → ⊥) → AreFitAtExit exit regions → AreFitAtExit exit (split_regions regions from atoms)
-split_at_exit exit regions from atoms lt s es apart fit a r e n =
+split_at_exit : (exit exits : ℕ) (regions : List Region) (from : ℕ) (atoms : List Atom) → from < length regions → (s : Region) →
+    slice_get regions from ≡ Some s → (s.node ≡ exit → ⊥) → AreFitAtExit exit exits regions →
+    AreFitAtExit exit exits (split_regions regions from atoms)
+split_at_exit exit exits regions from atoms lt s es apart fit a r e n =
     ⊎_elim within (λ past. absurd (apart (came past (split_came regions from atoms lt a r e)))) (cases_lt a (length regions))
   where
     came : length regions ≤ a → CameFrom regions from a r → s.node ≡ exit
@@ -108,11 +110,11 @@ split_at_exit exit regions from atoms lt s es apart fit a r e n =
     kept : Region
     kept = region s.node (s.cube.atoms ++ atoms)
 
-    here : slice_get (slice_set regions from kept) a ≡ Some r → IsTrue (rows_name_only (is_value_column first_entry 1) r.cube.atoms)
+    here : slice_get (slice_set regions from kept) a ≡ Some r → IsTrue (rows_name_only (is_value_column first_entry exits) r.cube.atoms)
     here h = ⊎_elim (λ k. absurd (apart (ap (λ (x : Region). x.node) (sym k.1) ∙ n))) (λ k. fit a r k n)
         (lookup_set regions from a kept r h)
 
-    within : a < length regions → IsTrue (rows_name_only (is_value_column first_entry 1) r.cube.atoms)
+    within : a < length regions → IsTrue (rows_name_only (is_value_column first_entry exits) r.cube.atoms)
     within le =
         ⊎_elim (λ u. here u.1) (λ u. absurd (omega (arith, le, u.1, length-set regions from kept)))
         (lookup_append (slice_set regions from kept) a (pieces s.node s.cube.atoms atoms) r
@@ -133,7 +135,7 @@ entry_at f (b ∷ asked) (suc i) (suc j) a e =
     (r.0, r.1, ⊎_elim (λ h. inl (ap suc h.0, h.1)) (λ h. inr h) r.2)
 
 module _ (gs : List Graph) (linked : AreGraphs gs) (g : Graph) (q : Query) (at : slice_get gs q.proc ≡ Some g)
-    (ok : IsGraph g.nodes g.exit g.fail g.params g.slots g.edges) (ancestors : List Query) where
+    (ok : IsGraph g.nodes g.exit g.fail g.params g.exits g.slots g.edges) (ancestors : List Query) where
   abbrev Holding : Core → Type 0
   Holding c = Keeps gs g q (levels_of ancestors q) c
 
@@ -159,7 +161,7 @@ module _ (gs : List Graph) (linked : AreGraphs gs) (g : Graph) (q : Query) (at :
   -- a call that asks what has no run of the depth
   idle_asked : (p : Parted) (k : RegionEdge) (asked : Query) → Asks g q.exit p.regions k asked → (d : ℕ) → NotMayWithin (graph_runs gs) d
       asked → IsIdle (GraphRun gs d) g q p k
-  idle_asked p k asked a d none = idle_call gs linked g q at ok p k a.from a.to a.proc a.slot a.args a.call a.source a.target a.at_source
+  idle_asked p k asked a d none = idle_call gs linked g q at ok p k a.from a.to a.proc a.args a.results a.call a.source a.target a.at_source
       a.at_target a.kind a.is_kind asked a.met d none
 
   -- by a not-may of the table
@@ -201,7 +203,7 @@ module _ (gs : List Graph) (linked : AreGraphs gs) (g : Graph) (q : Query) (at :
     one_target = split_one c.parted.regions k.from atoms hf r er (end_node g q.exit) (target_region g q) before h.one_target;
     asks = λ i a e. asks_split g q.exit c.parted.regions k.from atoms hf a.edge a.query (h.asks i a e);
     fit = split_fits g.exit c.parted.regions k.from atoms r er fit h.fit;
-    exit_fit = split_at_exit g.exit c.parted.regions k.from atoms hf r er early h.exit_fit;
+    exit_fit = split_at_exit g.exit g.exits c.parted.regions k.from atoms hf r er early h.exit_fit;
     connected = split_connected g q.exit c.parted k atoms hf h.connected;
     told = h.told;
   }
@@ -315,11 +317,11 @@ out_unwanted C g q entry i (standing (inside n s)) (standing b) w go t =
     by_exit (kind.Fail id) (Guard from to rows) w st u = cc
     by_exit (kind.Fail id) (Input from to slot) w st u = cc
     by_exit (kind.Fail id) (Pick from to slot rows) w st u = cc
-    by_exit (kind.Fail id) (Call from to proc args slot) w st u = cc
+    by_exit (kind.Fail id) (Call from to proc args results) w st u = cc
     by_exit (kind.Fail id) (Assert from to other rows) w st u =
         let same : other ≡ id = subst (λ p. Wanted (kind.Fail id) (standing p)) st.1 w in
         eqb-false other id (not-true (other == id) u) same
-    by_exit (kind.Fail id) (Return from to slot) w st u = cc
+    by_exit (kind.Fail id) (Return from to slots) w st u = cc
 out_unwanted C g q entry i (standing (left vs)) y w go t = go
 out_unwanted C g q entry i (standing (failing id s)) y w go t = go
 out_unwanted C g q entry i (standing halted) y w go t = go
@@ -329,7 +331,7 @@ pub begin_outside : (g : Graph) (q : Query) → HasOneOutside g (begin_parted g 
 begin_outside g q zero r e n = refl
 begin_outside g q (suc a) r e n = let h = region_node g q 0 g.nodes a r e in absurd (omega (arith, h.0, h.1, n))
 
-module _ (gs : List Graph) (g : Graph) (q : Query) (ok : IsGraph g.nodes g.exit g.fail g.params g.slots g.edges)
+module _ (gs : List Graph) (g : Graph) (q : Query) (ok : IsGraph g.nodes g.exit g.fail g.params g.exits g.slots g.edges)
     (fits : Fits q.proc (arity_of (Some g)) q) (levels : List Query) where
   begin_sound : (C : Called) → IsSound C g q (begin_parted g q)
   begin_sound C entry x y i a b ox oy go sx sy =
@@ -363,19 +365,19 @@ module _ (gs : List Graph) (g : Graph) (q : Query) (ok : IsGraph g.nodes g.exit 
     no_return h = eqb-false (first_node g.edges) g.exit (sym h) e
 
   exit_beginning : (t u : Bool) → (g.exit == first_node g.edges) ≡ t → (g.exit == end_node g q.exit) ≡ u →
-      IsTrue (rows_name_only (is_value_column first_entry 1) (beginning g q g.exit))
+      IsTrue (rows_name_only (is_value_column first_entry g.exits) (beginning g q g.exit))
   exit_beginning true u e f = absurd (entry_apart (sym (eqb-true g.exit (first_node g.edges) e)))
   exit_beginning false true e f = rw (e, f) (end_at_exit g q ok fits (eqb-true g.exit (end_node g q.exit) f))
   exit_beginning false false e f = rw (e, f) refl
 
-  exit_at : AreFitAtExit g.exit (begin_parted g q).regions
+  exit_at : AreFitAtExit g.exit g.exits (begin_parted g q).regions
   exit_at zero r e n = absurd (omega (arith, n, ok.exit_named, ap (λ (x : Region). x.node) (same_Some (region g.nodes []) r e)))
   exit_at (suc a) r e n =
       let h = region_node g q 0 g.nodes a r e in
       let same : region (0 + a) (beginning g q (0 + a)) ≡ r = same_Some _ _ (sym (region_there g q 0 g.nodes a h.1) ∙ e) in
       let there : 0 + a ≡ g.exit = sym h.0 ∙ n in
-      subst (λ (x : Region). IsTrue (rows_name_only (is_value_column first_entry 1) x.cube.atoms)) same
-      (subst (λ m. IsTrue (rows_name_only (is_value_column first_entry 1) (beginning g q m))) (sym there)
+      subst (λ (x : Region). IsTrue (rows_name_only (is_value_column first_entry g.exits) x.cube.atoms)) same
+      (subst (λ m. IsTrue (rows_name_only (is_value_column first_entry g.exits) (beginning g q m))) (sym there)
       (exit_beginning (g.exit == first_node g.edges) (g.exit == end_node g q.exit) refl refl))
 
   pub begin_keeps : Keeps gs g q levels (begin_core g q)

@@ -70,7 +70,7 @@ wanted_outside kind.Return = tt
 wanted_outside (kind.Fail id) = tt
 
 -- Places of a frame
-module _ (g : Graph) (ok : IsGraph g.nodes g.exit g.fail g.params g.slots g.edges) where
+module _ (g : Graph) (ok : IsGraph g.nodes g.exit g.fail g.params g.exits g.slots g.edges) where
   -- an inner node is none of the two ends, and slots hold values
   abbrev pub Fine : Place → Type 0
   Fine (inside n s) = (n < g.nodes) × (n ≢ g.exit) × (n ≢ g.fail) × AreValues s
@@ -78,7 +78,7 @@ module _ (g : Graph) (ok : IsGraph g.nodes g.exit g.fail g.params g.slots g.edge
   Fine (failing id s) = Unit {0}
   Fine halted = Unit {0}
 
-  inner : (e : Edge) → IsEdge g.nodes g.exit g.fail g.slots e → is_return e ≡ false → is_assert e ≡ false → (target e < g.nodes)
+  inner : (e : Edge) → IsEdge g.nodes g.exit g.fail g.exits g.slots e → is_return e ≡ false → is_assert e ≡ false → (target e < g.nodes)
       × (target e ≢ g.exit) × (target e ≢ g.fail)
   inner e k r a = (k.in_range, eqb-false (target e) g.exit (sym k.to_exit ∙ r), eqb-false (target e) g.fail (sym k.to_fail ∙ a))
 
@@ -87,10 +87,11 @@ module _ (g : Graph) (ok : IsGraph g.nodes g.exit g.fail g.params g.slots g.edge
       let values : AreValues s = subst HoldsValues e v in
       subst Fine (sym e) (h.0, h.1, h.2, values)
 
-  fine_step : (C : Called) → AllReturnValues C → (e : Edge) → IsEdge g.nodes g.exit g.fail g.slots e → (s : State) (ins rest : List ℤ)
+  fine_step : (C : Called) → AllReturnValues C → (e : Edge) → IsEdge g.nodes g.exit g.fail g.exits g.slots e →
+      (s : State) (ins rest : List ℤ)
       (b : Place) → AreValues s → Step C e s ins b rest → Fine b
   fine_step C good e k s ins rest b v st = by_edge e k st (step_good C good e s ins rest b v st) where
-    by_edge : (e : Edge) → IsEdge g.nodes g.exit g.fail g.slots e → Step C e s ins b rest → HoldsValues b → Fine b
+    by_edge : (e : Edge) → IsEdge g.nodes g.exit g.fail g.exits g.slots e → Step C e s ins b rest → HoldsValues b → Fine b
     by_edge (Entry to params) k st w = absurd st
     by_edge (Assign from to x value) k st w = fine_inside to _ b st.1 (inner (Assign from to x value) k refl refl) w
     by_edge (Guard from to rows) k st w = fine_inside to _ b st.1 (inner (Guard from to rows) k refl refl) w
@@ -109,12 +110,13 @@ pub not_end : (g : Graph) (exit : ExitKind) (n : ℕ) → n ≢ g.exit → n ≢
 not_end g kind.Return n h k e = h e
 not_end g (kind.Fail id) n h k e = k e
 
-pub end_there : (g : Graph) → IsGraph g.nodes g.exit g.fail g.params g.slots g.edges → (exit : ExitKind) → end_node g exit < g.nodes
+pub end_there : (g : Graph) → IsGraph g.nodes g.exit g.fail g.params g.exits g.slots g.edges → (exit : ExitKind) → end_node g exit < g.nodes
 end_there g ok kind.Return = ok.exit_named
 end_there g ok (kind.Fail id) = ok.fail_named
 
 -- The way of a run
-module _ (C : Called) (good : AllReturnValues C) (g : Graph) (ok : IsGraph g.nodes g.exit g.fail g.params g.slots g.edges) (q : Query)
+module _ (C : Called) (good : AllReturnValues C) (g : Graph) (ok : IsGraph g.nodes g.exit g.fail g.params g.exits g.slots g.edges)
+    (q : Query)
     (start_names : IsTrue (rows_name_only (is_entry_column g.params) q.start.atoms)) (fail_names : (id : ℕ) → q.exit ≡ kind.Fail id →
     IsTrue (rows_name_only (is_entry_column g.params) q.end.atoms)) (entry : List ℤ) (fit : IsEntry g entry) (values : List ℤ) (meets :
     Meets q entry (read_with q.exit values)) where
@@ -239,6 +241,7 @@ end_entries g q fits id e = subst (λ x. IsTrue (rows_name_only (is_end_column (
 
 -- where each step on the way is over a live edge, of calls of depth d, and no path is live, there is no run of depth d + 1
 pub closed_not_may : (gs : List Graph) (g : Graph) (q : Query) → slice_get gs q.proc ≡ Some g → IsGraph g.nodes g.exit g.fail g.params
+    g.exits
     g.slots g.edges → Fits q.proc (arity_of (Some g)) q → (p : Parted) (d : ℕ) → IsSound (GraphRun gs d) g q p → HasAll (GraphRun gs d) g q
     p →
     HasOneOutside g p → HasOneTarget g q p → HasNoPath g q p → NotMayWithin (graph_runs gs) (suc d) q

@@ -13,9 +13,7 @@ use Rattle.shadow_elim.specs.declared.sum.Sum.{Sum}
 use Rattle.flow_graph.specs.declared.graph.Graph.{Graph}
 use Rattle.flow_graph.specs.declared.graph.Edge.{Edge}
 use Rattle.flow_graph.specs.declared.graph.Edge.TheVariants.{Entry, Assign, Input, Pick, Return}
-use Rattle.flow_graph.specs.Columns.{first_exit}
-use Rattle.flow_graph.specs.Readings.{reading, entry_reading, one_reading}
-use Rattle.linear_formula.specs.Replaced.{column_sum}
+use Rattle.flow_graph.specs.Readings.{reading, entry_reading, return_reading}
 use Rattle.weakest_pre.specs.Preimage.{lin_sum, assigned_sums}
 use Rattle.weakest_pre.specs.Predecessors.{asked_atoms}
 use Rattle.summary_form.specs.declared.query.Query.{Query}
@@ -52,7 +50,7 @@ abbrev pub pre_sums : Edge → List Atom → List Sum
 pre_sums (Entry to params) target = row_sums (entry_reading params) target
 pre_sums (Assign from to slot value) target =
     lin_sum value ∷ assigned_sums slot (total (lin_sum value)) target
-pre_sums (Return from to slot) target = row_sums (one_reading first_exit (column_sum slot)) target
+pre_sums (Return from to slots) target = row_sums (return_reading slots) target
 pre_sums _ target = []
 
 -- the edge's own columns
@@ -110,16 +108,16 @@ pub data IsPlainQuestion (g : Graph) (m : Model) (k : RegionEdge) (at : PlainEdg
 pub data IsCallQuestion (g : Graph) (table : List Summary) (m : Model) (k : RegionEdge)
     (call : CallAt g m k) (question : Question) : Type 0 where
   of_asked_sum : (s : Sum) →
-      Contains (call_sums call.exit call.args call.slot call.between.source.cube.atoms
+      Contains (call_sums call.exit call.args call.results call.between.source.cube.atoms
       call.between.target.cube.atoms) s →
       question ≡ sum_question s → IsCallQuestion g table m k call question
   of_asked_elimination : (rows : List Atom) →
-      rows ≡ call_rows call.exit call.args call.slot call.between.source.cube.atoms
+      rows ≡ call_rows call.exit call.args call.results call.between.source.cube.atoms
       call.between.target.cube.atoms →
       question ≡ asks.Eliminate (cube_of rows) (caller_columns rows) →
       IsCallQuestion g table m k call question
   of_asked_entry : (rows left : List Atom) (pair : Option (ℕ × (LinearSum × LinearSum))) →
-      rows ≡ call_rows call.exit call.args call.slot call.between.source.cube.atoms
+      rows ≡ call_rows call.exit call.args call.results call.between.source.cube.atoms
       call.between.target.cube.atoms →
       projected (caller_columns rows) rows ≡ gives left pair → (s : Sum) →
       Contains (row_sums (renaming as_entry) left) s → question ≡ sum_question s →
@@ -132,27 +130,27 @@ pub data IsCallQuestion (g : Graph) (table : List Summary) (m : Model) (k : Regi
 pub data IsMustQuestion (g : Graph) (m : Model) (k : RegionEdge) (call : CallAt g m k) (path : Path)
     (question : Question) : Type 0 where
   of_pre_sum : (s : Sum) →
-      Contains (preimage_sums path call.args call.slot call.between.target.cube.atoms
+      Contains (preimage_sums path call.args call.results call.between.target.cube.atoms
       ++ slot_sums path call.args
-      (plain_rows path call.args call.slot call.between.target.cube.atoms)) s →
+      (plain_rows path call.args call.results call.between.target.cube.atoms)) s →
       question ≡ sum_question s → IsMustQuestion g m k call path question
   of_elimination : (rows : List Atom) →
-      rows ≡ must_rows path call.args call.slot call.between.target.cube.atoms →
+      rows ≡ must_rows path call.args call.results call.between.target.cube.atoms →
       question ≡ asks.Eliminate (cube_of rows) (symbol_columns rows) →
       IsMustQuestion g m k call path question
   of_source : (pre : List Atom) →
-      IsMustPreimage path call.args call.slot call.between.target.cube.atoms pre →
+      IsMustPreimage path call.args call.results call.between.target.cube.atoms pre →
       question ≡ cube_question (call.between.source.cube.atoms ++ pre) →
       IsMustQuestion g m k call path question
   of_negation : (pre : List Atom) →
-      IsMustPreimage path call.args call.slot call.between.target.cube.atoms pre → (a : Atom) →
+      IsMustPreimage path call.args call.results call.between.target.cube.atoms pre → (a : Atom) →
       Contains pre a → question ≡ negation_question a → IsMustQuestion g m k call path question
   of_trail : (n : ℕ) (t : Trace) → MarksWith m n t k.from →
       IsTrailQuestion m.query (called_trail t call path) (called_sums t call path)
       call.between.target.cube.atoms question →
       IsMustQuestion g m k call path question
   of_mark : (pre : List Atom) →
-      IsMustPreimage path call.args call.slot call.between.target.cube.atoms pre → (n : ℕ)
+      IsMustPreimage path call.args call.results call.between.target.cube.atoms pre → (n : ℕ)
       (t : Trace) → MarksWith m n t k.from →
       IsMarkQuestion m.query t (call.between.source.cube.atoms ++ pre) question →
       IsMustQuestion g m k call path question

@@ -1,4 +1,4 @@
-use Rattle.std.proofs.Common.{◌≡◌, ◌∙◌, ap, sym, subst, List, ℕ, ◌++◌}
+use Rattle.std.proofs.Common.{sym, subst, List, ℕ}
 use Rattle.linear_formula.specs.declared.formula.Cube.{Cube}
 use Rattle.summary_form.specs.declared.path.Path.{Path}
 use Rattle.punch_step.specs.Memos.{IsComputed}
@@ -6,10 +6,14 @@ use Rattle.punch_step.proofs.known_preimage.known_of.Goals as goal
 
 pub invariant_of-result : goal.invariant_of-result
 invariant_of-result c =
-    let must = c.args.must.now in let s = c.args.slot in let x = c.args.computed in
-    let args : c.from_vec.result ≡ c.args.args.now = c.from_vec.ensures
-    ∙ (c.in_ok-extend_from_slice.ensures.items ∙ ap (λ (l : List ℕ). l ++ c.args.args.now) c.in_ok-copied.ensures.items)
+    let must = c.args.must.now in let x = c.args.computed in
+    let of_target = subst (λ (t : Cube). IsComputed must c.args.args.now c.args.results.now t.atoms x) (sym c.in_ok-target.ensures)
+    c.requires
     in
-    let of_target = subst (λ (t : Cube). IsComputed must c.args.args.now s t.atoms x) (sym c.in_ok-target.ensures) c.requires in
-    let of_args = subst (λ (as_ : List ℕ). IsComputed must as_ s c.in_ok-target.target.atoms x) (sym args) of_target in
-    subst (λ (m : Path). IsComputed m c.from_vec.result s c.in_ok-target.target.atoms x) (sym c.in_ok-must.ensures) of_args
+    let of_args = subst (λ (as_ : List ℕ). IsComputed must as_ c.args.results.now c.in_ok-target.target.atoms x) (sym c.in_ok-args.ensures)
+    of_target in
+    let of_results = subst (λ (rs : List ℕ). IsComputed must c.in_ok-args.args rs c.in_ok-target.target.atoms x)
+    (sym c.in_ok-results.ensures)
+    of_args in
+    subst (λ (m : Path). IsComputed m c.in_ok-args.args c.in_ok-results.results c.in_ok-target.target.atoms x) (sym c.in_ok-must.ensures)
+    of_results
