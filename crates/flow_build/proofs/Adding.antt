@@ -124,10 +124,12 @@ keeps true (form.read false x) from t lo = record {
 keeps true (form.literal true n) from t lo = kept_own (form.literal true n) from t lo refl refl
 keeps true (form.read true x) from t lo = kept_own (form.read true x) from t lo refl refl
 keeps true form.input from t lo = kept_own form.input from t lo refl refl
-keeps true (form.call p vs) from t lo = kept_own (form.call p vs) from t lo refl refl
+keeps true (form.call p vs gs) from t lo = kept_own (form.call p vs gs) from t lo refl refl
 keeps true (form.scale c v) from t lo = kept_own (form.scale c v) from t lo refl refl
 keeps true (form.sum v u) from t lo = kept_own (form.sum v u) from t lo refl refl
 keeps true (form.difference v u) from t lo = kept_own (form.difference v u) from t lo refl refl
+keeps true (form.quotient c v) from t lo = kept_own (form.quotient c v) from t lo refl refl
+keeps true (form.remainder c v) from t lo = kept_own (form.remainder c v) from t lo refl refl
 keeps true (form.truth c) from t lo = kept_own (form.truth c) from t lo refl refl
 
 pub kept_added : (k : Bool) (v : Value) (from t : ℕ) (b0 b1 b2 : Builder) (l m : Landed) → Adds v from t b0 b1 l →
@@ -163,10 +165,12 @@ overflow_same c (form.literal true n) t = refl
 overflow_same c (form.read false x) t = refl
 overflow_same c (form.read true x) t = refl
 overflow_same c form.input t = refl
-overflow_same c (form.call p vs) t = refl
+overflow_same c (form.call p vs gs) t = refl
 overflow_same c (form.scale d v) t = refl
 overflow_same c (form.sum v u) t = refl
 overflow_same c (form.difference v u) t = refl
+overflow_same c (form.quotient d v) t = refl
+overflow_same c (form.remainder d v) t = refl
 overflow_same c (form.truth d) t = refl
 
 -- a multiple of a value that landed
@@ -391,15 +395,19 @@ argument_kept false (form.read false x) t = refl
 argument_kept false (form.read true x) t = refl
 argument_kept true form.input t = refl
 argument_kept false form.input t = refl
-argument_kept true (form.call p vs) t = refl
-argument_kept false (form.call p vs) t = refl
+argument_kept true (form.call p vs gs) t = refl
+argument_kept false (form.call p vs gs) t = refl
 argument_kept true (form.scale c v) t = refl
 argument_kept false (form.scale c v) t = refl
 argument_kept true (form.sum v u) t = refl
 argument_kept false (form.sum v u) t = refl
 argument_kept true (form.difference v u) t = refl
 argument_kept false (form.difference v u) t = refl
+argument_kept true (form.quotient c v) t = refl
+argument_kept true (form.remainder c v) t = refl
 argument_kept true (form.truth c) t = refl
+argument_kept false (form.quotient c v) t = refl
+argument_kept false (form.remainder c v) t = refl
 argument_kept false (form.truth c) t = refl
 
 -- The operand of an argument is its slot.
@@ -412,15 +420,19 @@ argument_operand false (form.read false x) t = refl
 argument_operand false (form.read true x) t = refl
 argument_operand true form.input t = refl
 argument_operand false form.input t = refl
-argument_operand true (form.call p vs) t = refl
-argument_operand false (form.call p vs) t = refl
+argument_operand true (form.call p vs gs) t = refl
+argument_operand false (form.call p vs gs) t = refl
 argument_operand true (form.scale c v) t = refl
 argument_operand false (form.scale c v) t = refl
 argument_operand true (form.sum v u) t = refl
 argument_operand false (form.sum v u) t = refl
 argument_operand true (form.difference v u) t = refl
 argument_operand false (form.difference v u) t = refl
+argument_operand true (form.quotient c v) t = refl
+argument_operand true (form.remainder c v) t = refl
 argument_operand true (form.truth c) t = refl
+argument_operand false (form.quotient c v) t = refl
+argument_operand false (form.remainder c v) t = refl
 argument_operand false (form.truth c) t = refl
 
 pub slot_added : (later : Bool) (v : Value) (from t slot : ℕ) (b0 b1 : Builder) (l : Landed) (r : Reached) →
@@ -458,13 +470,14 @@ slots_added v vs from t slot b0 b1 l args0 args1 args2 h e d =
     d ∙ ap (λ xs. xs ++ argument_slots vs l.slot) e ∙ append_assoc args0 (slot ∷ []) (argument_slots vs l.slot)
     ∙ ap (λ x. args0 ++ x ∷ argument_slots vs l.slot) h.slot_is ∙ ap (λ j. args0 ++ argument_slot v t ∷ argument_slots vs j) h.free
 
-pub call_added : (p : ℕ) (vs : Values) (from t : ℕ) (b0 b1 b2 b3 : Builder) (args : List ℕ) (r : Reached) (l : Landed) → b1.edges.items
-    ≡ b0.edges.items → b1.next ≡ b0.next + 1 → AddsAll vs from (t + 1) b1 b2 r → args ≡ argument_slots vs (t + 1) →
-    b3.edges.items ≡ b2.edges.items ++ Call r.node b0.next p args t ∷ [] → b3.next ≡ b2.next →
-    l.node ≡ b0.next → l.operand ≡ Variable t → l.slot ≡ r.slot → l.in_place ≡ false → Adds (form.call p vs) from t b0 b3 l
-call_added p vs from t b0 b1 b2 b3 args r l e1 n1 h listed e n node operand slot in_place = record {
+pub call_added : (p : ℕ) (vs : Values) (gs : List ℕ) (from t : ℕ) (b0 b1 b2 b3 : Builder) (args results : List ℕ) (r : Reached)
+    (l : Landed) → b1.edges.items ≡ b0.edges.items → b1.next ≡ b0.next + 1 → AddsAll vs from (t + 1) b1 b2 r →
+    args ≡ argument_slots vs (t + 1) ++ gs → results ≡ t ∷ gs →
+    b3.edges.items ≡ b2.edges.items ++ Call r.node b0.next p args results ∷ [] → b3.next ≡ b2.next →
+    l.node ≡ b0.next → l.operand ≡ Variable t → l.slot ≡ r.slot → l.in_place ≡ false → Adds (form.call p vs gs) from t b0 b3 l
+call_added p vs gs from t b0 b1 b2 b3 args results r l e1 n1 h listed given e n node operand slot in_place = record {
   blocks = record {
-    edges = simp (e, h.blocks.edges, e1, n1, listed, h.node, edges_append, append_assoc) refl;
+    edges = simp (e, h.blocks.edges, e1, n1, listed, given, h.node, edges_append, append_assoc) refl;
     next = omega (arith, n, h.blocks.next, n1);
   };
   node = node;

@@ -1,21 +1,23 @@
 -- From what calls ensure to what is asked of expressions.
 use Rattle.std.proofs.Common.{◌≡◌, ℕ, Box, Global, Bool, true, false, not, ◌||◌, ◌&&◌, ℤ, pos, negsuc, ◌-ℤ◌, ◌*ℤ◌, IsTrue, Ok, Err, IfOk, OnOk, refl, sym, ap, ◌∙◌, subst, List, [], ◌∷◌, length, get_or, take, drop, ◌-◌, ◌≤◌, arith}
-use Rattle.std.specs.Prelude.{Result}
+use Rattle.std.specs.Prelude.{Result, Some}
+use Rattle.c_tree.specs.Constants.{constant_value}
 use Rattle.std.proofs.lemmas.Int.{ints}
 use Rattle.c_tree.specs.declared.tree.Op.{Op}
-use Rattle.c_tree.specs.declared.tree.Op.TheVariants.{Add, Subtract, Multiply, Less, LessEqual, Greater, GreaterEqual, Equal, Unequal, And, Or}
+use Rattle.c_tree.specs.declared.tree.Op.TheVariants.{Add, Subtract, Multiply, Divide, Remainder, Less, LessEqual, Greater, GreaterEqual, Equal, Unequal, And, Or}
 use Rattle.c_tree.specs.declared.tree.Expr.{Expr}
 use Rattle.c_tree.specs.declared.tree.Expr.{Not, Binary}
-use Rattle.c_tree.specs.declared.tree.Expr.TheVariants.{Literal, Read, Input, Call', Negate', Not', Binary'}
+use Rattle.c_tree.specs.declared.tree.Expr.TheVariants.{Literal, Read, ReadGlobal, Input, Call', Negate', Not', Binary'}
 use Rattle.c_tree.specs.View.{expression_of}
 use Rattle.c_tree.specs.Syntax.{Expression}
 use Rattle.c_tree.specs.Meaning.{is_value}
-use Rattle.c_tree.specs.Operators.{is_arithmetic}
+use Rattle.c_tree.specs.Operators.{is_arithmetic, is_division}
+use Rattle.flow_build.specs.declared.layout.Layout.{Layout}
 use Rattle.flow_build.specs.declared.operand.Operand.{Operand}
 use Rattle.flow_build.specs.declared.operand.Operand.TheVariants.{Variable, Constant}
 use Rattle.flow_build.specs.steps.Forms.{Value}
 use Rattle.flow_build.specs.steps.Forms as form
-use Rattle.flow_build.specs.steps.Translation.{has_call, kept_if, overflows, nonzero, value_of, test_of}
+use Rattle.flow_build.specs.steps.Translation.{has_call, in_slot, kept_if, divisor_of, overflows, nonzero, value_of, test_of}
 use Rattle.flow_build.specs.steps.Operands.{is_operand, constant_of, overflows_in_place}
 use Rattle.flow_build.specs.steps.Building.{is_operand_landed, copied_operand, operand_where}
 use Rattle.flow_build.specs.steps.Lowering.{operand_at}
@@ -28,27 +30,36 @@ if_ok (Err e) G f = tt
 pub if_at : {A E : Type 0} (r : Result A E) (v : A) (P : A → Type 0) → r ≡ Ok v → IfOk r P → P v
 if_at {A} {E} r v P e h = let S : Result A E → Type 0 = λ r. IfOk r P in subst S e h
 
+pub on_ok : {A E : Type 0} (r : Result A E) (G : Type 0) → ((v : A) → r ≡ Ok v → G) → OnOk r G
+on_ok (Ok v) G f = f v refl
+on_ok (Err e) G f = tt
+
 pub on_at : {A E : Type 0} (r : Result A E) (v : A) (P : Type 0) → r ≡ Ok v → OnOk r P → P
 on_at {A} {E} r v P e h = let S : Result A E → Type 0 = λ r. OnOk r P in subst S e h
 
-module _ (a b : Expression) where
-  pub value_is_truth : (op : Op) → is_arithmetic op ≡ false → binary_value op a b ≡ form.truth (binary_test op a b)
-  value_is_truth Add h = absurd cc
-  value_is_truth Subtract h = absurd cc
-  value_is_truth Multiply h = absurd cc
-  value_is_truth Less h = refl
-  value_is_truth LessEqual h = refl
-  value_is_truth Greater h = refl
-  value_is_truth GreaterEqual h = refl
-  value_is_truth Equal h = refl
-  value_is_truth Unequal h = refl
-  value_is_truth And h = refl
-  value_is_truth Or h = refl
+module _ (L : Layout) (a b : Expression) where
+  pub value_is_truth : (op : Op) → is_arithmetic op ≡ false → is_division op ≡ false → binary_value L op a b
+      ≡ form.truth (binary_test L op a b)
+  value_is_truth Add h k = absurd cc
+  value_is_truth Subtract h k = absurd cc
+  value_is_truth Multiply h k = absurd cc
+  value_is_truth Divide h k = absurd cc
+  value_is_truth Remainder h k = absurd cc
+  value_is_truth Less h k = refl
+  value_is_truth LessEqual h k = refl
+  value_is_truth Greater h k = refl
+  value_is_truth GreaterEqual h k = refl
+  value_is_truth Equal h k = refl
+  value_is_truth Unequal h k = refl
+  value_is_truth And h k = refl
+  value_is_truth Or h k = refl
 
-  pub test_is_nonzero : (op : Op) → is_arithmetic op ≡ true → binary_test op a b ≡ nonzero (binary_value op a b)
+  pub test_is_nonzero : (op : Op) → (is_arithmetic op || is_division op) ≡ true → binary_test L op a b ≡ nonzero (binary_value L op a b)
   test_is_nonzero Add h = refl
   test_is_nonzero Subtract h = refl
   test_is_nonzero Multiply h = refl
+  test_is_nonzero Divide h = refl
+  test_is_nonzero Remainder h = refl
   test_is_nonzero Less h = absurd cc
   test_is_nonzero LessEqual h = absurd cc
   test_is_nonzero Greater h = absurd cc
@@ -58,19 +69,48 @@ module _ (a b : Expression) where
   test_is_nonzero And h = absurd cc
   test_is_nonzero Or h = absurd cc
 
-  pub test_is_compared : (op : Op) → is_arithmetic op ≡ false → (op ≡ And → ⊥) → (op ≡ Or → ⊥) → binary_test op a b ≡ form.compare op
-      (kept_if (has_call b) (value_of a)) (value_of b)
-  test_is_compared Add h n m = absurd cc
-  test_is_compared Subtract h n m = absurd cc
-  test_is_compared Multiply h n m = absurd cc
-  test_is_compared Less h n m = refl
-  test_is_compared LessEqual h n m = refl
-  test_is_compared Greater h n m = refl
-  test_is_compared GreaterEqual h n m = refl
-  test_is_compared Equal h n m = refl
-  test_is_compared Unequal h n m = refl
-  test_is_compared And h n m = absurd (n refl)
-  test_is_compared Or h n m = absurd (m refl)
+  pub test_is_compared : (op : Op) → is_arithmetic op ≡ false → is_division op ≡ false → (op ≡ And → ⊥) → (op ≡ Or → ⊥) →
+      binary_test L op a b ≡ form.compare op (kept_if (has_call b) (value_of L a)) (value_of L b)
+  test_is_compared Add h k n m = absurd cc
+  test_is_compared Subtract h k n m = absurd cc
+  test_is_compared Multiply h k n m = absurd cc
+  test_is_compared Divide h k n m = absurd cc
+  test_is_compared Remainder h k n m = absurd cc
+  test_is_compared Less h k n m = refl
+  test_is_compared LessEqual h k n m = refl
+  test_is_compared Greater h k n m = refl
+  test_is_compared GreaterEqual h k n m = refl
+  test_is_compared Equal h k n m = refl
+  test_is_compared Unequal h k n m = refl
+  test_is_compared And h k n m = absurd (n refl)
+  test_is_compared Or h k n m = absurd (m refl)
+
+  pub value_is_quotient : (op : Op) → is_division op ≡ true → (op ≡ Remainder → ⊥) → (x : ℤ) → constant_value b ≡ Some x →
+      binary_value L op a b ≡ form.quotient x (in_slot (value_of L a))
+  value_is_quotient Add h n x e = absurd cc
+  value_is_quotient Subtract h n x e = absurd cc
+  value_is_quotient Multiply h n x e = absurd cc
+  value_is_quotient Divide h n x e = ap (λ o. form.quotient (divisor_of o) (in_slot (value_of L a))) e
+  value_is_quotient Remainder h n x e = absurd (n refl)
+  value_is_quotient Less h n x e = absurd cc
+  value_is_quotient LessEqual h n x e = absurd cc
+  value_is_quotient Greater h n x e = absurd cc
+  value_is_quotient GreaterEqual h n x e = absurd cc
+  value_is_quotient Equal h n x e = absurd cc
+  value_is_quotient Unequal h n x e = absurd cc
+  value_is_quotient And h n x e = absurd cc
+  value_is_quotient Or h n x e = absurd cc
+
+  pub value_is_remainder : (x : ℤ) → constant_value b ≡ Some x → binary_value L Remainder a b ≡ form.remainder x (in_slot (value_of L a))
+  value_is_remainder x e = ap (λ o. form.remainder (divisor_of o) (in_slot (value_of L a))) e
+
+pub left_true : (a b : Bool) → a ≡ true → (a || b) ≡ true
+left_true true b h = refl
+left_true false b h = cc
+
+pub right_true : (a b : Bool) → b ≡ true → (a || b) ≡ true
+right_true true b h = refl
+right_true false b h = h
 
 pub or_false : (b : Bool) → (b || false) ≡ b
 or_false true = refl
@@ -81,15 +121,17 @@ not_false true h = refl
 not_false false h = cc
 
 -- the test of an expression of the other kinds
-pub other_test : (e : Expr) → ((x : Box Expr Global) → e ≡ Not x → ⊥) → ((o : Op) (x y : Box Expr Global) → e ≡ Binary o x y → ⊥) →
-    test_of (expression_of e) ≡ nonzero (value_of (expression_of e))
-other_test (Literal n) f g = refl
-other_test (Read x) f g = refl
-other_test Input f g = refl
-other_test (Call' p shape all) f g = refl
-other_test (Negate' p e) f g = refl
-other_test (Not' p e) f g = absurd (f (record { ptr = p.ptr; alloc = p.alloc; value = e }) refl)
-other_test (Binary' o p i q j) f g = absurd (g o (record { ptr = p.ptr; alloc = p.alloc; value = i })
+pub other_test : (L : Layout) (e : Expr) → ((x : Box Expr Global) → e ≡ Not x → ⊥) → ((o : Op) (x y : Box Expr Global) → e ≡ Binary o x y →
+    ⊥) →
+    test_of L (expression_of e) ≡ nonzero (value_of L (expression_of e))
+other_test L (Literal n) f g = refl
+other_test L (Read x) f g = refl
+other_test L (ReadGlobal y) f g = refl
+other_test L Input f g = refl
+other_test L (Call' p shape all) f g = refl
+other_test L (Negate' p e) f g = refl
+other_test L (Not' p e) f g = absurd (f (record { ptr = p.ptr; alloc = p.alloc; value = e }) refl)
+other_test L (Binary' o p i q j) f g = absurd (g o (record { ptr = p.ptr; alloc = p.alloc; value = i })
     (record { ptr = q.ptr; alloc = q.alloc; value = j }) refl)
 
 pub first_and_rest : (es : List Expr) (x : Expr) → 1 ≤ length es → x ≡ get_or es 0 x → es ≡ x ∷ take (length es - 1) (drop 1 es)
@@ -111,10 +153,12 @@ constant_form (form.literal true m) t n h = absurd cc
 constant_form (form.read false x) t n h = absurd cc
 constant_form (form.read true x) t n h = absurd cc
 constant_form form.input t n h = absurd cc
-constant_form (form.call p vs) t n h = absurd cc
+constant_form (form.call p vs gs) t n h = absurd cc
 constant_form (form.scale c v) t n h = absurd cc
 constant_form (form.sum v u) t n h = absurd cc
 constant_form (form.difference v u) t n h = absurd cc
+constant_form (form.quotient d v) t n h = absurd cc
+constant_form (form.remainder d v) t n h = absurd cc
 constant_form (form.truth c) t n h = absurd cc
 
 not_kept : (k : Bool) (v : Value) (n : ℤ) → kept_if k v ≡ form.literal false n → (k ≡ false) × (v ≡ form.literal false n)
@@ -122,10 +166,12 @@ not_kept false v n h = (refl, h)
 not_kept true (form.literal k m) n h = absurd cc
 not_kept true (form.read k x) n h = absurd cc
 not_kept true form.input n h = absurd cc
-not_kept true (form.call p vs) n h = absurd cc
+not_kept true (form.call p vs gs) n h = absurd cc
 not_kept true (form.scale c v) n h = absurd cc
 not_kept true (form.sum v u) n h = absurd cc
 not_kept true (form.difference v u) n h = absurd cc
+not_kept true (form.quotient d v) n h = absurd cc
+not_kept true (form.remainder d v) n h = absurd cc
 not_kept true (form.truth c) n h = absurd cc
 
 right_false : (a b : Bool) → (a || b) ≡ false → b ≡ false

@@ -1,156 +1,212 @@
 -- What the graphs of procedures keep.
-use Rattle.std.proofs.Common.{◌≡◌, ℕ, zero, suc, ◌<◌, ◌≤◌, List, [], ◌∷◌, length, Some, pos, refl, sym, ap, ◌∙◌, subst, inr, arith}
-use Rattle.std.specs.Prelude.{slice_get}
+use Rattle.std.proofs.Common.{◌≡◌, ℕ, zero, suc, ◌+◌, ◌<◌, ◌≤◌, Bool, true, false, cond, ◌==◌, List, [], ◌∷◌, length, Some, ℤ, pos, IsTrue, refl, sym, ap, ◌∙◌, subst, inl, inr, arith}
+use Rattle.std.specs.Prelude.{slice_get, Contains}
 use Rattle.std.proofs.lemmas.Bool.{eq-eqb, le-leb}
+use Rattle.std.proofs.lemmas.List.Elements.{All-contains}
 use Rattle.c_tree.specs.Syntax.{block, PureProcedure, PureProgram}
-use Rattle.c_tree.specs.WellFormed.{statements_nodes}
+use Rattle.c_tree.specs.WellFormed.{all_linear, is_well_formed_procedure, statements_divide_by_literals, IsWellFormed, DividesByLiterals}
 use Rattle.flow_graph.specs.declared.graph.Edge.{Edge}
-use Rattle.flow_graph.specs.declared.graph.Edge.TheVariants.{Entry}
+use Rattle.flow_graph.specs.declared.graph.Edge.TheVariants.{Entry, Assign, Return}
 use Rattle.flow_graph.specs.declared.graph.Graph.{Graph}
 use Rattle.flow_graph.specs.WellFormed.{IsEdge, IsGraph, max_slots}
+use Rattle.flow_build.specs.declared.layout.Layout.{Layout}
+use Rattle.flow_build.specs.steps.Building.{statements_literals_fit}
 use Rattle.flow_build.specs.steps.Operands.{constant_lin}
-use Rattle.flow_build.specs.steps.Blocks.{edges_of, exit_node, fail_node, end_node, return_node, entry_node, body_node, first_free}
-use Rattle.flow_build.specs.steps.Procedures.{procedure_blocks, procedure_edges, nodes_of_procedure, slots_of_procedure, IsGraphOf, AreGraphsOf}
-use Rattle.flow_build.specs.Promises.{IsBoundedEdge, IsBounded, AreBounded}
+use Rattle.flow_build.specs.steps.Blocks.{edges_of, one, opening_blocks, exit_node, fail_node, end_node, return_node, entry_node, body_node, first_free}
+use Rattle.flow_build.specs.steps.Layouts.{global_slots}
+use Rattle.flow_build.specs.steps.Lowering.{statement_blocks}
+use Rattle.flow_build.specs.steps.Procedures.{layout_of, free_slot, procedure_blocks, procedure_edges, nodes_of_procedure, slots_of_procedure, opening_of, entries_of, IsGraphOf, AreGraphsOf}
+use Rattle.flow_build.specs.Promises.{IsBoundedEdge, IsBounded, AreBounded, statements_divisors}
 use Rattle.flow_build.proofs.Translated.{AllPlain}
+use Rattle.flow_build.proofs.Plain.{kept, body_plain}
+use Rattle.flow_build.proofs.Numbered.{graph_of}
+use Rattle.flow_build.proofs.SameRuns.{AllFit}
 use Rattle.flow_build.proofs.Sizes.{procedure_size, few_slots_all}
-use Rattle.flow_build.proofs.Fine.{Fine, fine_edge, IsSource, IsInner, inner_source, assign_fine, no_rows, guard_fine, return_fine, constant_lin_is, AllFine, fine_at}
-use Rattle.flow_build.proofs.FineStatements.{statement_fine}
+use Rattle.flow_build.proofs.Divisors.{IsSmall, divisors_small}
+use Rattle.flow_build.proofs.Fine.{Fine, fine_edge, IsSource, IsInner, inner_source, assign_fine, no_rows, guard_fine, constant_lin_is, IsDivisorHere, AllFine, fine_at}
+use Rattle.flow_build.proofs.FineForms.{blocks_both}
+use Rattle.flow_build.proofs.FineStatements.{enough, returned_fine, statement_fine}
 
-module _ (p : PureProcedure) (plain : AllPlain p.slots p.body) where
+-- A procedure of a program that opens with these values and has so many entry values:
+module _ (P : PureProgram) (p : PureProcedure) (opening : List ℤ) (entries : ℕ) where
+  abbrev n : ℕ
+  n = length P.globals
+
+  abbrev L : Layout
+  L = layout_of n p
+
   abbrev N : ℕ
-  N = nodes_of_procedure p
+  N = nodes_of_procedure n opening p
 
   abbrev S : ℕ
-  S = slots_of_procedure p
+  S = slots_of_procedure n p
 
-  named_inner : (n : ℕ) → 2 ≤ n → n < 6 → (n ≡ entry_node → ⊥) → IsInner p.body N S n
-  named_inner n a b ne = record { below = omega arith; above = a; apart = ne }
+  abbrev t : ℕ
+  t = free_slot n p
 
-  end_inner : IsInner p.body N S end_node
+  abbrev Inner : ℕ → Type 0
+  Inner m = IsInner n p.body N S m
+
+  abbrev Source : ℕ → Type 0
+  Source m = IsSource n p.body N S m
+
+  named_inner : (m : ℕ) → 2 ≤ m → m < 6 → (m ≡ entry_node → ⊥) → Inner m
+  named_inner m a b ne = record { below = omega arith; above = a; apart = ne }
+
+  end_inner : Inner end_node
   end_inner = named_inner end_node (omega arith) (omega arith) (λ q. omega arith)
 
-  return_inner : IsInner p.body N S return_node
+  return_inner : Inner return_node
   return_inner = named_inner return_node (omega arith) (omega arith) (λ q. omega arith)
 
-  body_inner : IsInner p.body N S body_node
+  body_inner : Inner body_node
   body_inner = named_inner body_node (omega arith) (omega arith) (λ q. omega arith)
 
-  entry_source : IsSource p.body N S entry_node
+  entry_source : Source entry_node
   entry_source = record { below = omega arith; above = omega arith }
 
-  a_slot : p.slots < S
+  a_slot : t < S
   a_slot = omega arith
 
-  -- all edges but the entry
-  pub procedure_fine : AllFine p.body N S (edges_of (procedure_blocks p))
-  procedure_fine =
-      let enter = guard_fine p.body N S entry_node body_node [] entry_source body_inner (no_rows p.body N S) in
-      let finish = assign_fine p.body N S end_node return_node p.slots (constant_lin (pos 0)) (inner_source p.body N S end_node end_inner)
-      return_inner a_slot (constant_lin_is p.body N S (pos 0)) in
-      let leave = return_fine p.body N S return_node p.slots (inner_source p.body N S return_node return_inner) (omega arith) a_slot in (
-        enter,
-        (
-          finish,
-          (
-            leave,
-            statement_fine p.body N S p.slots (omega arith) a_slot p.gives (block p.body) plain
-                (record { factor = λ c h. inr (inr h); call = λ q n h. h }) body_node end_node end_node end_node first_free body_inner
-                end_inner end_inner end_inner
-                (record { fresh = omega arith; few_nodes = omega arith; above_vars = omega arith; few_slots = omega arith }),
-          ),
-        ),
+  opening_fine : (from to lo x : ℕ) (zs : List ℤ) → Source from → Inner to → 6 ≤ lo → lo + length zs ≤ N → x + length zs ≤ S →
+      AllFine n p.body N S (edges_of (opening_blocks from to lo x zs))
+  opening_fine from to lo x [] s i a b c = (guard_fine n p.body N S from to [] s i (no_rows n p.body N S), tt)
+  opening_fine from to lo x (z ∷ zs) s i a b c =
+      let next : Inner lo = record { below = omega arith; above = omega arith; apart = λ q. omega arith } in (
+        assign_fine n p.body N S from lo x (constant_lin z) s next (omega arith) (constant_lin_is n p.body N S z),
+        opening_fine lo to (lo + 1) (x + 1) zs (inner_source n p.body N S lo next) i (omega arith) (omega arith) (omega arith),
       )
 
-  edges_kept : p.params ≤ p.slots → S ≤ max_slots → (i : ℕ) (e : Edge) → slice_get (procedure_edges p) i ≡ Some e →
-      IsEdge N exit_node fail_node S e
-  edges_kept params few zero e h =
-      let q : Entry entry_node p.params ≡ e = cc in
-      let E : Edge → Type 0 = λ x. IsEdge N exit_node fail_node S x in
-      subst E q (record {
-        leaves = λ n s. absurd cc;
-        in_range = omega arith;
-        slots_named = le-leb p.params S (omega arith);
-        terms = refl;
-        to_exit = refl;
-        to_fail = refl;
-      })
-  edges_kept params few (suc i) e h = fine_edge p.body N S few e (fine_at p.body N S (edges_of (procedure_blocks p)) i e procedure_fine h)
+  divides_here : (c : ℤ) → IsTrue (statements_divide_by_literals p.body) → Contains (statements_divisors p.body) c →
+      IsDivisorHere n p.body N S c
+  divides_here c d h =
+      let small = All-contains (λ c. IsSmall c) (statements_divisors p.body) c (divisors_small p.body d) h in
+      record { there = inr h; some = small.0; few = small.1 }
 
-  later : (i : ℕ) (e : Edge) → 0 < i → slice_get (procedure_edges p) i ≡ Some e → Fine p.body N S e
-  later zero e lt h = absurd (omega arith)
-  later (suc i) e lt h = fine_at p.body N S (edges_of (procedure_blocks p)) i e procedure_fine h
+  module _ (plain : AllPlain P L p.slots p.body) (divides : IsTrue (statements_divide_by_literals p.body)) (params : p.params ≤ p.slots)
+      (opens : length opening ≤ n) where
+    -- all edges but the entry
+    procedure_fine : AllFine n p.body N S (edges_of (procedure_blocks n opening p))
+    procedure_fine =
+        let low = enough P L p.slots params p.body N S (omega arith) a_slot in
+        let first = opening_blocks entry_node body_node first_free 0 opening in
+        let body = statement_blocks L p.gives t (block p.body) body_node end_node end_node end_node (first_free + length opening) in
+        let leave = one return_node (Return return_node exit_node (t ∷ global_slots L)) ∷ body in
+        let finish = Assign end_node return_node t (constant_lin (pos 0)) in
+        blocks_both P L p.body N S t low first (one end_node finish ∷ leave)
+        (opening_fine entry_node body_node first_free 0 opening entry_source body_inner (omega arith) (omega arith) (omega arith)) (
+          assign_fine n p.body N S end_node return_node t (constant_lin (pos 0)) (inner_source n p.body N S end_node end_inner) return_inner
+              a_slot (constant_lin_is n p.body N S (pos 0)),
+          (
+            returned_fine P L p.slots params p.body N S (omega arith) a_slot true return_node t return_inner a_slot,
+            statement_fine P L p.slots params p.body N S (omega arith) a_slot p.gives (block p.body) plain
+                (record { factor = λ c h. inr (inr (inl h)); divisor = λ c h. divides_here c divides h; call = λ q m h. h }) body_node
+                end_node end_node end_node (first_free + length opening) body_inner end_inner end_inner end_inner
+                (record { fresh = omega arith; few_nodes = omega arith; above_vars = omega arith; few_slots = omega arith }),
+          ),
+        )
+
+    edges_kept : entries ≤ p.params + n → S ≤ max_slots → (i : ℕ) (e : Edge) → slice_get (procedure_edges n opening entries p) i ≡ Some e →
+        IsEdge N exit_node fail_node (1 + n) S e
+    edges_kept enters few zero e h =
+        let q : Entry entry_node entries ≡ e = cc in
+        let E : Edge → Type 0 = λ x. IsEdge N exit_node fail_node (1 + n) S x in
+        subst E q (record {
+          leaves = λ m s. absurd cc;
+          in_range = omega arith;
+          slots_named = le-leb entries S (omega (arith, enters, params));
+          lists = refl;
+          terms = refl;
+          to_exit = refl;
+          to_fail = refl;
+        })
+    edges_kept enters few (suc i) e h =
+        fine_edge n p.body N S few e (fine_at n p.body N S (edges_of (procedure_blocks n opening p)) i e procedure_fine h)
+
+    later : (i : ℕ) (e : Edge) → 0 < i → slice_get (procedure_edges n opening entries p) i ≡ Some e → Fine n p.body N S e
+    later zero e lt h = absurd (omega arith)
+    later (suc i) e lt h = fine_at n p.body N S (edges_of (procedure_blocks n opening p)) i e procedure_fine h
+
+    edge_bounded : (i : ℕ) (e : Edge) → slice_get (procedure_edges n opening entries p) i ≡ Some e → IsBoundedEdge n p.body e
+    edge_bounded zero e h =
+        let q : Entry entry_node entries ≡ e = cc in
+        let B : Edge → Type 0 = λ x. IsBoundedEdge n p.body x in
+        subst B q tt
+    edge_bounded (suc i) e h = (fine_at n p.body N S (edges_of (procedure_blocks n opening p)) i e procedure_fine h).bounded
 
   -- The edges of a procedure make a graph.
-  pub graph_kept : p.params ≤ p.slots → p.slots ≤ 24 → statements_nodes p.body ≤ 8000 → IsGraph N exit_node fail_node p.params S
-      (procedure_edges p)
-  graph_kept params few small =
-      let s = few_slots_all p.body in
+  pub graph_kept : IsTrue (is_well_formed_procedure P p) → IsTrue (all_linear p.body) → IsTrue (statements_divide_by_literals p.body) →
+      IsTrue (statements_literals_fit p.body) → n ≤ 16 → length opening ≤ n → entries ≤ p.params + n →
+      IsGraph N exit_node fail_node entries (1 + n) S (procedure_edges n opening entries p)
+  graph_kept well linear divides literals few opens enters =
+      let plain = body_plain P p well linear divides literals in
+      let k = kept P p well in
+      let params = k.params_in_slots in
+      let small = k.few_slots in
+      let short = k.few_nodes in
+      let s = few_slots_all L p.body in
       record {
         exit_named = omega arith;
         fail_named = omega arith;
         two_ends = λ q. omega arith;
-        params_in_slots = omega arith;
-        few_slots = omega (arith, s);
-        are_edges = edges_kept params (omega (arith, s));
-        begins = eq-eqb p.params p.params refl;
-        one_entry = λ i e lt h. (later i e lt h).inner;
-        alone = λ i e lt h. (later i e lt h).apart;
+        params_in_slots = omega (arith, enters, params);
+        few_exits = omega (arith, few);
+        few_slots = omega (arith, s, small, short, few);
+        are_edges = edges_kept plain divides params opens enters (omega (arith, s, small, short, few));
+        begins = eq-eqb entries entries refl;
+        one_entry = λ i e lt h. (later plain divides params opens i e lt h).inner;
+        alone = λ i e lt h. (later plain divides params opens i e lt h).apart;
       }
 
-  edge_bounded : (i : ℕ) (e : Edge) → slice_get (procedure_edges p) i ≡ Some e → IsBoundedEdge p.body e
-  edge_bounded zero e h =
-      let q : Entry entry_node p.params ≡ e = cc in
-      let B : Edge → Type 0 = λ x. IsBoundedEdge p.body x in
-      subst B q tt
-  edge_bounded (suc i) e h = (fine_at p.body N S (edges_of (procedure_blocks p)) i e procedure_fine h).bounded
+-- The graph of a procedure is bounded.
 
-pub bounded : (p : PureProcedure) (g : Graph) → AllPlain p.slots p.body → IsGraphOf p g → IsBounded p g
-bounded p g plain h = record {
-  params = h.params;
-  few_edges = let a = procedure_size p in let b = ap length h.edges in omega (arith, a, b);
-  edges = λ i e k. edge_bounded p plain i e (ap (λ es. slice_get es i) (sym h.edges) ∙ k);
-}
+few_opening : (P : PureProgram) (b : Bool) → length (cond b P.globals []) ≤ length P.globals
+few_opening P true = omega arith
+few_opening P false = omega arith
 
--- Programs
+pub bounded : (P : PureProgram) (i : ℕ) (p : PureProcedure) (g : Graph) → IsTrue (is_well_formed_procedure P p) →
+    IsTrue (all_linear p.body) →
+    IsTrue (statements_divide_by_literals p.body) → IsTrue (statements_literals_fit p.body) → length P.globals ≤ 16 → IsGraphOf P i p g →
+    IsBounded P i p g
+bounded P i p g well linear divides literals few h =
+    let plain = body_plain P p well linear divides literals in
+    let k = kept P p well in
+    let opening = opening_of P i in
+    let entries = entries_of P i p in
+    let short : length opening ≤ length P.globals = few_opening P (i == P.main) in
+    record {
+      params = h.params;
+      exits = h.exits;
+      few_edges = let a = procedure_size (length P.globals) opening entries p (omega (arith, short, few)) in let b = ap length h.edges in
+          omega (arith, a, b);
+      edges = λ j e at. edge_bounded P p opening entries plain divides k.params_in_slots short j e
+          (ap (λ es. slice_get es j) (sym h.edges) ∙ at);
+    }
 
-pub procedure_of : (ps : List PureProcedure) (gs : List Graph) → AreGraphsOf ps gs → (i : ℕ) (g : Graph) → slice_get gs i ≡ Some g →
-    (p : PureProcedure) × (slice_get ps i ≡ Some p) × IsGraphOf p g
-procedure_of [] [] are i g h = absurd cc
-procedure_of [] (x ∷ gs) are i g h = absurd are
-procedure_of (p ∷ ps) [] are i g h = absurd are
-procedure_of (p ∷ ps) (x ∷ gs) are zero g h = let q : x ≡ g = cc in (p, refl, subst (IsGraphOf p) q are.0)
-procedure_of (p ∷ ps) (x ∷ gs) are (suc i) g h = procedure_of ps gs are.1 i g h
+same_length : (P : PureProgram) (k : ℕ) (ps : List PureProcedure) (gs : List Graph) → AreGraphsOf P k ps gs → length gs ≡ length ps
+same_length P k [] [] are = refl
+same_length P k [] (g ∷ gs) are = absurd are
+same_length P k (p ∷ ps) [] are = absurd are
+same_length P k (p ∷ ps) (g ∷ gs) are = ap suc (same_length P (suc k) ps gs are.1)
 
-pub graph_of : (ps : List PureProcedure) (gs : List Graph) → AreGraphsOf ps gs → (i : ℕ) (p : PureProcedure) → slice_get ps i ≡ Some p →
-    (g : Graph) × (slice_get gs i ≡ Some g) × IsGraphOf p g
-graph_of [] [] are i p h = absurd cc
-graph_of [] (x ∷ gs) are i p h = absurd are
-graph_of (y ∷ ps) [] are i p h = absurd are
-graph_of (y ∷ ps) (g ∷ gs) are zero p h = let q : y ≡ p = cc in let G : PureProcedure → Type 0 = λ z. IsGraphOf z g in
-    (g, refl, subst G q are.0)
-graph_of (y ∷ ps) (g ∷ gs) are (suc i) p h = graph_of ps gs are.1 i p h
+some_is : (x y : Graph) → Some x ≡ Some y → x ≡ y
+some_is x y e = cc
 
-same_length : (ps : List PureProcedure) (gs : List Graph) → AreGraphsOf ps gs → length gs ≡ length ps
-same_length [] [] are = refl
-same_length [] (g ∷ gs) are = absurd are
-same_length (p ∷ ps) [] are = absurd are
-same_length (p ∷ ps) (g ∷ gs) are = ap suc (same_length ps gs are.1)
+-- Literals are values, and divisors are literals.
+module _ (P : PureProgram) (well : IsWellFormed P) (divides : DividesByLiterals P) (gs : List Graph)
+    (graphs : AreGraphsOf P 0 P.procedures gs)
+    (literals : AllFit P.procedures) where
+  -- the graph of a number is that of its procedure, and is bounded
+  pub procedure_bounded : (i : ℕ) (p : PureProcedure) (g : Graph) → slice_get P.procedures i ≡ Some p → IsGraphOf P i p g →
+      IsBounded P i p g
+  procedure_bounded i p g e h = bounded P i p g (well.procedures_well_formed i p e) (well.products_linear i p e) (divides i p e)
+      (literals i p e) well.few_globals h
 
--- the procedure that the graph is of
-pub graph_is : (ps : List PureProcedure) (gs : List Graph) → AreGraphsOf ps gs → (i : ℕ) (p : PureProcedure) (g : Graph) → slice_get ps i
-    ≡ Some p → slice_get gs i ≡ Some g → IsGraphOf p g
-graph_is ps gs are i p g h k =
-    let found = graph_of ps gs are i p h in
-    let q : found.0 ≡ g = some_is found.0 g (sym found.1 ∙ k) in
-    subst (IsGraphOf p) q found.2
-  where
-    some_is : (x y : Graph) → Some x ≡ Some y → x ≡ y
-    some_is x y e = cc
-
-pub all_bounded : (P : PureProgram) (gs : List Graph) → ((i : ℕ) (p : PureProcedure) → slice_get P.procedures i ≡ Some p →
-    AllPlain p.slots p.body) → AreGraphsOf P.procedures gs → AreBounded P gs
-all_bounded P gs plain are = record {
-  each_procedure = same_length P.procedures gs are;
-  bounded = λ i p g h k. bounded p g (plain i p h) (graph_is P.procedures gs are i p g h k);
-}
+  pub all_bounded : AreBounded P gs
+  all_bounded = record {
+    each_procedure = same_length P 0 P.procedures gs graphs;
+    bounded = λ i p g e k.
+        let found = graph_of P gs graphs i p e in
+        let q : found.0 ≡ g = some_is found.0 g (sym found.1 ∙ k) in
+        procedure_bounded i p g e (subst (IsGraphOf P i p) q found.2);
+  }

@@ -1,13 +1,14 @@
 -- What the edges of a procedure's graph keep, by their kinds.
-use Rattle.std.proofs.Common.{◌≡◌, ℕ, zero, suc, ◌<◌, ◌≤◌, nat_lt, nat_le, Bool, true, false, ◌||◌, ◌&&◌, ◌==◌, List, [], ◌∷◌, ◌++◌, length, Some, ℤ, pos, negsuc, IsTrue, refl, sym, ap, ◌∙◌, subst, ◌⊎◌, inl, inr, arith}
-use Rattle.std.specs.Prelude.{All, slice_get, if◌then◌else◌}
-use Rattle.std.specs.List.{list_all}
-use Rattle.std.proofs.lemmas.Bool.{lt-ltb, le-leb, ne_eqb}
+use Rattle.std.proofs.Common.{◌≡◌, ℕ, zero, suc, ◌+◌, ◌<◌, ◌≤◌, nat_lt, nat_le, Bool, true, false, ◌||◌, ◌&&◌, ◌==◌, List, [], ◌∷◌, ◌++◌, length, Some, ℤ, pos, negsuc, IsTrue, refl, sym, ap, ◌∙◌, subst, ◌⊎◌, inl, inr, arith}
+use Rattle.std.specs.Prelude.{All, Contains, slice_get, slice_index_or, unsigned_abs, neg_ℤ, ◌^◌, ◌-ℤ◌, if◌then◌else◌}
+use Rattle.std.specs.List.{list_all, list_any}
+use Rattle.std.proofs.lemmas.Bool.{lt-ltb, le-leb, ne_eqb, eq-eqb}
+use Rattle.std.proofs.Math.IntN.{neg_ℤ-neg_ℤ}
 use Rattle.std.proofs.lemmas.List.Elements.{All-from_recursion, All-append}
 use Rattle.std.proofs.lemmas.List.Folds.{list_all-append}
-use Rattle.linear_formula.proofs.Limits.{both_in}
+use Rattle.linear_formula.proofs.Limits.{both, both_in}
 use Rattle.c_tree.specs.declared.tree.Op.{Op}
-use Rattle.c_tree.specs.declared.tree.Op.TheVariants.{Add, Subtract, Multiply, Less, LessEqual, Greater, GreaterEqual, Equal, Unequal, And, Or}
+use Rattle.c_tree.specs.declared.tree.Op.TheVariants.{Add, Subtract, Multiply, Divide, Remainder, Less, LessEqual, Greater, GreaterEqual, Equal, Unequal, And, Or}
 use Rattle.c_tree.specs.Meaning.{is_value}
 use Rattle.c_tree.specs.Syntax.{Statements}
 use Rattle.linear_formula.specs.LinearSum.{is_ascending}
@@ -16,34 +17,44 @@ use Rattle.flow_graph.specs.declared.graph.Lin.{Lin}
 use Rattle.flow_graph.specs.declared.graph.Edge.{Edge}
 use Rattle.flow_graph.specs.declared.graph.Edge.TheVariants.{Entry, Assign, Guard, Input, Pick, Call, Assert, Return}
 use Rattle.flow_graph.specs.Shapes.{source, target, is_entry, is_assert, is_return, leads}
-use Rattle.flow_graph.specs.WellFormed.{names_slots, is_lin, has_slots, has_terms, max_slots, IsEdge}
+use Rattle.flow_graph.specs.WellFormed.{names_slots, is_lin, has_slots, has_lists, are_distinct, has_terms, max_slots, IsEdge}
 use Rattle.flow_build.specs.declared.operand.Operand.{Operand}
 use Rattle.flow_build.specs.declared.operand.Operand.TheVariants.{Variable, Constant}
 use Rattle.flow_build.specs.declared.target.Target.{Target}
 use Rattle.flow_build.specs.declared.target.Target.TheVariants.{Node, Fails, Nowhere}
-use Rattle.flow_build.specs.steps.Operands.{is_operand, multiple_parts, constant_lin, operand_lin, row, less, at_most, rows_where}
+use Rattle.flow_build.specs.steps.Operands.{is_operand, multiple_parts, constant_lin, operand_lin, row, less, at_most, rows_where, multiple_row, rows_above, rows_below}
 use Rattle.flow_build.specs.steps.Blocks.{exit_node, fail_node, entry_node, way, ways}
-use Rattle.flow_build.specs.Promises.{IsCoefficient, IsBoundedEdge, is_small_row, are_small_rows, statements_call}
+use Rattle.flow_build.specs.Promises.{IsCoefficient, IsBoundedEdge, is_small_row, are_small_rows, is_pick_coefficient, is_pick_row, statements_call, statements_divisors}
 use Rattle.flow_build.proofs.SmallRows.{row_small}
 use Rattle.flow_build.proofs.Terms.{are_ascending, row_ascends, rows_terms}
+use Rattle.flow_build.proofs.Occurring.{or_left, or_right}
+use Rattle.flow_build.proofs.QuotientRows.{is_ordered_row, are_ordered_rows, ordered_terms, FitsRow, above_fits, below_fits}
 
 abbrev pub has_ordered_rows : Edge → Bool
 has_ordered_rows (Guard from to rows) = are_ascending rows.atoms
+has_ordered_rows (Pick from to slot rows) = are_ordered_rows rows.atoms
 has_ordered_rows (Assert from to id rows) = are_ascending rows.atoms
 has_ordered_rows _ = true
 
--- In a procedure of this body, whose graph has so many nodes and slots:
-module _ (body : Statements) (nodes slots : ℕ) where
+-- an element that passes the test
+any_there : (f : ℤ → Bool) (xs : List ℤ) (k : ℕ) (x : ℤ) → k < length xs → slice_index_or xs k x ≡ x → f x ≡ true → list_any f xs ≡ true
+any_there f [] k x lt e h = absurd (omega arith)
+any_there f (y ∷ ys) zero x lt e h = or_left (f y) (list_any f ys) (ap f e ∙ h)
+any_there f (y ∷ ys) (suc k) x lt e h = or_right (f y) (list_any f ys) (any_there f ys k x (omega arith) e h)
+
+-- In a program with so many globals, in a procedure of this body, whose graph has so many nodes and slots:
+module _ (globals : ℕ) (body : Statements) (nodes slots : ℕ) where
   -- what each edge but the entry keeps
   pub record Fine (e : Edge) : Type 0 where
     pub leaves : (n : ℕ) → source e ≡ Some n → (n < nodes) × (2 ≤ n)
     pub below : target e < nodes
     pub named : IsTrue (has_slots slots e)
+    pub lists : IsTrue (has_lists (1 + globals) e)
     pub to_exit : is_return e ≡ (target e == exit_node)
     pub to_fail : is_assert e ≡ (target e == fail_node)
     pub inner : is_entry e ≡ false
     pub apart : leads fail_node e entry_node ≡ false
-    pub bounded : IsBoundedEdge body e
+    pub bounded : IsBoundedEdge globals body e
     pub ordered : IsTrue (has_ordered_rows e)
 
   -- small rows in order are terms
@@ -52,16 +63,18 @@ module _ (body : Statements) (nodes slots : ℕ) where
   edge_terms few (Assign from to slot value) f = refl
   edge_terms few (Guard from to rows) f = rows_terms slots few rows.atoms f.named f.bounded f.ordered
   edge_terms few (Input from to slot) f = refl
-  edge_terms few (Pick from to slot rows) f = absurd f.bounded
-  edge_terms few (Call from to proc args slot) f = refl
+  edge_terms few (Pick from to slot rows) f = ordered_terms slots few rows.atoms (both (nat_lt slot slots)
+      (list_all (names_slots slots) rows.atoms) f.named).1 f.ordered
+  edge_terms few (Call from to proc args results) f = refl
   edge_terms few (Assert from to id rows) f = rows_terms slots few rows.atoms f.named f.bounded f.ordered
-  edge_terms few (Return from to slot) f = refl
+  edge_terms few (Return from to returned) f = refl
 
-  pub fine_edge : slots ≤ max_slots → (e : Edge) → Fine e → IsEdge nodes exit_node fail_node slots e
+  pub fine_edge : slots ≤ max_slots → (e : Edge) → Fine e → IsEdge nodes exit_node fail_node (1 + globals) slots e
   fine_edge few e f = record {
     leaves = λ n h. ((f.leaves n h).0, (λ q. two (f.leaves n h).1 q), (λ q. one (f.leaves n h).1 q));
     in_range = f.below;
     slots_named = f.named;
+    lists = f.lists;
     terms = edge_terms few e f;
     to_exit = f.to_exit;
     to_fail = f.to_fail;
@@ -115,6 +128,7 @@ module _ (body : Statements) (nodes slots : ℕ) where
     leaves = λ m e. source_leaves n m s e;
     below = t.below;
     named = both_in (nat_lt slot slots) (is_lin slots value) (lt-ltb slot slots lt) v.named;
+    lists = refl;
     to_exit = no_exit to t;
     to_fail = no_fail to t;
     inner = refl;
@@ -137,6 +151,7 @@ module _ (body : Statements) (nodes slots : ℕ) where
     leaves = λ m e. source_leaves n m s e;
     below = t.below;
     named = r.named;
+    lists = refl;
     to_exit = no_exit to t;
     to_fail = no_fail to t;
     inner = refl;
@@ -150,6 +165,7 @@ module _ (body : Statements) (nodes slots : ℕ) where
     leaves = λ m e. source_leaves n m s e;
     below = t.below;
     named = lt-ltb slot slots lt;
+    lists = refl;
     to_exit = no_exit to t;
     to_fail = no_fail to t;
     inner = refl;
@@ -158,17 +174,20 @@ module _ (body : Statements) (nodes slots : ℕ) where
     ordered = refl;
   }
 
-  pub call_fine : (n to p : ℕ) (args : List ℕ) (slot : ℕ) → IsSource n → IsInner to → slot < slots →
-      IsTrue (list_all (λ x. nat_lt x slots) args) → IsTrue (statements_call p (length args) body) → Fine (Call n to p args slot)
-  call_fine n to p args slot s t lt named calls = record {
+  pub call_fine : (n to p arguments : ℕ) (args results : List ℕ) → IsSource n → IsInner to →
+      IsTrue (list_all (λ x. nat_lt x slots) results) → IsTrue (list_all (λ x. nat_lt x slots) args) → length args ≡ arguments + globals →
+      length results ≡ 1 + globals → IsTrue (are_distinct results) → IsTrue (statements_call p arguments body) →
+      Fine (Call n to p args results)
+  call_fine n to p arguments args results s t come named many as_many distinct calls = record {
     leaves = λ m e. source_leaves n m s e;
     below = t.below;
-    named = both_in (nat_lt slot slots) (list_all (λ x. nat_lt x slots) args) (lt-ltb slot slots lt) named;
+    named = both_in (list_all (λ x. nat_lt x slots) results) (list_all (λ x. nat_lt x slots) args) come named;
+    lists = distinct;
     to_exit = no_exit to t;
     to_fail = no_fail to t;
     inner = refl;
     apart = no_entry to t;
-    bounded = calls;
+    bounded = (arguments, many, as_many, calls);
     ordered = refl;
   }
 
@@ -178,6 +197,7 @@ module _ (body : Statements) (nodes slots : ℕ) where
     leaves = λ m e. source_leaves n m s e;
     below = lt;
     named = r.named;
+    lists = refl;
     to_exit = refl;
     to_fail = refl;
     inner = refl;
@@ -186,11 +206,13 @@ module _ (body : Statements) (nodes slots : ℕ) where
     ordered = r.ascending;
   }
 
-  pub return_fine : (n slot : ℕ) → IsSource n → 0 < nodes → slot < slots → Fine (Return n exit_node slot)
-  return_fine n slot s some lt = record {
+  pub return_fine : (n : ℕ) (returned : List ℕ) → IsSource n → 0 < nodes → IsTrue (list_all (λ x. nat_lt x slots) returned) →
+      length returned ≡ 1 + globals → Fine (Return n exit_node returned)
+  return_fine n returned s some named many = record {
     leaves = λ m e. source_leaves n m s e;
     below = some;
-    named = lt-ltb slot slots lt;
+    named = named;
+    lists = eq-eqb (length returned) (1 + globals) many;
     to_exit = refl;
     to_fail = refl;
     inner = refl;
@@ -340,6 +362,8 @@ module _ (body : Statements) (nodes slots : ℕ) where
   rows_are Add a b h g = tt
   rows_are Subtract a b h g = tt
   rows_are Multiply a b h g = tt
+  rows_are Divide a b h g = tt
+  rows_are Remainder a b h g = tt
   rows_are Less a b h g = (one_row (less a b) (less_is a b h g), tt)
   rows_are LessEqual a b h g = (one_row (at_most a b) (at_most_is a b h g), tt)
   rows_are Greater a b h g = (one_row (less b a) (less_is b a g h), tt)
@@ -380,3 +404,90 @@ module _ (body : Statements) (nodes slots : ℕ) where
   ways_fine n target [] lt s t r = tt
   ways_fine n target (rows ∷ lists) lt s t r = fine_both (way n target rows) (ways n target lists) (way_fine n target rows lt s t r.0)
       (ways_fine n target lists lt s t r.1)
+
+  -- Divisors
+
+  -- 1, or a divisor of the body, within the limits of a coefficient
+  pub record IsDivisorHere (c : ℤ) : Type 0 where
+    pub there : (c ≡ pos 1) ⊎ Contains (statements_divisors body) c
+    pub some : 1 ≤ unsigned_abs c
+    pub few : unsigned_abs c ≤ 2 ^ 40
+
+  pub one_divides : IsDivisorHere (pos 1)
+  one_divides = record { there = inl refl; some = omega arith; few = omega arith }
+
+  -- a quotient times the divisor may be taken away
+  pub taken_away : (c : ℤ) → IsDivisorHere c → IsCoefficient body (neg_ℤ c)
+  taken_away c h = on h.there
+    where
+      on : (c ≡ pos 1) ⊎ Contains (statements_divisors body) c → IsCoefficient body (neg_ℤ c)
+      on (inl e) = inr (inl (ap neg_ℤ e))
+      on (inr k) = inr (inr (inr (inr (subst (Contains (statements_divisors body)) (sym (neg_ℤ-neg_ℤ c)) k))))
+
+  -- a coefficient of the magnitude of a divisor
+  pub pick_coefficient : (c d : ℤ) → IsDivisorHere c → unsigned_abs d ≡ unsigned_abs c → is_pick_coefficient body d ≡ true
+  pick_coefficient c d h same = on h.there
+    where
+      on : (c ≡ pos 1) ⊎ Contains (statements_divisors body) c → is_pick_coefficient body d ≡ true
+      on (inl e) = or_left (unsigned_abs d == 1) (list_any (λ x. unsigned_abs x == unsigned_abs d) (statements_divisors body))
+          (eq-eqb (unsigned_abs d) 1 (same ∙ ap unsigned_abs e))
+      on (inr k) = or_right (unsigned_abs d == 1) (list_any (λ x. unsigned_abs x == unsigned_abs d) (statements_divisors body))
+          (any_there (λ x. unsigned_abs x == unsigned_abs d) (statements_divisors body) k.0 c k.1 k.2
+          (eq-eqb (unsigned_abs c) (unsigned_abs d) (sym same)))
+
+  pick_row : (r : Atom) → FitsRow slots (is_pick_coefficient body) r → IsTrue (is_pick_row body r)
+  pick_row r h =
+      let t = r.term in
+      both_in (nat_le (length t.parts) 2 && list_all (λ p. is_pick_coefficient body p.1) t.parts)
+      (nat_le (unsigned_abs t.constant) (2 ^ 64))
+      (both_in (nat_le (length t.parts) 2) (list_all (λ p. is_pick_coefficient body p.1) t.parts) h.few h.allowed) h.small
+
+  pub pick_fine : (n to slot : ℕ) (r s : Atom) → IsSource n → IsInner to → slot < slots → FitsRow slots (is_pick_coefficient body) r →
+      FitsRow slots (is_pick_coefficient body) s → Fine (Pick n to slot (record { atoms = r ∷ s ∷ [] }))
+  pick_fine n to slot r s from t lt h k = record {
+    leaves = λ m e. source_leaves n m from e;
+    below = t.below;
+    named = both_in (nat_lt slot slots) (names_slots slots r && (names_slots slots s && true)) (lt-ltb slot slots lt)
+        (both_in (names_slots slots r) (names_slots slots s && true) h.named (both_in (names_slots slots s) true k.named refl));
+    lists = refl;
+    to_exit = no_exit to t;
+    to_fail = no_fail to t;
+    inner = refl;
+    apart = no_entry to t;
+    bounded = both_in (is_pick_row body r) (is_pick_row body s && true) (pick_row r h) (both_in (is_pick_row body s) true (pick_row s k)
+        refl);
+    ordered = both_in (is_ordered_row r) (is_ordered_row s && true) h.ordered (both_in (is_ordered_row s) true k.ordered refl);
+  }
+
+  -- the two rows of a quotient from 0 on, and below 0
+  module _ (b a t : ℕ) (h : IsDivisorHere (pos (suc b)) ⊎ IsDivisorHere (negsuc b)) (apart : a ≡ t → ⊥) (la : a < slots)
+      (lt : t < slots) where
+    magnitude : (d : ℤ) → unsigned_abs d ≡ suc b → is_pick_coefficient body d ≡ true
+    magnitude d e = on h
+      where
+        on : IsDivisorHere (pos (suc b)) ⊎ IsDivisorHere (negsuc b) → is_pick_coefficient body d ≡ true
+        on (inl i) = pick_coefficient (pos (suc b)) d i e
+        on (inr i) = pick_coefficient (negsuc b) d i e
+
+    few_times : suc b ≤ 2 ^ 40
+    few_times = on h
+      where
+        on : IsDivisorHere (pos (suc b)) ⊎ IsDivisorHere (negsuc b) → suc b ≤ 2 ^ 40
+        on (inl i) = i.few
+        on (inr i) = i.few
+
+    pub above_fine : (n to : ℕ) → IsSource n → IsInner to → Fine (Pick n to t (record { atoms = rows_above (suc b) a t }))
+    above_fine n to s i =
+        let r = above_fits slots (is_pick_coefficient body) b a t few_times apart la lt refl refl (magnitude (pos (suc b)) refl)
+        (magnitude (negsuc b) refl) in
+        pick_fine n to t (multiple_row (pos (suc b)) (negsuc 0) t a (pos 0)) (multiple_row (pos 1) (negsuc b) a t (pos 1 -ℤ pos (suc b))) s
+        i
+        lt r.0 r.1
+
+    pub below_fine : (n to : ℕ) → IsSource n → IsInner to → Fine (Pick n to t (record { atoms = rows_below (suc b) a t }))
+    below_fine n to s i =
+        let r = below_fits slots (is_pick_coefficient body) b a t few_times apart la lt refl refl (magnitude (pos (suc b)) refl)
+        (magnitude (negsuc b) refl) in
+        pick_fine n to t (multiple_row (pos 1) (negsuc b) a t (pos 0)) (multiple_row (pos (suc b)) (negsuc 0) t a (pos 1 -ℤ pos (suc b))) s
+        i
+        lt r.0 r.1

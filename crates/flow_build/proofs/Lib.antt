@@ -1,34 +1,46 @@
-pub mod FormMeaning
-pub mod Sameness
-pub mod Translated
 pub mod Outgoing
-pub mod Moves
+pub mod FormMeaning
+mod FormCalls
+pub mod Seen
 pub mod Slots
+pub mod Moves
 pub mod Comparing
-pub mod Fresh
-pub mod Placed
-pub mod Weights
-pub mod Sizes
-pub mod Allowed
-pub mod Fine
-pub mod FineForms
-pub mod FineStatements
-pub mod Facts
-pub mod Linking
-pub mod SmallRows
 pub mod Terms
-pub mod Adding
-pub mod Answering
-pub mod AddingStatements
-pub mod Measures
-pub mod Plain
-pub mod Making
-pub mod Whole
+pub mod SmallRows
+pub mod Reaching
+pub mod Dividing
+pub mod ForwardValues
+pub mod Translated
+pub mod ForwardStatements
 pub mod Coming
 pub mod BackwardValues
 pub mod BackwardStatements
-pub mod BackwardRuns
-pub mod Reaching
-pub mod ForwardValues
-pub mod ForwardStatements
-pub mod ForwardRuns
+pub mod Numbered
+pub mod Begins
+mod Ready
+mod ForwardRuns
+mod BackwardRuns
+mod SameRuns
+mod Plain
+mod Fresh
+mod Placed
+mod Weights
+mod Sizes
+mod Occurring
+mod QuotientRows
+mod Fine
+mod GlobalSlots
+mod FineForms
+mod FineStatements
+mod Divisors
+mod Facts
+mod Linking
+mod Measures
+mod PickRows
+mod Adding
+mod AddingQuotients
+mod Answering
+mod AddingStatements
+mod Lowerable
+mod Making
+mod Whole

@@ -1,17 +1,22 @@
--- The graphs of a well-formed program fit together: the procedure of each call exists, and takes its arguments.
-use Rattle.std.proofs.Common.{◌≡◌, ℕ, Bool, true, false, ◌||◌, ◌&&◌, ◌==◌, List, length, Option, None, Some, IsTrue, refl, sym, ap, ◌∙◌, subst, ◌⊎◌, inl, inr}
-use Rattle.std.specs.Prelude.{slice_get, nat_lt, nat_le, not as not_bool}
-use Rattle.std.proofs.lemmas.Bool.{eqb-true}
-use Rattle.c_tree.specs.Syntax.{Expression, literal, read, input, call, negate, not as not_of, binary, Expressions, no_expressions, expression, Statement, block, set, ignore, assume, assert, if_else, loop, do_while, break, continue, return, Statements, no_statements, statement, PureProcedure, PureProgram}
-use Rattle.c_tree.specs.WellFormed.{count, takes, is_well_scoped, are_well_scoped, returns_well_scoped, runs_well_scoped, all_well_scoped, statements_nodes, is_well_formed_procedure, IsWellFormed}
+-- The graphs of a well-formed program fit together: the procedure of each call exists, takes its
+-- arguments, and gives as many results.
+use Rattle.std.proofs.Common.{◌≡◌, ℕ, Bool, true, false, ◌||◌, ◌&&◌, ◌==◌, List, length, Option, None, Some, IsTrue, ◌+◌, cond, refl, sym, ap, ◌∙◌, subst, ◌⊎◌, inl, inr}
+use Rattle.std.specs.Prelude.{slice_get, nat_lt, not as not_bool}
+use Rattle.std.proofs.lemmas.Bool.{eqb-true, eq-eqb}
+use Rattle.c_tree.specs.Syntax.{Expression, literal, read, read_global, input, call, negate, not as not_of, binary, Expressions, no_expressions, expression, Statement, block, set, set_global, ignore, assume, assert, if_else, loop, do_while, break, continue, return, Statements, no_statements, statement, PureProcedure, PureProgram}
+use Rattle.c_tree.specs.WellFormed.{count, takes, is_well_scoped, are_well_scoped, returns_well_scoped, runs_well_scoped, all_well_scoped, IsWellFormed, DividesByLiterals}
 use Rattle.flow_graph.specs.declared.graph.Edge.TheVariants.{Call}
 use Rattle.flow_graph.specs.declared.graph.Graph.{Graph}
 use Rattle.flow_graph.specs.Linked.{AreGraphs}
 use Rattle.flow_graph.specs.Linked as linked
-use Rattle.flow_build.specs.steps.Procedures.{AreGraphsOf}
+use Rattle.flow_build.specs.steps.Procedures.{entries_of, AreGraphsOf}
+use Rattle.linear_formula.proofs.Limits.{both_in}
 use Rattle.flow_build.specs.Promises.{calls, calls_any, result_calls, statement_calls, statements_call}
-use Rattle.flow_build.proofs.Translated.{AllPlain}
-use Rattle.flow_build.proofs.Facts.{bounded, procedure_of, graph_of}
+use Rattle.flow_build.proofs.FormMeaning.{IsCallable}
+use Rattle.flow_build.proofs.Numbered.{procedure_of, graph_of}
+use Rattle.flow_build.proofs.Plain.{and_both, kept}
+use Rattle.flow_build.proofs.SameRuns.{AllFit}
+use Rattle.flow_build.proofs.Facts.{procedure_bounded}
 
 and_left : (a b : Bool) → IsTrue (a && b) → IsTrue a
 and_left true b h = refl
@@ -28,7 +33,7 @@ or_cases false b h = inr h
 -- In a procedure with so many slots, where a procedure is called with so many arguments:
 module _ (P : PureProgram) (slots q n : ℕ) where
   abbrev Takes : Type 0
-  Takes = IsTrue (takes (slice_get P.procedures q) n)
+  Takes = IsCallable P q n
 
   by_either : (a b c d : Bool) → (IsTrue a → IsTrue c → Takes) → (IsTrue b → IsTrue d → Takes) → IsTrue (a && b) → IsTrue (c || d) → Takes
   by_either a b c d f g s h = on (or_cases c d h)
@@ -37,23 +42,24 @@ module _ (P : PureProgram) (slots q n : ℕ) where
       on (inl x) = f (and_left a b s) x
       on (inr x) = g (and_right a b s) x
 
-  at_call : (p : ℕ) (es : Expressions) → IsTrue (takes (slice_get P.procedures p) (count es)) → IsTrue (p == q && count es == n) → Takes
+  at_call : (p : ℕ) (es : Expressions) → IsTrue (takes (slice_get P.procedures p) (count es) && not_bool (p == P.main)) →
+      IsTrue (p == q && count es == n) → Takes
   at_call p es h k =
       let same : p ≡ q = eqb-true p q (and_left (p == q) (count es == n) k) in
       let many : count es ≡ n = eqb-true (count es) n (and_right (p == q) (count es == n) k) in
-      let F : ℕ → Type 0 = λ x. IsTrue (takes (slice_get P.procedures x) (count es)) in
-      let G : ℕ → Type 0 = λ x. IsTrue (takes (slice_get P.procedures q) x) in
-      subst G many (subst F same h)
+      let able : IsCallable P p (count es) = and_both (takes (slice_get P.procedures p) (count es)) (not_bool (p == P.main)) h in
+      subst (λ x. IsCallable P q x) many (subst (λ x. IsCallable P x (count es)) same able)
 
   mutual
     expression_takes : (e : Expression) → IsTrue (is_well_scoped P slots e) → IsTrue (calls q n e) → Takes
     expression_takes (literal m) s h = absurd cc
     expression_takes (read x) s h = absurd cc
+    expression_takes (read_global y) s h = absurd cc
     expression_takes input s h = absurd cc
     expression_takes (call p es) s h =
         by_either (takes (slice_get P.procedures p) (count es) && not_bool (p == P.main)) (are_well_scoped P slots es)
         (p == q && count es == n) (calls_any q n es)
-        (λ x y. at_call p es (and_left (takes (slice_get P.procedures p) (count es)) (not_bool (p == P.main)) x) y)
+        (λ x y. at_call p es x y)
         (λ x y. expressions_take es x y) s h
     expression_takes (negate e) s h = expression_takes e s h
     expression_takes (not_of e) s h = expression_takes e s h
@@ -73,6 +79,8 @@ module _ (P : PureProgram) (slots q n : ℕ) where
     statement_takes : (l : Bool) (a : Statement) → IsTrue (runs_well_scoped P slots l a) → IsTrue (statement_calls q n a) → Takes
     statement_takes l (block ss) s h = statements_take l ss s h
     statement_takes l (set x e) s h = expression_takes e (and_right (nat_lt x slots) (is_well_scoped P slots e) s) h
+    statement_takes l (set_global y e) s h =
+        expression_takes e (and_right (nat_lt y (length P.globals)) (is_well_scoped P slots e) s) h
     statement_takes l (ignore e) s h = expression_takes e s h
     statement_takes l (assume e) s h = expression_takes e s h
     statement_takes l (assert id e) s h = expression_takes e (and_right (nat_lt id (length P.asserts)) (is_well_scoped P slots e) s) h
@@ -99,28 +107,35 @@ module _ (P : PureProgram) (slots q n : ℕ) where
     statements_take l (statement a ss) s h = by_either (runs_well_scoped P slots l a) (all_well_scoped P slots l ss) (statement_calls q n a)
         (statements_call q n ss) (λ x y. statement_takes l a x y) (λ x y. statements_take l ss x y) s h
 
--- what the graph of a procedure takes
-graph_takes : (ps : List PureProcedure) (gs : List Graph) → AreGraphsOf ps gs → (q n : ℕ) (o : Option PureProcedure) → slice_get ps q ≡ o →
-    IsTrue (takes o n) → IsTrue (linked.takes (slice_get gs q) n)
-graph_takes ps gs are q n None e h = absurd cc
-graph_takes ps gs are q n (Some p) e h =
-    let found = graph_of ps gs are q p e in
-    let F : Option Graph → Type 0 = λ o. IsTrue (linked.takes o n) in
-    let same : found.0.params ≡ p.params = found.2.params in
-    subst F (sym found.1) (ap (λ k. k == n) same ∙ h)
+-- of a procedure other than `main` there are so many entry values
+entries_by : (m k : ℕ) (b : Bool) → IsTrue (not_bool b) → cond b m k ≡ k
+entries_by m k true h = absurd cc
+entries_by m k false h = refl
 
--- the parts of what each procedure keeps
-sound_body : (P : PureProgram) (p : PureProcedure) → IsTrue (is_well_formed_procedure P p) → IsTrue (all_well_scoped P p.slots false p.body)
-sound_body P p h =
-    and_right (nat_le p.params 8 && nat_le p.params p.slots && nat_le p.slots 24) (all_well_scoped P p.slots false p.body)
-    (and_left (nat_le p.params 8 && nat_le p.params p.slots && nat_le p.slots 24 && all_well_scoped P p.slots false p.body)
-    (nat_le (statements_nodes p.body) 8000) h)
+-- Literals are values, and divisors are literals.
+module _ (P : PureProgram) (well : IsWellFormed P) (divides : DividesByLiterals P) (gs : List Graph)
+    (graphs : AreGraphsOf P 0 P.procedures gs)
+    (literals : AllFit P.procedures) where
+  -- what the graph of a procedure takes and gives
+  graph_takes : (q arguments n m : ℕ) (o : Option PureProcedure) → slice_get P.procedures q ≡ o → IsTrue (takes o arguments) →
+      IsTrue (not_bool (q == P.main)) → n ≡ arguments + length P.globals → m ≡ 1 + length P.globals →
+      IsTrue (linked.takes (slice_get gs q) n m)
+  graph_takes q arguments n m None e h apart many as_many = absurd cc
+  graph_takes q arguments n m (Some p) e h apart many as_many =
+      let found = graph_of P gs graphs q p e in
+      let g = found.0 in
+      let F : Option Graph → Type 0 = λ o. IsTrue (linked.takes o n m) in
+      let params : p.params ≡ arguments = eqb-true p.params arguments h in
+      let entries : entries_of P q p ≡ p.params + length P.globals = entries_by 0 (p.params + length P.globals) (q == P.main) apart in
+      let takes_all : g.params ≡ n = found.2.params ∙ entries ∙ ap (λ k. k + length P.globals) params ∙ sym many in
+      let gives_all : g.exits ≡ m = found.2.exits ∙ sym as_many in
+      subst F (sym found.1) (both_in (g.params == n) (g.exits == m) (eq-eqb g.params n takes_all) (eq-eqb g.exits m gives_all))
 
-pub graphs_kept : (P : PureProgram) → IsWellFormed P → ((i : ℕ) (p : PureProcedure) → slice_get P.procedures i ≡ Some p →
-    AllPlain p.slots p.body) → (gs : List Graph) → AreGraphsOf P.procedures gs → AreGraphs gs
-graphs_kept P ok plain gs are k g h i from to q args slot e =
-    let found = procedure_of P.procedures gs are k g h in
-    let p = found.0 in
-    let called = (bounded p g (plain k p found.1) found.2).edges i (Call from to q args slot) e in
-    graph_takes P.procedures gs are q (length args) (slice_get P.procedures q) refl
-    (statements_take P p.slots q (length args) false p.body (sound_body P p (ok.procedures_well_formed k p found.1)) called)
+  pub graphs_kept : AreGraphs gs
+  graphs_kept k g h i from to q args results at =
+      let found = procedure_of P gs graphs k g h in
+      let p = found.0 in
+      let called = (procedure_bounded P well divides gs graphs literals k p g found.1 found.2).edges i (Call from to q args results) at in
+      let sound = (kept P p (well.procedures_well_formed k p found.1)).sound in
+      let able = statements_take P p.slots q called.0 false p.body sound called.3 in
+      graph_takes q called.0 (length args) (length results) (slice_get P.procedures q) refl able.0 able.1 called.1 called.2

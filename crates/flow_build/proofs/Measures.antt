@@ -1,11 +1,12 @@
 -- What a recursion over expressions counts down.
 use Rattle.std.proofs.Common.{ℕ, ◌+◌}
-use Rattle.c_tree.specs.Syntax.{Expression, literal, read, input, call, negate, not as not_of, binary, Expressions, no_expressions, expression}
+use Rattle.c_tree.specs.Syntax.{Expression, literal, read, read_global, input, call, negate, not as not_of, binary, Expressions, no_expressions, expression}
 
 abbrev mutual
   pub weight : Expression → ℕ
   weight (literal n) = 1
   weight (read x) = 1
+  weight (read_global y) = 1
   weight input = 1
   weight (call p es) = 1 + weight_of_all es
   weight (negate e) = 1 + weight e

@@ -1,81 +1,58 @@
 -- The graphs of a program's procedures, one after another.
-use Rattle.std.proofs.Common.{◌≡◌, ℕ, zero, suc, ◌+◌, ◌<◌, ◌≤◌, List, [], ◌∷◌, ◌++◌, length, take, map, get_or, Some, IsTrue, refl, sym, ap, ◌∙◌, subst, arith}
+use Rattle.std.proofs.Common.{◌≡◌, ℕ, zero, suc, ◌+◌, ◌<◌, ◌≤◌, Bool, true, false, eqb, cond, List, [], ◌∷◌, ◌++◌, length, take, map, get_or, Some, ℤ, IsTrue, refl, sym, ap, ◌∙◌, subst, arith}
 use Rattle.std.specs.Prelude.{slice_get}
-use Rattle.std.proofs.Math.Seq.{take-suc}
+use Rattle.std.proofs.lemmas.Bool.{eq-eqb, ne_eqb, eqb-true, eqb-false}
 use Rattle.c_tree.specs.declared.tree.Procedure.{Procedure}
 use Rattle.c_tree.specs.View.{procedure_of}
 use Rattle.c_tree.specs.Syntax.{PureProcedure, PureProgram}
-use Rattle.c_tree.specs.WellFormed.{IsWellFormed}
+use Rattle.c_tree.specs.WellFormed.{takes}
+use Rattle.flow_graph.specs.Columns.{AreAllValues}
 use Rattle.flow_graph.specs.declared.graph.Graph.{Graph}
-use Rattle.flow_graph.specs.Linked.{AreGraphs}
 use Rattle.flow_build.specs.steps.Building.{statements_literals_fit}
-use Rattle.flow_build.specs.steps.Procedures.{IsGraphOf, AreGraphsOf}
-use Rattle.flow_build.specs.Promises.{SameRuns, AreBounded}
-use Rattle.flow_build.proofs.Translated.{AllPlain}
-use Rattle.flow_build.proofs.Placed.{procedure_at}
-use Rattle.flow_build.proofs.ForwardRuns.{run_of_graph}
-use Rattle.flow_build.proofs.BackwardRuns.{graph_of_run}
-use Rattle.flow_build.proofs.Facts.{all_bounded}
-use Rattle.flow_build.proofs.Linking.{graphs_kept}
-use Rattle.flow_build.proofs.Plain.{body_plain}
+use Rattle.flow_build.specs.steps.Procedures.{IsGraphWith, IsGraphOf, AreGraphsOf, Made}
+use Rattle.flow_build.proofs.SameRuns.{AllFit}
 
-abbrev AllFit : List PureProcedure → Type 0
-AllFit ps = (j : ℕ) (p : PureProcedure) → slice_get ps j ≡ Some p → IsTrue (statements_literals_fit p.body)
+-- The graph of `main`, and of another procedure.
 
--- the graphs of these procedures, whose literals are values
-pub record Made (ps : List Procedure) (gs : List Graph) : Type 0 where
-  pub graphs : AreGraphsOf (map procedure_of ps) gs
-  pub literals : AllFit (map procedure_of ps)
+abbrev by_test : PureProgram → Bool → PureProcedure → Graph → Type 0
+by_test P b p g = IsGraphWith (length P.globals) (cond b P.globals []) (cond b 0 (p.params + length P.globals)) p g
 
-pub made_none : Made [] []
-made_none = record { graphs = tt; literals = λ j p h. absurd (none_there j p h) }
-  where
-    none_there : (j : ℕ) (p : PureProcedure) → slice_get [] j ≡ Some p → ⊥
-    none_there j p h = cc
+main_graph : (P : PureProgram) (i : ℕ) (p : PureProcedure) (g : Graph) → i ≡ P.main → IsGraphWith (length P.globals) P.globals 0 p g →
+    IsGraphOf P i p g
+main_graph P i p g is h = let T : Bool → Type 0 = λ b. by_test P b p g in subst T (sym (eq-eqb i P.main is)) h
 
-one_more_graph : (ps : List PureProcedure) (gs : List Graph) (p : PureProcedure) (g : Graph) → AreGraphsOf ps gs → IsGraphOf p g →
-    AreGraphsOf (ps ++ p ∷ []) (gs ++ g ∷ [])
-one_more_graph [] [] p g h k = (k, tt)
-one_more_graph [] (x ∷ gs) p g h k = absurd h
-one_more_graph (x ∷ ps) [] p g h k = absurd h
-one_more_graph (x ∷ ps) (y ∷ gs) p g h k = (h.0, one_more_graph ps gs p g h.1 k)
+other_graph : (P : PureProgram) (i : ℕ) (p : PureProcedure) (g : Graph) → (i ≡ P.main → ⊥) →
+    IsGraphWith (length P.globals) [] (p.params + length P.globals) p g → IsGraphOf P i p g
+other_graph P i p g apart h = let T : Bool → Type 0 = λ b. by_test P b p g in subst T (sym (ne_eqb i P.main apart)) h
 
-one_more_fits : (ps : List PureProcedure) (p : PureProcedure) → AllFit ps → IsTrue (statements_literals_fit p.body) → AllFit (ps ++ p ∷ [])
-one_more_fits [] p h k zero q e = let same : p ≡ q = cc in let P : PureProcedure → Type 0 = λ x. IsTrue (statements_literals_fit x.body) in
-    subst P same k
-one_more_fits [] p h k (suc j) q e = cc
-one_more_fits (x ∷ ps) p h k zero q e = h zero q e
-one_more_fits (x ∷ ps) p h k (suc j) q e = one_more_fits ps p (λ i r d. h (suc i) r d) k j q e
+same_there : (P : PureProgram) (i : ℕ) (p q : PureProcedure) → slice_get P.procedures i ≡ Some p → slice_get P.procedures i ≡ Some q → p ≡ q
+same_there P i p q h k = let same : Some p ≡ Some q = sym h ∙ k in cc
 
-map_more : (ps : List Procedure) (p : Procedure) → map procedure_of (ps ++ p ∷ []) ≡ map procedure_of ps ++ procedure_of p ∷ []
-map_more [] p = refl
-map_more (x ∷ ps) p = ap (λ l. procedure_of x ∷ l) (map_more ps p)
+pub main_found : (P : PureProgram) (i n : ℕ) (opening : List ℤ) (p : PureProcedure) (g : Graph) → slice_get P.procedures i ≡ Some p →
+    n ≡ length P.globals → opening ≡ P.globals → i ≡ P.main → IsGraphWith n opening 0 p g →
+    (q : PureProcedure) → slice_get P.procedures i ≡ Some q → IsGraphOf P i q g
+main_found P i n opening p g at many opens is h q k =
+    let N : ℕ → Type 0 = λ m. IsGraphWith m opening 0 p g in
+    let O : List ℤ → Type 0 = λ zs. IsGraphWith (length P.globals) zs 0 p g in
+    let Q : PureProcedure → Type 0 = λ x. IsGraphOf P i x g in
+    subst Q (same_there P i p q at k) (main_graph P i p g is (subst O opens (subst N many h)))
 
-pub made_next : (ps : List Procedure) (i : ℕ) (x : Procedure) (gs hs : List Graph) (g : Graph) → Made (take i ps) gs → i < length ps →
-    x ≡ get_or ps i x → IsGraphOf (procedure_of x) g → IsTrue (statements_literals_fit (procedure_of x).body) →
-    hs ≡ gs ++ g ∷ [] → Made (take (i + 1) ps) hs
-made_next ps i x gs hs g h lt is k fits more =
-    let one_more : suc i ≡ i + 1 = omega arith in
-    let front : take (i + 1) ps ≡ take i ps ++ x ∷ [] = ap (λ j. take j ps) (sym one_more) ∙ take-suc ps i x lt
-    ∙ ap (λ y. take i ps ++ y ∷ []) (sym is) in
-    let same : map procedure_of (take (i + 1) ps) ≡ map procedure_of (take i ps) ++ procedure_of x ∷ [] = ap (map procedure_of) front
-    ∙ map_more (take i ps) x in
-    let P : List PureProcedure → Type 0 = λ l. AreGraphsOf l hs in
-    let Q : List Graph → Type 0 = λ l. AreGraphsOf (map procedure_of (take i ps) ++ procedure_of x ∷ []) l in
-    let R : List PureProcedure → Type 0 = AllFit in
-    record {
-      graphs = subst P (sym same) (subst Q (sym more) (one_more_graph (map procedure_of (take i ps)) gs (procedure_of x) g h.graphs k));
-      literals = subst R (sym same) (one_more_fits (map procedure_of (take i ps)) (procedure_of x) h.literals fits);
-    }
+pub other_found : (P : PureProgram) (i n entries : ℕ) (p : PureProcedure) (g : Graph) → slice_get P.procedures i ≡ Some p →
+    n ≡ length P.globals → entries ≡ p.params + n → (i ≡ P.main → ⊥) → IsGraphWith n [] entries p g →
+    (q : PureProcedure) → slice_get P.procedures i ≡ Some q → IsGraphOf P i q g
+other_found P i n entries p g at many enters apart h q k =
+    let E : ℕ → Type 0 = λ m. IsGraphWith n [] m p g in
+    let N : ℕ → Type 0 = λ m. IsGraphWith m [] (p.params + m) p g in
+    let Q : PureProcedure → Type 0 = λ x. IsGraphOf P i x g in
+    subst Q (same_there P i p q at k) (other_graph P i p g apart (subst N many (subst E enters h)))
 
-pub made_all : (ps : List Procedure) (i : ℕ) (gs : List Graph) → Made (take i ps) gs → length ps ≤ i → Made ps gs
-made_all ps i gs h le = let P : List Procedure → Type 0 = λ l. Made l gs in subst P (take_all ps i le) h
-  where
-    take_all : (l : List Procedure) (j : ℕ) → length l ≤ j → take j l ≡ l
-    take_all [] zero le = refl
-    take_all [] (suc j) le = refl
-    take_all (x ∷ l) zero le = absurd (omega arith)
-    take_all (x ∷ l) (suc j) le = ap (λ r. x ∷ r) (take_all l j (omega arith))
+pub fits_found : (P : PureProgram) (i : ℕ) (p : PureProcedure) → slice_get P.procedures i ≡ Some p →
+    IsTrue (statements_literals_fit p.body) →
+    (q : PureProcedure) → slice_get P.procedures i ≡ Some q → IsTrue (statements_literals_fit q.body)
+fits_found P i p at h q k =
+    let Q : PureProcedure → Type 0 = λ x. IsTrue (statements_literals_fit x.body) in subst Q (same_there P i p q at k) h
+
+-- The procedure of a number is there.
 
 pub procedure_there : (ps : List Procedure) (i : ℕ) (x : Procedure) → i < length ps → x ≡ get_or ps i x → slice_get (map procedure_of ps) i
     ≡ Some (procedure_of x)
@@ -83,19 +60,92 @@ procedure_there [] i x lt is = absurd (omega arith)
 procedure_there (y ∷ ps) zero x lt is = ap (λ z. Some (procedure_of z)) (sym is)
 procedure_there (y ∷ ps) (suc i) x lt is = procedure_there ps i x (omega arith) is
 
-module _ (P : PureProgram) (well : IsWellFormed P) (gs : List Graph) (graphs : AreGraphsOf P.procedures gs)
-    (literals : AllFit P.procedures) where
-  plain : (i : ℕ) (p : PureProcedure) → slice_get P.procedures i ≡ Some p → AllPlain p.slots p.body
-  plain i p e = body_plain P p (well.procedures_well_formed i p e) (well.products_linear i p e) (literals i p e)
+pub length_mapped : (ps : List Procedure) → length (map procedure_of ps) ≡ length ps
+length_mapped [] = refl
+length_mapped (x ∷ ps) = ap suc (length_mapped ps)
 
-  pub are_graphs : AreGraphs gs
-  are_graphs = graphs_kept P well plain gs graphs
+there_at : (ps : List PureProcedure) (i : ℕ) → i < length ps → (p : PureProcedure) × (slice_get ps i ≡ Some p)
+there_at [] i lt = absurd (omega arith)
+there_at (p ∷ ps) zero lt = (p, refl)
+there_at (p ∷ ps) (suc i) lt = there_at ps i (omega arith)
 
-  pub are_bounded : AreBounded P gs
-  are_bounded = all_bounded P gs plain graphs
+-- One graph after another.
 
-  pub same_runs : SameRuns P gs
-  same_runs = record {
-    program_to_graphs = λ d p args ins out ok h. run_of_graph P gs graphs procedure_at plain d p args ins out ok h;
-    graphs_to_program = λ d p args ins end ok h. graph_of_run P gs graphs procedure_at plain d p args ins end ok h;
-  }
+pub made_none : (P : PureProgram) → Made P 0 []
+made_none P = record { graphs = tt; literals = λ j p lt e. absurd (omega arith); opening = λ j lt e. absurd (omega arith) }
+
+one_more : (P : PureProgram) (k j : ℕ) (ps : List PureProcedure) (i : ℕ) (p : PureProcedure) (gs : List Graph) (g : Graph) →
+    AreGraphsOf P k (take i ps) gs → slice_get ps i ≡ Some p → j ≡ k + i → IsGraphOf P j p g →
+    AreGraphsOf P k (take (suc i) ps) (gs ++ g ∷ [])
+one_more P k j [] i p gs g h e is new = cc
+one_more P k j (q ∷ ps) zero p [] g h e is new =
+    let same : q ≡ p = cc in
+    let at : j ≡ k = omega (arith, is) in
+    let Q : PureProcedure → Type 0 = λ x. IsGraphOf P k x g in
+    let J : ℕ → Type 0 = λ x. IsGraphOf P x p g in
+    (subst Q (sym same) (subst J at new), tt)
+one_more P k j (q ∷ ps) zero p (x ∷ gs) g h e is new = absurd h
+one_more P k j (q ∷ ps) (suc i) p [] g h e is new = absurd h
+one_more P k j (q ∷ ps) (suc i) p (x ∷ gs) g h e is new =
+    (h.0, one_more P (suc k) j ps i p gs g h.1 e (omega (arith, is)) new)
+
+literals_on : (P : PureProgram) (i : ℕ) → ((p : PureProcedure) → slice_get P.procedures i ≡ Some p →
+    IsTrue (statements_literals_fit p.body)) →
+    ((j : ℕ) (p : PureProcedure) → j < i → slice_get P.procedures j ≡ Some p → IsTrue (statements_literals_fit p.body)) →
+    (j : ℕ) (p : PureProcedure) → j < i + 1 → slice_get P.procedures j ≡ Some p → IsTrue (statements_literals_fit p.body)
+literals_on P i here below j p lt e = by_order (eqb j i) refl
+  where
+    by_order : (b : Bool) → eqb j i ≡ b → IsTrue (statements_literals_fit p.body)
+    by_order true is = let same : j ≡ i = eqb-true j i is in here p (sym (ap (slice_get P.procedures) same) ∙ e)
+    by_order false is = let apart = eqb-false j i is in below j p (omega (arith, lt, apart)) e
+
+opening_on : (P : PureProgram) (i : ℕ) → (i ≡ P.main → AreAllValues P.globals) → ((j : ℕ) → j < i → j ≡ P.main → AreAllValues P.globals) →
+    (j : ℕ) → j < i + 1 → j ≡ P.main → AreAllValues P.globals
+opening_on P i here below j lt e = by_order (eqb j i) refl
+  where
+    by_order : (b : Bool) → eqb j i ≡ b → AreAllValues P.globals
+    by_order true is = let same : j ≡ i = eqb-true j i is in here (sym same ∙ e)
+    by_order false is = let apart = eqb-false j i is in below j (omega (arith, lt, apart)) e
+
+pub made_next : (P : PureProgram) (i : ℕ) (gs hs : List Graph) (g : Graph) → Made P i gs → i < length P.procedures →
+    ((p : PureProcedure) → slice_get P.procedures i ≡ Some p → IsGraphOf P i p g) →
+    ((p : PureProcedure) → slice_get P.procedures i ≡ Some p → IsTrue (statements_literals_fit p.body)) →
+    (i ≡ P.main → AreAllValues P.globals) → hs ≡ gs ++ g ∷ [] → Made P (i + 1) hs
+made_next P i gs hs g h lt new fits opens more =
+    let found = there_at P.procedures i lt in
+    let next : suc i ≡ i + 1 = omega arith in
+    let zeroth : i ≡ 0 + i = omega arith in
+    let G : List Graph → Type 0 = λ l. AreGraphsOf P 0 (take (i + 1) P.procedures) l in
+    let N : ℕ → Type 0 = λ n. AreGraphsOf P 0 (take n P.procedures) (gs ++ g ∷ []) in
+    record {
+      graphs = subst G (sym more) (subst N next (one_more P 0 i P.procedures i found.0 gs g h.graphs found.1 zeroth (new found.0 found.1)));
+      literals = literals_on P i fits h.literals;
+      opening = opening_on P i opens h.opening;
+    }
+
+take_all : (l : List PureProcedure) (j : ℕ) → length l ≤ j → take j l ≡ l
+take_all [] zero le = refl
+take_all [] (suc j) le = refl
+take_all (x ∷ l) zero le = absurd (omega arith)
+take_all (x ∷ l) (suc j) le = ap (λ r. x ∷ r) (take_all l j (omega arith))
+
+index_low : (ps : List PureProcedure) (j : ℕ) (p : PureProcedure) → slice_get ps j ≡ Some p → j < length ps
+index_low [] j p e = cc
+index_low (x ∷ ps) zero p e = omega arith
+index_low (x ∷ ps) (suc j) p e = let lt = index_low ps j p e in omega (arith, lt)
+
+taken_low : (ps : List PureProcedure) (j n : ℕ) → IsTrue (takes (slice_get ps j) n) → j < length ps
+taken_low [] j n h = cc
+taken_low (x ∷ ps) zero n h = omega arith
+taken_low (x ∷ ps) (suc j) n h = let lt = taken_low ps j n h in omega (arith, lt)
+
+-- behind the loop each procedure has its graph
+module _ (P : PureProgram) (i : ℕ) (gs : List Graph) (h : Made P i gs) (all : length P.procedures ≤ i) where
+  pub all_graphs : AreGraphsOf P 0 P.procedures gs
+  all_graphs = let A : List PureProcedure → Type 0 = λ l. AreGraphsOf P 0 l gs in subst A (take_all P.procedures i all) h.graphs
+
+  pub all_opening : IsTrue (takes (slice_get P.procedures P.main) 0) → AreAllValues P.globals
+  all_opening main = let lt = taken_low P.procedures P.main 0 main in h.opening P.main (omega (arith, lt, all)) refl
+
+  pub all_literals : AllFit P.procedures
+  all_literals = λ j p e. let lt = index_low P.procedures j p e in h.literals j p (omega (arith, lt, all)) e

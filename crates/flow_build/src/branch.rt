@@ -24,7 +24,7 @@ fn one_row(alloc: Global, row: Atom) -> Result<Atoms, AllocError>
     Ok(rows)
 }
 
-fn two_rows(alloc: Global, first: Atom, second: Atom) -> Result<Atoms, AllocError>
+pub fn two_rows(alloc: Global, first: Atom, second: Atom) -> Result<Atoms, AllocError>
     ensures { IfOk result (λ rows. rows ≡ first ∷ second ∷ []) }
 {
     let mut rows = Atoms::with_capacity(alloc, 2)?;
@@ -128,7 +128,9 @@ fn push_ways(
             push_less(b, alloc, from, target, right, left)?;
             push_less(b, alloc, from, target, left, right)
         }
-        Op::Add | Op::Subtract | Op::Multiply | Op::And | Op::Or => Ok(()),
+        Op::Add | Op::Subtract | Op::Multiply | Op::Divide | Op::Remainder | Op::And | Op::Or => Ok(
+            (),
+        ),
     }
 }
 

@@ -1,12 +1,14 @@
 //! What is known of expressions before the run.
 
-ghost use Rattle.std.specs.Prelude.{◌≡◌, ◌+ℤ◌, ◌-ℤ◌, OnSome, IsTrue};
+ghost use Rattle.std.specs.Prelude.{◌≡◌, ◌≤◌, ◌^◌, ◌+ℤ◌, ◌-ℤ◌, Some, unsigned_abs, OnSome, IsTrue};
+ghost use Rattle.c_tree.specs.WellFormed.{is_divisor, nodes};
 ghost use Rattle.c_tree.specs.View.{expression_of, expressions_of};
-ghost use Rattle.flow_build.specs.Constants.{constant_value};
+ghost use Rattle.c_tree.specs.Constants.{constant_value};
 ghost use Rattle.flow_build.specs.steps.Translation.{has_call, have_call, value_of, overflows};
 ghost use Rattle.flow_build.specs.steps.Operands.{overflows_in_place};
 ghost use Rattle.flow_build.specs.steps.Building.{literals_fit};
 
+use crate::layout::Layout;
 use crate::operand::Operand;
 use c_tree::tree::Expr;
 
@@ -27,12 +29,26 @@ pub fn constant_value(e: &Expr) -> Option<i64>
     }
 }
 
+/// The literal by which an expression divides.
+pub fn divisor(e: &Expr) -> i64
+    requires { IsTrue (is_divisor (expression_of e.now)) }
+    ensures value { constant_value (expression_of e.now) ≡ Some result }
+    ensures small { unsigned_abs result ≤ 2 ^ 40 }
+    ensures literals { IsTrue (literals_fit (expression_of e.now)) }
+    ensures nodes { nodes (expression_of e.now) ≡ 1 }
+{
+    match e {
+        Expr::Literal(n) => *n,
+        _ => unreachable!(),
+    }
+}
+
 /// Whether a call stands in the expression.
 pub fn has_call(e: &Expr) -> bool
     ensures { result ≡ has_call (expression_of e.now) }
 {
     match e {
-        Expr::Literal(_) | Expr::Read(_) | Expr::Input => false,
+        Expr::Literal(_) | Expr::Read(_) | Expr::ReadGlobal(_) | Expr::Input => false,
         Expr::Call(_, _) => true,
         Expr::Negate(inner) => has_call(inner),
         Expr::Not(inner) => has_call(inner),
@@ -61,9 +77,9 @@ pub fn overflows_by(coefficient: i64, a: Operand) -> bool
 }
 
 /// Whether both sides are literals whose exact sum is no value.
-pub fn sum_overflows(left: &Expr, right: &Expr) -> bool
-    ensures { result ≡ overflows (λ x y. x +ℤ y) (value_of (expression_of left.now))
-        (value_of (expression_of right.now)) }
+pub fn sum_overflows(layout: Layout, left: &Expr, right: &Expr) -> bool
+    ensures { result ≡ overflows (λ x y. x +ℤ y) (value_of layout (expression_of left.now))
+        (value_of layout (expression_of right.now)) }
 {
     match (left, right) {
         (Expr::Literal(x), Expr::Literal(y)) => x.checked_add(*y).is_none(),
@@ -72,9 +88,9 @@ pub fn sum_overflows(left: &Expr, right: &Expr) -> bool
 }
 
 /// Whether both sides are literals whose exact difference is no value.
-pub fn difference_overflows(left: &Expr, right: &Expr) -> bool
-    ensures { result ≡ overflows (λ x y. x -ℤ y) (value_of (expression_of left.now))
-        (value_of (expression_of right.now)) }
+pub fn difference_overflows(layout: Layout, left: &Expr, right: &Expr) -> bool
+    ensures { result ≡ overflows (λ x y. x -ℤ y) (value_of layout (expression_of left.now))
+        (value_of layout (expression_of right.now)) }
 {
     match (left, right) {
         (Expr::Literal(x), Expr::Literal(y)) => x.checked_sub(*y).is_none(),

@@ -1,6 +1,6 @@
 //! Where values and tests leave off.
 
-ghost use Rattle.std.specs.Prelude.{◌≡◌, ◌+◌, ◌<◌, ◌^◌, ◌++◌, ◌∷◌, [], ◌&&◌, not, pos, false, IfOk, OnOk, IsTrue};
+ghost use Rattle.std.specs.Prelude.{◌≡◌, ◌+◌, ◌<◌, ◌^◌, ◌++◌, ◌∷◌, [], ◌&&◌, not, pos, true, false, IfOk, OnOk, IsTrue};
 ghost use Rattle.flow_graph.specs.declared.graph.Edge.TheVariants.{Assign};
 ghost use Rattle.flow_build.specs.steps.Operands.{overflows_in_place, scaled_lin, constant_lin};
 ghost use Rattle.flow_build.specs.steps.Building.{is_landed, copied, copied_node, copied_nodes, copied_operand};
@@ -37,6 +37,21 @@ pub fn in_slot(node: u32, own: u32, slot: u32) -> Landed
         operand: Operand::Variable(own),
         slot,
         in_place: false,
+    }
+}
+
+/// A variable in place.
+pub fn in_place(node: u32, variable: Slot, slot: u32) -> Landed
+    ensures node { result.node ≡ node }
+    ensures operand { result.operand ≡ Operand.Variable variable }
+    ensures slot { result.slot ≡ slot }
+    ensures in_place { result.in_place ≡ true }
+{
+    Landed {
+        node,
+        operand: Operand::Variable(variable),
+        slot,
+        in_place: true,
     }
 }
 

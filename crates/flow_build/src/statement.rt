@@ -5,13 +5,14 @@ ghost use Rattle.c_tree.specs.Syntax.{block, if_else, loop, do_while};
 ghost use Rattle.c_tree.specs.View.{expression_of, statement_of, statements_of};
 ghost use Rattle.c_tree.specs.WellFormed.{nodes, statement_nodes, statements_nodes};
 ghost use Rattle.flow_graph.specs.declared.graph.Edge.TheVariants.{Guard};
-ghost use Rattle.flow_build.specs.steps.Building.{node_where, one_if, literals_fit, statement_literals_fit, statements_literals_fit};
+ghost use Rattle.flow_build.specs.steps.Building.{node_where, one_if, literals_fit, statement_literals_fit, statements_literals_fit, is_lowerable, is_lowerable_statement, are_lowerable_statements};
 ghost use Rattle.flow_build.specs.steps.Additions.{HasRoom, TakesFew};
 ghost use Rattle.flow_build.specs.steps.StatementAdditions.{AddsSet, AddsResult, AddsStatement};
 
 use crate::builder::Builder;
 use crate::expression::{test, value};
 use crate::landing::kept_if;
+use crate::layout::{Layout, with_globals};
 use crate::linear::{constant_lin, operand_lin};
 use crate::target::Target;
 use c_tree::tree::{Expr, Slot, Stmt};
@@ -30,7 +31,8 @@ pub const RETURN_NODE: u32 = 3;
 pub struct Frame {
     /// Whether the procedure gives a value.
     pub gives: bool,
-    /// The first slot behind the variables.
+    pub layout: Layout,
+    /// The first slot behind the variables and the globals.
     pub free: u32,
 }
 
@@ -73,19 +75,20 @@ fn give_back(
     from: u32,
 ) -> Result<u32, AllocError>
     requires room { HasRoom (1 + nodes (expression_of e.now)) frame.free b.old }
+    requires lowerable { IsTrue (is_lowerable (expression_of e.now)) }
     ensures adds { IfOk result (λ l. AddsResult (expression_of e.now) frame from b.old b.new l) }
     ensures few { IfOk result (λ l. TakesFew (1 + nodes (expression_of e.now)) frame.free b.old
         b.new l) }
     ensures literals { OnOk result (IsTrue (literals_fit (expression_of e.now))) }
 {
-    let landed = value(b, alloc, e, from, frame.free)?;
+    let landed = value(b, alloc, frame.layout, e, from, frame.free)?;
     let keep = landed.operand.is_constant();
     let landed = kept_if(b, alloc, keep, landed)?;
     let edge = if frame.gives {
         Edge::Return {
             from: landed.node,
             to: EXIT_NODE,
-            slot: landed.operand.slot(),
+            slots: with_globals(alloc, landed.operand.slot(), frame.layout)?,
         }
     } else {
         Edge::Assign {
@@ -110,6 +113,7 @@ pub fn statement(
     exits: Exits,
 ) -> Result<u32, AllocError>
     requires room { HasRoom (statement_nodes (statement_of s.now)) frame.free b.old }
+    requires lowerable { IsTrue (is_lowerable_statement (statement_of s.now)) }
     ensures adds { IfOk result (λ l. AddsStatement (statement_of s.now) frame from exits b.old b.new
         l) }
     ensures few { IfOk result (λ l. TakesFew (statement_nodes (statement_of s.now)) frame.free b.old
@@ -118,19 +122,28 @@ pub fn statement(
 {
     match s {
         Stmt::Block(ss) => block(b, alloc, ss, frame, from, exits),
-        Stmt::Set(x, e) => set(b, alloc, *x, e, frame, from, exits.to),
+        Stmt::Set(x, e) => {
+            let slot = frame.layout.variable(*x);
+            set(b, alloc, slot, e, frame, from, exits.to)
+        }
+        Stmt::SetGlobal(y, e) => {
+            let slot = frame.layout.global(*y);
+            set(b, alloc, slot, e, frame, from, exits.to)
+        }
         Stmt::Ignore(e) => {
-            let landed = value(b, alloc, e, from, frame.free)?;
+            let landed = value(b, alloc, frame.layout, e, from, frame.free)?;
             skip(b, alloc, landed.node, exits.to)?;
             Ok(landed.slot)
         }
         Stmt::Assume(e) => {
-            let met = Target::Node(exits.to);
-            test(b, alloc, e, from, met, Target::Nowhere, frame.free)
+            let (met, unmet) = (Target::Node(exits.to), Target::Nowhere);
+            let layout = frame.layout;
+            test(b, alloc, layout, e, from, met, unmet, frame.free)
         }
         Stmt::Assert(id, e) => {
-            let met = Target::Node(exits.to);
-            test(b, alloc, e, from, met, Target::Fails(*id), frame.free)
+            let (met, unmet) = (Target::Node(exits.to), Target::Fails(*id));
+            let layout = frame.layout;
+            test(b, alloc, layout, e, from, met, unmet, frame.free)
         }
         Stmt::If(e, met, unmet) => choice(b, alloc, e, met, unmet, frame, from, exits),
         Stmt::Loop { test, step, body } => {
@@ -169,6 +182,7 @@ pub fn block(
     exits: Exits,
 ) -> Result<u32, AllocError>
     requires room { HasRoom (1 + statements_nodes (statements_of ss.now)) frame.free b.old }
+    requires lowerable { IsTrue (are_lowerable_statements (statements_of ss.now)) }
     ensures adds { IfOk result (λ l. AddsStatement (block (statements_of ss.now)) frame from exits
         b.old b.new l) }
     ensures few { IfOk result (λ l. TakesFew (1 + statements_nodes (statements_of ss.now))
@@ -192,7 +206,7 @@ pub fn block(
     Ok(free)
 }
 
-/// An assignment to a variable.
+/// An assignment to a slot.
 fn set(
     b: &mut Builder,
     alloc: Global,
@@ -203,13 +217,14 @@ fn set(
     to: u32,
 ) -> Result<u32, AllocError>
     requires room { HasRoom (nodes (expression_of e.now)) frame.free b.old }
+    requires lowerable { IsTrue (is_lowerable (expression_of e.now)) }
     ensures adds { IfOk result (λ l. AddsSet variable (expression_of e.now) frame from to b.old
         b.new l) }
     ensures few { IfOk result (λ l. TakesFew (nodes (expression_of e.now)) frame.free b.old b.new
         l) }
     ensures literals { OnOk result (IsTrue (literals_fit (expression_of e.now))) }
 {
-    let landed = value(b, alloc, e, from, frame.free)?;
+    let landed = value(b, alloc, frame.layout, e, from, frame.free)?;
     let value = operand_lin(alloc, landed.operand)?;
     b.push(Edge::Assign {
         from: landed.node,
@@ -236,6 +251,9 @@ fn choice(
         (1 + nodes (expression_of e.now) + statement_nodes (statement_of met.now) + statement_nodes
         (statement_of unmet.now))
         frame.free b.old }
+    requires test { IsTrue (is_lowerable (expression_of e.now)) }
+    requires met { IsTrue (is_lowerable_statement (statement_of met.now)) }
+    requires unmet { IsTrue (is_lowerable_statement (statement_of unmet.now)) }
     ensures adds { IfOk result
         (λ l. AddsStatement (if_else (expression_of e.now) (statement_of met.now)
         (statement_of unmet.now))
@@ -254,6 +272,7 @@ fn choice(
     let tested = test(
         b,
         alloc,
+        frame.layout,
         e,
         from,
         Target::Node(first),
@@ -281,6 +300,9 @@ fn repetition(
         (1 + nodes (expression_of e.now) + statement_nodes (statement_of step.now) + statement_nodes
         (statement_of body.now))
         frame.free b.old }
+    requires test { IsTrue (is_lowerable (expression_of e.now)) }
+    requires step { IsTrue (is_lowerable_statement (statement_of step.now)) }
+    requires body { IsTrue (is_lowerable_statement (statement_of body.now)) }
     ensures adds { IfOk result
         (λ l. AddsStatement (loop (expression_of e.now) (statement_of step.now)
         (statement_of body.now))
@@ -299,6 +321,7 @@ fn repetition(
     let tested = test(
         b,
         alloc,
+        frame.layout,
         e,
         from,
         Target::Node(inner),
@@ -334,6 +357,8 @@ fn tested_repetition(
     requires room { HasRoom (1 + statement_nodes (statement_of body.now)
         + nodes (expression_of e.now))
         frame.free b.old }
+    requires body { IsTrue (is_lowerable_statement (statement_of body.now)) }
+    requires test { IsTrue (is_lowerable (expression_of e.now)) }
     ensures adds { IfOk result
         (λ l. AddsStatement (do_while (statement_of body.now) (expression_of e.now)) frame from
         exits b.old b.new l) }
@@ -354,6 +379,7 @@ fn tested_repetition(
     let tested = test(
         b,
         alloc,
+        frame.layout,
         e,
         again,
         Target::Node(from),

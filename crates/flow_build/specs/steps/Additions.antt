@@ -3,24 +3,25 @@ use Rattle.std.specs.Prelude.{◌≡◌, ℕ, ◌+◌, ◌*◌, ◌≤◌, Bool,
 use Rattle.c_tree.specs.declared.tree.Op.{Op}
 use Rattle.c_tree.specs.Syntax.{Expression}
 use Rattle.flow_build.specs.declared.builder.Builder.{Builder}
+use Rattle.flow_build.specs.declared.layout.Layout.{Layout}
 use Rattle.flow_build.specs.declared.landing.Landed.{Landed}
 use Rattle.flow_build.specs.declared.landing.Reached.{Reached}
 use Rattle.flow_build.specs.declared.landing.BothSides.{BothSides}
 use Rattle.flow_build.specs.declared.target.Target.{Target}
 use Rattle.flow_build.specs.steps.Forms.{Value, Values, Test}
-use Rattle.flow_build.specs.Constants.{constant_value}
+use Rattle.c_tree.specs.Constants.{constant_value}
 use Rattle.flow_build.specs.steps.Translation.{has_call, in_slot, kept_if, value_by, test_by, value_of, test_of}
 use Rattle.flow_build.specs.steps.Blocks.{Block, edges_of}
 use Rattle.flow_build.specs.steps.Lowering.{operand_at, landing, landing_of_all, argument_slot, nodes_of, nodes_of_all, nodes_of_test, slots_of, slots_of_all, slots_of_test, value_blocks, values_blocks, test_blocks}
 use Rattle.flow_build.specs.steps.Building.{is_in_place}
 
-abbrev pub binary_value : Op → Expression → Expression → Value
-binary_value op a b = value_by op (constant_value a) (constant_value b) (has_call b) (value_of a)
-    (value_of b) (test_of a) (test_of b)
+abbrev pub binary_value : Layout → Op → Expression → Expression → Value
+binary_value L op a b = value_by op (constant_value a) (constant_value b) (has_call b)
+    (value_of L a) (value_of L b) (test_of L a) (test_of L b)
 
-abbrev pub binary_test : Op → Expression → Expression → Test
-binary_test op a b = test_by op (constant_value a) (constant_value b) (has_call b) (value_of a)
-    (value_of b) (test_of a) (test_of b)
+abbrev pub binary_test : Layout → Op → Expression → Expression → Test
+binary_test L op a b = test_by op (constant_value a) (constant_value b) (has_call b)
+    (value_of L a) (value_of L b) (test_of L a) (test_of L b)
 
 abbrev pub argument_of : (later_call : Bool) → Value → Value
 argument_of later_call v = in_slot (kept_if later_call v)

@@ -1,6 +1,8 @@
 -- What the builder adds.
-use Rattle.std.specs.Prelude.{ℕ, Bool, true, false, ◌&&◌, List, [], ◌∷◌, Option, None, Some}
-use Rattle.c_tree.specs.Syntax.{Expression, literal, read, input, call, negate, not as not_of, binary, Expressions, no_expressions, expression, Statement, block, set, ignore, assume, assert, if_else, loop, do_while, break, continue, return, Statements, no_statements, statement}
+use Rattle.std.specs.Prelude.{ℕ, nat_lt, Bool, true, false, not, ◌&&◌, ◌||◌, List, [], ◌∷◌, Option, None, Some}
+use Rattle.c_tree.specs.Syntax.{Expression, literal, read, read_global, input, call, negate, not as not_of, binary, Expressions, no_expressions, expression, Statement, block, set, set_global, ignore, assume, assert, if_else, loop, do_while, break, continue, return, Statements, no_statements, statement}
+use Rattle.c_tree.specs.Operators.{is_division}
+use Rattle.c_tree.specs.WellFormed.{is_divisor}
 use Rattle.c_tree.specs.Meaning.{is_value}
 use Rattle.flow_graph.specs.declared.graph.Edge.{Edge}
 use Rattle.flow_graph.specs.declared.graph.Edge.TheVariants.{Assign}
@@ -58,6 +60,7 @@ abbrev mutual
   pub literals_fit : Expression → Bool
   literals_fit (literal n) = is_value n
   literals_fit (read x) = true
+  literals_fit (read_global y) = true
   literals_fit input = true
   literals_fit (call p es) = all_literals_fit es
   literals_fit (negate e) = literals_fit e
@@ -76,6 +79,7 @@ abbrev mutual
   pub statement_literals_fit : Statement → Bool
   statement_literals_fit (block ss) = statements_literals_fit ss
   statement_literals_fit (set x e) = literals_fit e
+  statement_literals_fit (set_global y e) = literals_fit e
   statement_literals_fit (ignore e) = literals_fit e
   statement_literals_fit (assume e) = literals_fit e
   statement_literals_fit (assert id e) = literals_fit e
@@ -91,3 +95,46 @@ abbrev mutual
   pub statements_literals_fit : Statements → Bool
   statements_literals_fit no_statements = true
   statements_literals_fit (statement s ss) = statement_literals_fit s && statements_literals_fit ss
+
+-- names within the limits of programs, and divisors that are literals
+abbrev mutual
+  pub is_lowerable : Expression → Bool
+  is_lowerable (literal n) = true
+  is_lowerable (read x) = nat_lt x 24
+  is_lowerable (read_global y) = nat_lt y 16
+  is_lowerable input = true
+  is_lowerable (call p es) = are_lowerable es
+  is_lowerable (negate e) = is_lowerable e
+  is_lowerable (not_of e) = is_lowerable e
+  is_lowerable (binary op a b) = (not (is_division op) || is_divisor b) && is_lowerable a &&
+      is_lowerable b
+
+  pub are_lowerable : Expressions → Bool
+  are_lowerable no_expressions = true
+  are_lowerable (expression e es) = is_lowerable e && are_lowerable es
+
+abbrev pub is_lowerable_result : Option Expression → Bool
+is_lowerable_result None = true
+is_lowerable_result (Some e) = is_lowerable e
+
+abbrev mutual
+  pub is_lowerable_statement : Statement → Bool
+  is_lowerable_statement (block ss) = are_lowerable_statements ss
+  is_lowerable_statement (set x e) = nat_lt x 24 && is_lowerable e
+  is_lowerable_statement (set_global y e) = nat_lt y 16 && is_lowerable e
+  is_lowerable_statement (ignore e) = is_lowerable e
+  is_lowerable_statement (assume e) = is_lowerable e
+  is_lowerable_statement (assert id e) = is_lowerable e
+  is_lowerable_statement (if_else e a b) = is_lowerable e && is_lowerable_statement a &&
+      is_lowerable_statement b
+  is_lowerable_statement (loop e step body) = is_lowerable e && is_lowerable_statement step &&
+      is_lowerable_statement body
+  is_lowerable_statement (do_while body e) = is_lowerable_statement body && is_lowerable e
+  is_lowerable_statement break = true
+  is_lowerable_statement continue = true
+  is_lowerable_statement (return o) = is_lowerable_result o
+
+  pub are_lowerable_statements : Statements → Bool
+  are_lowerable_statements no_statements = true
+  are_lowerable_statements (statement s ss) = is_lowerable_statement s && are_lowerable_statements
+      ss

@@ -1,5 +1,5 @@
 -- What edges do with operands.
-use Rattle.std.specs.Prelude.{ℕ, Bool, true, false, not, List, [], ◌∷◌, ◌++◌, ℤ, pos, negsuc, ◌+ℤ◌, ◌-ℤ◌, ◌*ℤ◌}
+use Rattle.std.specs.Prelude.{ℕ, Bool, true, false, not, List, [], ◌∷◌, ◌++◌, ℤ, pos, negsuc, ◌+ℤ◌, ◌-ℤ◌, ◌*ℤ◌, neg_ℤ}
 use Rattle.c_tree.specs.Meaning.{is_value}
 use Rattle.c_tree.specs.declared.tree.Op.{Op}
 use Rattle.c_tree.specs.declared.tree.Op.TheVariants.{Less, LessEqual, Greater, GreaterEqual, Equal, Unequal}
@@ -62,6 +62,10 @@ abbrev pub operand_sum : Operand → LinearSum
 operand_sum (Variable x) = column_sum x
 operand_sum (Constant n) = constant_sum n
 
+-- c * a + d * b + k
+abbrev pub weighted_sum : ℤ → Operand → ℤ → Operand → ℤ → LinearSum
+weighted_sum c a d b k = combination ((c, operand_sum a) ∷ (d, operand_sum b) ∷ []) k
+
 -- a - b + k <= 0
 abbrev pub row : Operand → Operand → ℤ → Atom
 row a b k = record {
@@ -93,3 +97,24 @@ opposite_op GreaterEqual = Less
 opposite_op Equal = Unequal
 opposite_op Unequal = Equal
 opposite_op op = op
+
+-- k times one slot and another one's, and a constant, at most 0
+abbrev pub multiple_row : (c d : ℤ) → (x y : ℕ) → ℤ → Atom
+multiple_row c d x y k = record {
+  term = combination ((c, column_sum x) ∷ (d, column_sum y) ∷ []) k;
+}
+
+-- slot t has the quotient of slot a by k, from 0 on and below 0
+abbrev pub rows_above : (k a t : ℕ) → List Atom
+rows_above k a t =
+    multiple_row (pos k) (negsuc 0) t a (pos 0)
+    ∷ multiple_row (pos 1) (neg_ℤ (pos k)) a t (pos 1 -ℤ pos k) ∷ []
+
+abbrev pub rows_below : (k a t : ℕ) → List Atom
+rows_below k a t =
+    multiple_row (pos 1) (neg_ℤ (pos k)) a t (pos 0)
+    ∷ multiple_row (pos k) (negsuc 0) t a (pos 1 -ℤ pos k) ∷ []
+
+-- slot a less c times slot t
+abbrev pub rest_lin : (c : ℤ) → (a t : ℕ) → Lin
+rest_lin c a t = record { parts = (pos 1, a) ∷ (neg_ℤ c, t) ∷ []; constant = pos 0 }

@@ -35,3 +35,15 @@ decreases-arithmetic l = 6 * weight (expression_of l.left.now) + 6 * weight (exp
 
 abbrev pub decreases-condition : goal.decreases-condition
 decreases-condition l = 6 * weight (expression_of l.left.now) + 6 * weight (expression_of l.right.now) + 2
+
+abbrev pub decreases-operation : goal.decreases-operation
+decreases-operation l = 6 * weight (expression_of l.left.now) + 6 * weight (expression_of l.right.now) + 4
+
+abbrev pub decreases-division : goal.decreases-division
+decreases-division l = 6 * weight (expression_of l.left.now) + 6 * weight (expression_of l.right.now) + 3
+
+abbrev pub decreases-quotient : goal.decreases-quotient
+decreases-quotient l = 6 * weight (expression_of l.e.now) + 2
+
+abbrev pub decreases-remainder : goal.decreases-remainder
+decreases-remainder l = 6 * weight (expression_of l.e.now) + 2

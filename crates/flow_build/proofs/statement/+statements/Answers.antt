@@ -1,4 +1,4 @@
-use Rattle.std.proofs.Common.{◌≡◌, ℕ, ◌+◌, [], max, IfOk, OnOk, IsTrue, sym, ap, ◌∙◌, subst, arith}
+use Rattle.std.proofs.Common.{◌≡◌, ℕ, ◌+◌, [], max, not, eqb, length, IfOk, OnOk, IsTrue, sym, ap, ◌∙◌, subst, arith}
 use Rattle.c_tree.proofs.Rows.{block_of}
 use Rattle.c_tree.specs.Syntax.{Statement, block, ignore, if_else, loop, do_while}
 use Rattle.c_tree.specs.View.{expression_of, statement_of, statements_of}
@@ -6,10 +6,10 @@ use Rattle.c_tree.specs.WellFormed.{statement_nodes, statements_nodes}
 use Rattle.flow_graph.specs.declared.graph.Edge.{Edge}
 use Rattle.flow_graph.specs.declared.graph.Edge.TheVariants.{Guard}
 use Rattle.flow_build.specs.steps.Translation.{value_of}
-use Rattle.flow_build.specs.steps.Building.{statement_literals_fit}
+use Rattle.flow_build.specs.steps.Building.{statement_literals_fit, is_lowerable_statement}
 use Rattle.flow_build.specs.steps.Additions.{TakesFew}
 use Rattle.flow_build.specs.steps.StatementAdditions.{AddsStatement}
-use Rattle.flow_build.proofs.AddingStatements.{choice_added, repetition_added, tested_repetition_added, value_then, block_turns, block_ends}
+use Rattle.flow_build.proofs.AddingStatements.{choice_added, repetition_added, tested_repetition_added, value_then, next_lowerable, next_nodes, few_if, block_turns, block_ends}
 use Rattle.flow_build.proofs.statement.+statements.Goals as goal
 
 pub choice-returns-clause-adds : goal.choice-returns-clause-adds
@@ -56,15 +56,40 @@ tested_repetition-returns-clause-adds t c =
 pub block-returns-clause-adds : goal.block-returns-clause-adds
 block-returns-clause-adds t c =
     block_ends c.args.ss.now c.loop-i.i c.args.frame c.args.from c.args.exits c.args.b.now c.loop-i.b c.loop-i.node c.loop-i.free
-    c.is_empty.result c.loop-i.invariant c.loop-i-test.false c.is_empty.ensures c.if-is_empty.false
+    c.is_empty.result c.loop-i.invariant.left c.loop-i-test.false c.is_empty.ensures c.if-is_empty.false
 
 pub block-loop-i-preserved : goal.block-loop-i-preserved
-block-loop-i-preserved t c =
-    block_turns c.args.ss.now c.loop-i.i c.index-ss-i.result c.args.frame c.args.from c.args.exits c.args.b.now c.loop-i.b
-    c.next_node-to.new.b c.statement.new.b c.loop-i.node c.next_node-to.result c.loop-i.free c.max-free.result c.in_ok-reached.reached
-    c.loop-i.invariant c.loop-i-test.true c.index-ss-i.is c.next_node-to.ensures.edges c.next_node-to.ensures.next
-    c.next_node-to.ensures.node
-    c.in_ok-reached.ensures.adds c.in_ok-reached.ensures.few c.in_ok-reached.ensures.literals c.max-free.ensures
+block-loop-i-preserved t c = record {
+  left = block_turns c.args.ss.now c.loop-i.i c.index-ss-i.result c.args.frame c.args.from c.args.exits c.args.b.now c.loop-i.b
+      c.next_node-to.new.b c.statement.new.b c.loop-i.node c.next_node-to.result c.loop-i.free c.max-free.result c.in_ok-reached.reached
+      c.loop-i.invariant.left c.loop-i-test.true c.index-ss-i.is c.next_node-to.ensures.edges c.next_node-to.ensures.next
+      c.next_node-to.ensures.node
+      c.in_ok-reached.ensures.adds c.in_ok-reached.ensures.few c.in_ok-reached.ensures.literals c.max-free.ensures;
+  lowerable = (next_lowerable c.args.ss.now c.loop-i.i c.index-ss-i.result c.loop-i-test.true c.index-ss-i.is
+      c.loop-i.invariant.lowerable).1;
+}
+
+pub block-statement-requires : goal.block-statement-requires
+block-statement-requires t c =
+    let es = c.args.ss.now in
+    let i = c.loop-i.i in
+    let x = c.index-ss-i.result in
+    let few = next_nodes es i x c.loop-i-test.true c.index-ss-i.is in
+    let left = c.loop-i.invariant.left in
+    let fewer = left.fewer in
+    let nodes = left.few_nodes in
+    let room = c.requires.room in
+    let new = c.next_node-to.ensures.next in
+    let one = few_if (not (eqb (i + 1) (length es))) in (
+      omega (arith, few, fewer),
+      (
+        record {
+          nodes = let r = room.nodes in omega (arith, r, few, nodes, new, one);
+          slots = let r = room.slots in omega (arith, r, few, fewer);
+        },
+        (next_lowerable c.args.ss.now c.loop-i.i c.index-ss-i.result c.loop-i-test.true c.index-ss-i.is c.loop-i.invariant.lowerable).0,
+      ),
+    )
 
 pub statement-returns-in_ok-skip-in-Ignore-clause-adds : goal.statement-returns-in_ok-skip-in-Ignore-clause-adds
 statement-returns-in_ok-skip-in-Ignore-clause-adds t c =
@@ -77,7 +102,7 @@ statement-returns-in_ok-skip-in-Ignore-clause-adds t c =
     subst P (sym same)
     (record {
       blocks = record {
-        edges = value_then (value_of e) d c.args.from c.args.frame.free c.args.b.now c.value.new.b c.skip.new.b l h
+        edges = value_then (value_of c.args.frame.layout e) d c.args.from c.args.frame.free c.args.b.now c.value.new.b c.skip.new.b l h
             c.in_ok-skip-in-Ignore.ensures.edges c.skip.ensures.next;
         next = c.skip.ensures.next ∙ h.blocks.next;
       };
@@ -88,14 +113,18 @@ pub statement-block-requires : goal.statement-block-requires
 statement-block-requires t c =
     let same : statement_of c.args.s.now ≡ block (statements_of c.deref.result.now) = ap statement_of c.in-Block.is ∙ block_of c.in-Block.ss
     ∙ ap (λ l. block (statements_of l)) (sym c.deref.ensures.value) in
+    let P : Statement → Type 0 = λ s. IsTrue (is_lowerable_statement s) in
     let n : statement_nodes (statement_of c.args.s.now) ≡ 1 + statements_nodes (statements_of c.deref.result.now) = ap statement_nodes same
     in (
       omega (arith, n),
-      record {
-        nodes = let r = c.requires.room.nodes in omega (arith, n, r);
-        slots = let r = c.requires.room.slots in
-            omega (arith, n, r);
-      },
+      (
+        record {
+          nodes = let r = c.requires.room.nodes in omega (arith, n, r);
+          slots = let r = c.requires.room.slots in
+              omega (arith, n, r);
+        },
+        subst P same c.requires.lowerable,
+      ),
     )
 
 pub statement-returns-in-Block-clause-adds : goal.statement-returns-in-Block-clause-adds

@@ -1,4 +1,5 @@
-use Rattle.std.proofs.Common.{◌+◌, ◌*◌, drop}
+use Rattle.std.proofs.Common.{◌+◌, ◌*◌, IsTrue, drop}
+use Rattle.flow_build.specs.steps.Building.{are_lowerable_statements}
 use Rattle.c_tree.specs.View.{expression_of, statement_of, statements_of}
 use Rattle.c_tree.specs.WellFormed.{nodes, statement_nodes, statements_nodes}
 use Rattle.flow_build.proofs.AddingStatements.{Left}
@@ -24,5 +25,7 @@ abbrev pub decreases-tested_repetition : goal.decreases-tested_repetition
 decreases-tested_repetition l = 3 * (statement_nodes (statement_of l.body.now) + nodes (expression_of l.e.now)) + 1
 
 abbrev pub invariant-block-loop-i : goal.invariant-block-loop-i
-invariant-block-loop-i l = Left (statements_of l.fn.ss) (statements_of (drop l.i l.ss)) l.fn.frame l.fn.from l.fn.exits l.fn.b l.b l.node
-    l.free
+invariant-block-loop-i l = record {
+  left : Left (statements_of l.fn.ss) (statements_of (drop l.i l.ss)) l.fn.frame l.fn.from l.fn.exits l.fn.b l.b l.node l.free;
+  lowerable : IsTrue (are_lowerable_statements (statements_of (drop l.i l.ss)));
+}

@@ -10,7 +10,7 @@ use Rattle.flow_build.proofs.statement.set.Goals as goal
 
 pub returns-clause-adds : goal.returns-clause-adds
 returns-clause-adds c =
-    let v = value_of (expression_of c.args.e.now) in
+    let v = value_of c.args.frame.layout (expression_of c.args.e.now) in
     let l = c.in_ok-landed.landed in
     let h = c.in_ok-landed.ensures.adds in
     let d : ℕ → Edge = λ n. Assign n c.args.to c.args.variable (operand_lin (operand_at v c.args.frame.free)) in
