@@ -1,0 +1,12 @@
+pub mod Rows
+pub mod Carrying
+pub mod Turning
+pub mod Kept
+pub mod Names
+pub mod Single
+pub mod Holding
+pub mod Refining
+pub mod Globals
+pub mod Matched
+pub mod Kepts
+pub mod Pairs
