@@ -1,5 +1,5 @@
 -- A state asked at most as many queries as it made steps, and those of a payload are few.
-use Rattle.std.proofs.Common.{◌≡◌, ℕ, ◌^◌, ◌<◌, ◌≤◌, List, [], ◌∷◌, length, Some, ap, sym, subst, arith}
+use Rattle.std.proofs.Common.{◌≡◌, ℕ, ◌^◌, ◌<◌, ◌≤◌, List, ◌++◌, [], ◌∷◌, length, Some, ap, sym, subst, arith}
 use Rattle.std.specs.Prelude.{slice_get}
 use Rattle.std.proofs.lemmas.List.{length_push}
 use Rattle.flow_graph.specs.declared.graph.Graph.{Graph}
@@ -61,5 +61,5 @@ module _ (gs : List Graph) (roots : ℕ) (c : Core Seen) (k : Keeps (reads gs) r
       let stored : length s.steps ≡ own.spent = k.stored.stored i own at s payload in
       omega (arith, stored, one_le c.entries i own at, k.kept.granted.small own.root)
 
-  pub payload_few : IsStateFor gs (table_of c.history) s → length s.asked < 2 ^ 32
-  payload_few h = omega (arith, asked_few gs (table_of c.history) s h, payload_steps)
+  pub payload_few : IsStateFor gs (c.kept ++ table_of c.history) s → length s.asked < 2 ^ 32
+  payload_few h = omega (arith, asked_few gs (c.kept ++ table_of c.history) s h, payload_steps)

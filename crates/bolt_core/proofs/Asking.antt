@@ -54,14 +54,15 @@ abbrev pub child_slot : ℕ → ℕ → Slot → Slot
 child_slot id level z = record z { parent = Some id; level = level; closed = None; summary = None; said = false; published = None }
 
 pub ask_on : (p : Shown) (es fs : List (Entry Seen)) (ss : List Slot) (ts : List Summary) (xs : List Stored) (st : Bool) (w : ℕ) (g : Given)
-    (child : Seen) (z : Slot) (n level : ℕ) (fr tr sr er : ℕ) → let b : Shown = record p { core = core_of es ss ts xs st } in IsBoard b →
+    (child : Seen) (z : Slot) (n level : ℕ) (fr tr sr er : ℕ) → let b : Shown = record p { core = core_of p.core.kept es ss ts xs st } in
+    IsBoard b →
     IsRoomy b ss xs fr tr sr er → (m : MayAsk b g child z.query.value) → IsNow b.core g.id g.taken → n ≡ length es → n ≡ length ss →
     level ≡ suc m.sound.node.level →
     Went (λ own. after_ask es own g.id g.spent (told_child (reads p.graphs) g.state n) child) es fs g.id →
     GoesOn b (asked w g.id g.spent n z.query.value)
-    (core_of fs (ss ++ child_slot g.id level z ∷ []) ts (xs ++ stored.Ask w g.id g.spent n ∷ []) st)
+    (core_of p.core.kept fs (ss ++ child_slot g.id level z ∷ []) ts (xs ++ stored.Ask w g.id g.spent n ∷ []) st)
 ask_on p es fs ss ts xs st w g child z n level fr tr sr er h r m v number place up t =
-    let b : Shown = record p { core = core_of es ss ts xs st } in
+    let b : Shown = record p { core = core_of p.core.kept es ss ts xs st } in
     let R = reads p.graphs in
     let q : Query = z.query.value in
     let e : Told = asked w g.id g.spent n q in
@@ -81,7 +82,7 @@ ask_on p es fs ss ts xs st w g child z n level fr tr sr er h r m v number place 
     map-append node_of ss (own ∷ [])
     ∙ ap (λ l. map node_of ss ++ record { parent = Some g.id; level = l; query = q; closed = None; published = false } ∷ []) up in
     let after : List (Entry Seen) = after_ask es t.own g.id g.spent (told_child R g.state n) child in
-    goes_on b e (core_of fs slots ts (xs ++ x ∷ []) st) h
+    goes_on b e (core_of p.core.kept fs slots ts (xs ++ x ∷ []) st) h
     (record {
       job = job_of g;
       own = t.own;
@@ -94,10 +95,11 @@ ask_on p es fs ss ts xs st w g child z n level fr tr sr er h r m v number place 
       last = m.last;
       number = number;
       fresh = subst (λ (l : List Summary). IsFresh R l g.state child q) (sym (board_keeps b h).named) m.fresh;
-      new_is = ap (λ gs. core_of gs slots ts (xs ++ x ∷ []) st) t.becomes
-          ∙ (ap (λ l. record (core_of after slots ts xs st) { history = l }) told
-          ∙ (ap (λ (ns : List Node). record (core_of after ss ts xs st) { nodes = ns; history = history_of ss ts xs ++ e ∷ [] }) nodes
-          ∙ ap (λ (l : List Summary). record (core_of after ss ts xs st) {
+      new_is = ap (λ gs. core_of p.core.kept gs slots ts (xs ++ x ∷ []) st) t.becomes
+          ∙ (ap (λ l. record (core_of p.core.kept after slots ts xs st) { history = l }) told
+          ∙ (ap (λ (ns : List Node). record (core_of p.core.kept after ss ts xs st) { nodes = ns; history = history_of ss ts xs ++ e ∷ [] })
+          nodes
+          ∙ ap (λ (l : List Summary). record (core_of p.core.kept after ss ts xs st) {
             nodes = map node_of ss ++ node ∷ [];
             table = l;
             history = history_of ss ts xs ++ e ∷ [];
@@ -111,11 +113,11 @@ next_unsaid b h n same = unsaid_next b.core.entries b.core.history (board_keeps 
 
 -- there is room for the child
 pub ask_room : (p : Shown) (es : List (Entry Seen)) (ss : List Slot) (ts : List Summary) (xs : List Stored) (st : Bool) (w : ℕ) (g : Given)
-    (child : Seen) (z : Slot) (fr tr sr er : ℕ) → let b : Shown = record p { core = core_of es ss ts xs st } in IsBoard b →
+    (child : Seen) (z : Slot) (fr tr sr er : ℕ) → let b : Shown = record p { core = core_of p.core.kept es ss ts xs st } in IsBoard b →
     IsRoomy b ss xs fr tr sr er → MayAsk b g child z.query.value → IsNow b.core g.id g.taken →
     (length es + 1 ≤ most_queries b) × (length b.core.history < 16 * most_queries b)
 ask_room p es ss ts xs st w g child z fr tr sr er h r m v =
-    let b : Shown = record p { core = core_of es ss ts xs st } in
+    let b : Shown = record p { core = core_of p.core.kept es ss ts xs st } in
     let n : ℕ = length es in
     let s : Seen = told_child (reads p.graphs) g.state n in
     let fs : List (Entry Seen) = after_ask es v.own g.id g.spent s child in

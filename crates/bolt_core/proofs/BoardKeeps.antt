@@ -5,6 +5,7 @@ use Rattle.flow_graph.specs.declared.graph.Graph.{Graph}
 use Rattle.query_rules.specs.Seen.{Seen}
 use Rattle.query_rules.specs.declared.step.Step.{Step}
 use Rattle.summary_form.specs.declared.query.Query.{Query}
+use Rattle.summary_form.specs.declared.summary.Summary.{Summary}
 use Rattle.summary_form.specs.Instances.{arity_in}
 use Rattle.summary_form.specs.NotMays.{Fits}
 use Rattle.query_rules.specs.Steps.{Model, begin_model}
@@ -14,7 +15,7 @@ use Rattle.bolt_core.specs.Keeps.{ArePayloads, Keeps}
 use Rattle.bolt_core.specs.KeptEntries.{KeepsEntries}
 use Rattle.bolt_core.specs.KeptNodes.{KeepsNodes}
 use Rattle.bolt_core.specs.Lawful.{IsLawful}
-use Rattle.bolt_core.specs.Machine.{AllOf, Core, Event, IsRoot, Reached, Reads, empty_board, opening}
+use Rattle.bolt_core.specs.Machine.{AllOf, Core, Event, HoldsBy, IsRoot, Reached, Reads, first_board, opening}
 use Rattle.bolt_core.specs.States.{reads}
 use Rattle.bolt_core.proofs.Entries.{keeps_entries}
 use Rattle.bolt_core.proofs.Nodes.{empty_nodes, event_nodes, opening_nodes}
@@ -62,12 +63,12 @@ module _ {S : Type 0} (R : Reads S) where
       keeps_from roots new (keeps_entries R roots g old new e k t) (event_nodes R g old e new t k.said n)
       (event_payloads R g old n k.linked k.payloads e new t)
 
-  pub opening_keeps : IsLawful R → (grant : ℕ) → 1 ≤ grant → grant < 2 ^ 32 → (ss : List S) → AllOf (IsRoot R) ss →
-      Keeps R (length ss) (opening R grant ss (empty_board R))
-  opening_keeps g grant some fits ss rs = keeps_from (length ss) (opening R grant ss (empty_board R))
-      (opening_entries R grant some fits ss (all_map (IsRoot R) (λ s. R.steps s ≡ 0) (λ s r. r.none) ss rs))
-      (opening_nodes R grant ss (empty_board R) refl (empty_nodes R))
-      (opening_payloads R g grant ss rs)
+  pub opening_keeps : IsLawful R → (grant : ℕ) → 1 ≤ grant → grant < 2 ^ 32 → (ss : List S) → AllOf (IsRoot R) ss → (ks : List Summary) →
+      AllOf (HoldsBy R) ks → Keeps R (length ss) (opening R grant ss (first_board R ks))
+  opening_keeps g grant some fits ss rs ks holds = keeps_from (length ss) (opening R grant ss (first_board R ks))
+      (opening_entries R grant some fits ss ks (all_map (IsRoot R) (λ s. R.steps s ≡ 0) (λ s r. r.none) ss rs))
+      (opening_nodes R grant ss (first_board R ks) refl (empty_nodes R ks holds))
+      (opening_payloads R g grant ss ks holds rs)
 
   pub reached_keeps : IsLawful R → (roots : ℕ) (old : Core S) (es : List Told) (new : Core S) → Reached R old es new →
       Keeps R roots old → Keeps R roots new
@@ -114,8 +115,11 @@ pub board_keeps : (b : Shown) → IsBoard b → Keeps (reads b.graphs) b.asserts
 board_keeps b h =
     let g : IsLawful (reads b.graphs) = states_lawful b.graphs h.linked in
     let o = h.opening in
-    let begun : Keeps (reads b.graphs) (length o.roots) (opening (reads b.graphs) b.budget o.roots (empty_board (reads b.graphs))) =
-    opening_keeps (reads b.graphs) g b.budget h.some (omega (arith, h.most)) o.roots (roots_are b.graphs b.main 0 o.roots o.are_roots) in
+    let begun : Keeps (reads b.graphs) (length o.roots)
+    (opening (reads b.graphs) b.budget o.roots (first_board (reads b.graphs) h.opened.kept)) =
+    opening_keeps (reads b.graphs) g b.budget h.some (omega (arith, h.most)) o.roots (roots_are b.graphs b.main 0 o.roots o.are_roots)
+    h.opened.kept o.kept_hold in
     reached_keeps (reads b.graphs) g b.asserts h.opened b.core.history b.core h.reached
     (subst (Keeps (reads b.graphs) b.asserts) (sym o.is)
-    (subst (λ n. Keeps (reads b.graphs) n (opening (reads b.graphs) b.budget o.roots (empty_board (reads b.graphs)))) o.count begun))
+    (subst (λ n. Keeps (reads b.graphs) n (opening (reads b.graphs) b.budget o.roots (first_board (reads b.graphs) h.opened.kept))) o.count
+    begun))

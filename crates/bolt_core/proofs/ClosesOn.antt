@@ -22,7 +22,7 @@ use Rattle.bolt_core.specs.declared.job.Job.{Job as Given}
 use Rattle.bolt_core.specs.declared.slot.ClosedAs.{ClosedAs}
 use Rattle.bolt_core.specs.declared.slot.ClosedAs.TheVariants as how
 use Rattle.bolt_core.specs.declared.slot.Slot.{Slot}
-use Rattle.bolt_core.specs.Boards.{HandsIn, IsBoard, IsClosedBy, IsRoomy, IsSettled, MayBeClosed, Shown, core_of, history_of, job_of, most_queries, node_of, said_as, told_by}
+use Rattle.bolt_core.specs.Boards.{HandsIn, IsBoard, IsClosedBy, IsRoomy, IsSettled, MayBeClosed, Shown, core_of, history_of, job_of, most_queries, most_summaries, node_of, said_as, told_by}
 use Rattle.bolt_core.specs.Groups.{Node, closed_at, is_member, leads}
 use Rattle.bolt_core.specs.Histories.{Told, closed, has_said}
 use Rattle.bolt_core.specs.Keeps.{IsNow}
@@ -153,13 +153,15 @@ longer_settled nq nt mt (stored.Stop w) le s = tt
 -- A close
 
 module _ (p : Shown) (es : List (Entry Seen)) (ss : List Slot) (ts : List Summary) (xs : List Stored) (st : Bool)
-    (h : IsBoard (record p { core = core_of es ss ts xs st })) (f t s v : ℕ)
-    (r : IsRoomy (record p { core = core_of es ss ts xs st }) ss xs f t s v) (w : ℕ) (g : Given) (c : Closing)
-    (m : MayBeClosed (record p { core = core_of es ss ts xs st }) g c) (n : IsNow (core_of es ss ts xs st) g.id g.taken) (own : Slot)
+    (h : IsBoard (record p { core = core_of p.core.kept es ss ts xs st })) (f t s v : ℕ)
+    (r : IsRoomy (record p { core = core_of p.core.kept es ss ts xs st }) ss xs f t s v) (w : ℕ) (g : Given) (c : Closing)
+    (m : MayBeClosed (record p { core = core_of p.core.kept es ss ts xs st }) g c) (n : IsNow (core_of p.core.kept es ss ts xs st) g.id
+    g.taken)
+    (own : Slot)
     (at : slice_get ss g.id ≡ Some own) (shut : ClosedAs) (is : shut ≡ closed_as own.level g.state.lowest c)
     (o : Option (Arc Summary Global)) (i : HandsIn g.state.query c (value_of o)) (place : ℕ) (here : place ≡ length xs) where
   abbrev before : Shown
-  before = record p { core = core_of es ss ts xs st }
+  before = record p { core = core_of p.core.kept es ss ts xs st }
 
   abbrev pub settled : List Slot
   settled = changed (settled_slot (map node_of ss) g.id own.level shut o place) ss
@@ -225,7 +227,7 @@ module _ (p : Shown) (es : List (Entry Seen)) (ss : List Slot) (ts : List Summar
 
   pub close_on : (fs : List (Entry Seen)) → Went (λ own. after_close es own g.id g.spent g.state place) es fs g.id →
       GoesOn before (closed w g.id g.spent shut added)
-      (core_of fs settled (ts ++ added) (xs ++ event_of (length ts) (length added) ∷ []) st)
+      (core_of p.core.kept fs settled (ts ++ added) (xs ++ event_of (length ts) (length added) ∷ []) st)
   close_on fs wt =
       let R = reads p.graphs in
       let ns : List Node = map node_of ss in
@@ -235,7 +237,7 @@ module _ (p : Shown) (es : List (Entry Seen)) (ss : List Slot) (ts : List Summar
       let e : Told = closed w g.id g.spent shut added in
       let stamp : place ≡ length (history_of ss ts xs) = here ∙ sym (told_length ss ts xs) in
       let after : List (Entry Seen) = after_close es wt.own g.id g.spent g.state (length (history_of ss ts xs)) in
-      goes_on before e (core_of fs settled us ys st) h
+      goes_on before e (core_of p.core.kept fs settled us ys st) h
       (record {
         job = job_of g;
         own = wt.own;
@@ -248,20 +250,21 @@ module _ (p : Shown) (es : List (Entry Seen)) (ss : List Slot) (ts : List Summar
         may = m.may;
         told = told_is;
         appends = appends;
-        new_is = ap (λ gs. core_of gs settled us ys st)
+        new_is = ap (λ gs. core_of p.core.kept gs settled us ys st)
             (wt.becomes ∙ ap (λ k. after_close es wt.own g.id g.spent g.state k) stamp)
-            ∙ (ap (λ l. record (core_of after settled us ys st) { history = l }) history_is
-            ∙ ap (λ (l : List Node). record (core_of after ss us ys st) { nodes = l; history = history_of ss ts xs ++ e ∷ [] }) nodes_are);
+            ∙ (ap (λ l. record (core_of p.core.kept after settled us ys st) { history = l }) history_is
+            ∙ ap (λ (l : List Node). record (core_of p.core.kept after ss us ys st) { nodes = l; history = history_of ss ts xs ++ e ∷ [] })
+            nodes_are);
       })
       (omega (arith, within es g.id n.own n.at))
 
   -- there is room for what it appends
-  pub close_room : (length (ts ++ added) ≤ most_queries before) × (length (history_of ss ts xs) < 16 * most_queries before)
+  pub close_room : (length (ts ++ added) ≤ most_summaries before) × (length (history_of ss ts xs) < 16 * most_queries before)
   close_room =
       let fs : List (Entry Seen) = after_close es n.own g.id g.spent g.state place in
       let o = close_on fs (record { own = n.own; at = n.at; running = n.running; becomes = refl }) in
       let ys : List Stored = xs ++ event_of (length ts) (length added) ∷ [] in
-      let new : Shown = record p { core = core_of fs settled (ts ++ added) ys st } in
+      let new : Shown = record p { core = core_of p.core.kept fs settled (ts ++ added) ys st } in
       let k = board_keeps new o.board in (
         omega (arith, o.few, k.paired.count, table_within (reads p.graphs) new.core (nodes_of (reads p.graphs) p.asserts new.core k)),
         o.fits,
@@ -297,27 +300,28 @@ module _ (p : Shown) (es : List (Entry Seen)) (ss : List Slot) (ts : List Summar
           pushed ∙ (ap (λ j. xs ++ event_of j more ∷ []) begun ∙ ap (λ j. xs ++ event_of (length ts) j ∷ []) k)
 
       pub close_goes : (fs : List (Entry Seen)) → Went (λ own. after_close es own g.id g.spent g.state place) es fs g.id →
-          GoesOn before (closed w g.id g.spent shut added) (core_of fs ls us ys st)
+          GoesOn before (closed w g.id g.spent shut added) (core_of p.core.kept fs ls us ys st)
       close_goes fs wt = subst (λ (x : Core Seen). GoesOn before (closed w g.id g.spent shut added) x)
-          (sym (ap (λ l. core_of fs l us ys st) are ∙ (ap (λ l. core_of fs settled l ys st) table
-          ∙ ap (λ l. core_of fs settled (ts ++ added) l st) event_is)))
+          (sym (ap (λ l. core_of p.core.kept fs l us ys st) are ∙ (ap (λ l. core_of p.core.kept fs settled l ys st) table
+          ∙ ap (λ l. core_of p.core.kept fs settled (ts ++ added) l st) event_is)))
           (close_on fs wt)
 
       pub close_is : (fs : List (Entry Seen)) → Went (λ own. after_close es own g.id g.spent g.state place) es fs g.id →
-          IsClosedBy before w g c (record p { core = core_of fs ls us ys st })
+          IsClosedBy before w g c (record p { core = core_of p.core.kept fs ls us ys st })
       close_is fs wt =
           let R = reads p.graphs in
           record {
             summaries = added;
             level = own.level;
             event = subst
-                (λ (x : ClosedAs). Event R (core_of es ss ts xs st) (closed w g.id g.spent x added) (core_of fs ls us ys st))
+                (λ (x : ClosedAs). Event R (core_of p.core.kept es ss ts xs st) (closed w g.id g.spent x added)
+                (core_of p.core.kept fs ls us ys st))
                 (is ∙ closed_is R own.level g.state c) (close_goes fs wt).event;
           }
 
-      pub roomy_close : (d : Core Seen) (fr tr sr er : ℕ) → d.table ≡ us → fr ≡ f → tr ≡ t → s ≤ sr → er ≡ v →
+      pub roomy_close : (d : Core Seen) (fr tr sr er : ℕ) → d.table ≡ us → d.kept ≡ p.core.kept → fr ≡ f → tr ≡ t → s ≤ sr → er ≡ v →
           ((j : ℕ) → has_said d.history j ≡ has_said (history_of ss ts xs) j) → IsRoomy (record p { core = d }) ls ys fr tr sr er
-      roomy_close d fr tr sr er seen room wide kept same quiet =
+      roomy_close d fr tr sr er seen held room wide kept same quiet =
           let ns : List Node = map node_of ss in
           let longer : length ts ≤ length us = omega (arith, ap (λ (l : List Summary). length l) table, length-append ts added) in
           let size : length ls ≡ length ss =
@@ -329,7 +333,7 @@ module _ (p : Shown) (es : List (Entry Seen)) (ss : List Slot) (ts : List Summar
           record {
             queries = room ∙ r.queries;
             kept = omega (arith, r.kept, kept);
-            summaries = wide ∙ r.summaries;
+            summaries = omega (arith, wide, r.summaries, ap (λ (ks : List Summary). length ks) held);
             happened = omega (arith, r.happened, same);
             settled = λ j x a. subst (λ (l : List Summary). IsSettled (length ls) (length l) x) (sym seen)
                 (subst (λ k. IsSettled k (length us) x) (sym size)

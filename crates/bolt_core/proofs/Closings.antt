@@ -14,7 +14,7 @@ use Rattle.summary_form.specs.declared.summary.Summary.{Summary}
 use Rattle.bolt_core.specs.declared.slot.ClosedAs.{ClosedAs}
 use Rattle.bolt_core.specs.Histories.{Told, asked, closed, closed_as, closes_by, fed, parked, said, stopped, took}
 use Rattle.bolt_core.specs.Keeps.{Keeps}
-use Rattle.bolt_core.specs.Machine.{AllOf, Closes, Core, Event, IsNews, Reads, closed_how, empty_board, node_of_root, opening}
+use Rattle.bolt_core.specs.Machine.{AllOf, Closes, Core, Event, IsNews, Reads, closed_how, first_board, node_of_root, opening}
 use Rattle.bolt_core.proofs.Agreeing.{closed_push, orelse}
 use Rattle.bolt_core.proofs.Changes.{Become, ClosesHere, event_become}
 use Rattle.bolt_core.proofs.Nodes.{open_node}
@@ -122,5 +122,6 @@ module _ {S : Type 0} (R : Reads S) where
     nodes = c.nodes ++ node_of_root R s ∷ [];
   }) (root_closings grant c s h)
 
-  pub opening_closings : (grant : ℕ) (ss : List S) → AreClosings (opening R grant ss (empty_board R))
-  opening_closings grant ss = roots_closings grant ss (empty_board R) (record { closings = λ i e a shut. absurd (cc) })
+  pub opening_closings : (grant : ℕ) (ss : List S) (ks : List Summary) →
+      AreClosings (opening R grant ss (first_board R ks))
+  opening_closings grant ss ks = roots_closings grant ss (first_board R ks) (record { closings = λ i e a shut. absurd (cc) })

@@ -117,8 +117,9 @@ tally_ones k [] = refl
 tally_ones k (x ∷ xs) = omega (arith, tally_ones (suc k) xs)
 
 -- the table has at most as many summaries as there are queries
-pub counted_within : (table : List Summary) (ns : List Node) (h : List Told) → AreCounted table ns h → length table ≤ length ns
-counted_within table ns h c = omega (
+pub counted_within : (ks : ℕ) (table : List Summary) (ns : List Node) (h : List Told) → AreCounted ks table ns h → length table ≤ ks
+    + length ns
+counted_within ks table ns h c = omega (
   arith,
   c.counted,
   tally_le (is_counted h) (λ j x. 1) ns (λ j x _. count_most (x.published || has_said h j)),
@@ -132,9 +133,9 @@ with_one false true f = omega arith
 with_one false false f = omega arith
 
 -- and less, where some query has none
-pub counted_before : (table : List Summary) (ns : List Node) (h : List Told) → AreCounted table ns h → (i : ℕ) (n : Node) →
-    slice_get ns i ≡ Some n → n.published ≡ false → has_said h i ≡ false → length table < length ns
-counted_before table ns h c i n at silent unsaid = omega (
+pub counted_before : (ks : ℕ) (table : List Summary) (ns : List Node) (h : List Told) → AreCounted ks table ns h → (i : ℕ) (n : Node) →
+    slice_get ns i ≡ Some n → n.published ≡ false → has_said h i ≡ false → length table < ks + length ns
+counted_before ks table ns h c i n at silent unsaid = omega (
   arith,
   c.counted,
   tally_plus (is_counted h) (λ j x. cond (j == i) 1 0) 0 ns,
@@ -155,18 +156,18 @@ counted_before table ns h c i n at silent unsaid = omega (
 -- Events
 
 -- the history tells no more of what was said
-pub counted_quiet : (table : List Summary) (ns : List Node) (h k : List Told) → ((i : ℕ) → has_said k i ≡ has_said h i) →
-    AreCounted table ns h → AreCounted table ns k
-counted_quiet table ns h k same c = record {
-  counted = c.counted ∙ tally_same (is_counted h) (is_counted k) ns
-      (λ j x _. ap (λ b. counts_once (x.published || b)) (sym (same j)));
+pub counted_quiet : (ks : ℕ) (table : List Summary) (ns : List Node) (h k : List Told) → ((i : ℕ) → has_said k i ≡ has_said h i) →
+    AreCounted ks table ns h → AreCounted ks table ns k
+counted_quiet ks table ns h k same c = record {
+  counted = c.counted ∙ ap (λ m. ks + m) (tally_same (is_counted h) (is_counted k) ns
+      (λ j x _. ap (λ b. counts_once (x.published || b)) (sym (same j))));
   apart = λ i n a e. c.apart i n a (sym (same i) ∙ e);
   silent = c.silent;
 }
 
-pub counted_pushed : (table : List Summary) (ns : List Node) (h : List Told) (x : Node) → x.published ≡ false →
-    has_said h (length ns) ≡ false → AreCounted table ns h → AreCounted table (ns ++ x ∷ []) h
-counted_pushed table ns h x silent unsaid c = record {
+pub counted_pushed : (ks : ℕ) (table : List Summary) (ns : List Node) (h : List Told) (x : Node) → x.published ≡ false →
+    has_said h (length ns) ≡ false → AreCounted ks table ns h → AreCounted ks table (ns ++ x ∷ []) h
+counted_pushed ks table ns h x silent unsaid c = record {
   counted = let none : is_counted h (length ns) x ≡ 0 = rw (silent, unsaid) refl in
       omega (arith, c.counted, tally_pushed (is_counted h) ns x, none);
   apart = λ i n a e. ⊎_elim
@@ -184,10 +185,10 @@ said_step false false true f = refl
 said_step false false false f = refl
 
 -- a Publish of a query that isn't closed, and of which nothing was said
-pub counted_said : (table : List Summary) (ns : List Node) (h k : List Told) (i : ℕ) (n : Node) (s : Summary) →
+pub counted_said : (ks : ℕ) (table : List Summary) (ns : List Node) (h k : List Told) (i : ℕ) (n : Node) (s : Summary) →
     slice_get ns i ≡ Some n → n.closed ≡ None → has_said h i ≡ false →
-    ((j : ℕ) → has_said k j ≡ ((j == i) || has_said h j)) → AreCounted table ns h → AreCounted (table ++ s ∷ []) ns k
-counted_said table ns h k i n s at open' unsaid is c = record {
+    ((j : ℕ) → has_said k j ≡ ((j == i) || has_said h j)) → AreCounted ks table ns h → AreCounted ks (table ++ s ∷ []) ns k
+counted_said ks table ns h k i n s at open' unsaid is c = record {
   counted = omega (
     arith,
     length-append table (s ∷ []),
@@ -234,7 +235,7 @@ shut_step false false shown said shut x f g =
 
 module _ (ns : List Node) (h k : List Told) (i : ℕ) (n : Node) (at : slice_get ns i ≡ Some n) (open' : n.closed ≡ None)
     (unsaid : has_said h i ≡ false) (same : (j : ℕ) → has_said k j ≡ has_said h j) (shut : ClosedAs) (shown : Bool)
-    (table more : List Summary) (c : AreCounted table ns h) where
+    (ks : ℕ) (table more : List Summary) (c : AreCounted ks table ns h) where
   abbrev shut_at : ℕ → Node → Node
   shut_at = closed_at ns i shut shown n.level
 
@@ -284,7 +285,7 @@ module _ (ns : List Node) (h k : List Told) (i : ℕ) (n : Node) (at : slice_get
       (λ _ o. c.silent j x a o))
 
   pub counted_closed : length more ≡ tally (λ j x. counts_once (leads shut && is_member ns i n.level j)) ns + counts_once shown →
-      AreCounted (table ++ more) (changed shut_at ns) k
+      AreCounted ks (table ++ more) (changed shut_at ns) k
   counted_closed many = record {
     counted = omega (
       arith,

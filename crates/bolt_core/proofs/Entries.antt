@@ -59,7 +59,7 @@ module _ {S : Type 0} (R : Reads S) (roots : ℕ) where
   pays RestStarved j waiting own lent some m = inl (omega (arith, lent, m, some))
 
   -- What is known of a sound job's query
-  module _ (old : Core S) (h : KeepsEntries R roots old) (j : Job S) (own : Entry S) (s : IsSound R old.history old.nodes j)
+  module _ (old : Core S) (h : KeepsEntries R roots old) (j : Job S) (own : Entry S) (s : IsSound R old.kept old.history old.nodes j)
       (since : IsSince R old j own) where
     lent : own.lent ≡ j.left
     lent = lent_is R old j own h.linked s since

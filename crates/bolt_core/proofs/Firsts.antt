@@ -14,7 +14,7 @@ use Rattle.bolt_core.specs.Groups.{Node}
 use Rattle.bolt_core.specs.Histories.{Told}
 use Rattle.bolt_core.specs.Keeps.{Keeps}
 use Rattle.bolt_core.specs.Lawful.{IsLawful}
-use Rattle.bolt_core.specs.Machine.{Core, Event, Reached, Reads, empty_board, node_of_root, opening}
+use Rattle.bolt_core.specs.Machine.{Core, Event, Reached, Reads, first_board, node_of_root, opening}
 use Rattle.bolt_core.specs.States.{reads}
 use Rattle.bolt_core.proofs.BoardKeeps.{event_keeps, opening_keeps, roots_are}
 use Rattle.bolt_core.proofs.Changes.{Become, StillAsks, event_asks, event_become}
@@ -131,12 +131,13 @@ module _ (b : Shown) (h : IsBoard b) where
   begun =
       let o = h.opening in
       subst (Keeps R b.asserts) (sym o.is)
-      (subst (λ n. Keeps R n (opening R b.budget o.roots (empty_board R))) o.count
-      (opening_keeps R lawful b.budget h.some (omega (arith, h.most)) o.roots (roots_are b.graphs b.main 0 o.roots o.are_roots)))
+      (subst (λ n. Keeps R n (opening R b.budget o.roots (first_board R h.opened.kept))) o.count
+      (opening_keeps R lawful b.budget h.some (omega (arith, h.most)) o.roots (roots_are b.graphs b.main 0 o.roots o.are_roots)
+      h.opened.kept o.kept_hold))
 
   pub board_closings : AreClosings R b.core
   board_closings = reached_closings R lawful b.asserts h.opened b.core.history b.core h.reached begun
-      (subst (AreClosings R) (sym h.opening.is) (opening_closings R b.budget h.opening.roots))
+      (subst (AreClosings R) (sym h.opening.is) (opening_closings R b.budget h.opening.roots h.opened.kept))
 
   pub board_first : (i : ℕ) → i < b.asserts → IsFirst b.budget (root_query b.main i) b.core i
   board_first i lt =
@@ -145,9 +146,9 @@ module _ (b : Shown) (h : IsBoard b) where
       let z : 0 + i ≡ i = omega arith in
       let asks : s.0.query ≡ root_query b.main i =
       roots_ask b.graphs b.main 0 o.roots o.are_roots i s.0 s.1 ∙ ap (root_query b.main) z in
-      let there : IsFirst b.budget (root_query b.main i) (opening R b.budget o.roots (empty_board R)) i =
-      subst (λ q. IsFirst b.budget q (opening R b.budget o.roots (empty_board R)) i) asks
-      (subst (IsFirst b.budget s.0.query (opening R b.budget o.roots (empty_board R))) z
-      (first_there R b.budget o.roots (empty_board R) refl i s.0 s.1)) in
+      let there : IsFirst b.budget (root_query b.main i) (opening R b.budget o.roots (first_board R h.opened.kept)) i =
+      subst (λ q. IsFirst b.budget q (opening R b.budget o.roots (first_board R h.opened.kept)) i) asks
+      (subst (IsFirst b.budget s.0.query (opening R b.budget o.roots (first_board R h.opened.kept))) z
+      (first_there R b.budget o.roots (first_board R h.opened.kept) refl i s.0 s.1)) in
       reached_first R lawful b.asserts h.opened b.core.history b.core h.reached begun b.budget (root_query b.main i) i
       (subst (λ (c : Core Seen). IsFirst b.budget (root_query b.main i) c i) (sym o.is) there)

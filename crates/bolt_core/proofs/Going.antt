@@ -11,14 +11,14 @@ use Rattle.bolt_core.specs.declared.event.Event.{Event as Stored}
 use Rattle.bolt_core.specs.declared.event.Event.TheVariants as stored
 use Rattle.bolt_core.specs.declared.slot.ClosedAs.TheVariants as how
 use Rattle.bolt_core.specs.declared.slot.Slot.{Slot}
-use Rattle.bolt_core.specs.Boards.{IsBoard, IsRoomy, IsSettled, Shown, asked_as, history_of, most_queries, told_by}
+use Rattle.bolt_core.specs.Boards.{IsBoard, IsRoomy, IsSettled, Shown, asked_as, history_of, most_queries, most_summaries, told_by}
 use Rattle.bolt_core.specs.Histories.{Told, has_said, says_of}
 use Rattle.bolt_core.specs.KeptEntries.{KeepsEntries}
-use Rattle.bolt_core.specs.Machine.{Core, Event, Reached, empty_board}
+use Rattle.bolt_core.specs.Machine.{Core, Event, Reached, first_board}
 use Rattle.bolt_core.specs.States.{reads}
 use Rattle.bolt_core.proofs.Agreeing.{says_not}
 use Rattle.bolt_core.proofs.BoardKeeps.{board_keeps}
-use Rattle.bolt_core.proofs.Reserve.{event_history, events_within, grants_of, opening_grants, queries_within, reached_more, run_grants}
+use Rattle.bolt_core.proofs.Reserve.{event_history, event_kept, events_within, grants_of, opening_grants, queries_within, reached_more, run_grants}
 
 -- What the run of a board gives
 
@@ -41,12 +41,17 @@ board_grants b h =
     let R = reads b.graphs in
     let o = h.opening in
     let opened : grants_of R h.opened ≡ length o.roots * b.budget =
-    ap (grants_of R) o.is ∙ (let e = opening_grants R b.budget o.roots (empty_board R) in omega (arith, e)) in
+    ap (grants_of R) o.is ∙ (let e = opening_grants R b.budget o.roots (first_board R h.opened.kept) in omega (arith, e)) in
     run_grants R b.core.history h.opened b.core h.reached ∙ (opened ∙ ap (λ n. n * b.budget) o.count)
 
 -- the queries of a board
 pub board_queries : (b : Shown) → IsBoard b → length b.core.entries ≤ most_queries b
 board_queries b h = omega (arith, queries_within (reads b.graphs) b.asserts b.core (board_entries b h), board_grants b h)
+
+pub summaries_small : (b : Shown) → IsBoard b → most_summaries b < 2 ^ 32
+summaries_small b h =
+    let m : b.asserts * b.budget ≤ 64 * b.budget = mul-le-mul_right b.budget h.few in
+    omega (arith, m, h.few, h.most, h.few_kept)
 
 pub most_small : (b : Shown) → IsBoard b → most_queries b < 2 ^ 32
 most_small b h =
@@ -82,8 +87,15 @@ goes_on b e c h v one =
       few = h.few;
       some = h.some;
       most = h.most;
+      few_kept = omega (arith, h.few_kept, ap (λ (ks : List Summary). length ks) (event_kept R b.core c e v));
       opened = h.opened;
-      opening = record { roots = h.opening.roots; count = h.opening.count; are_roots = h.opening.are_roots; is = h.opening.is };
+      opening = record {
+        roots = h.opening.roots;
+        count = h.opening.count;
+        are_roots = h.opening.are_roots;
+        kept_hold = h.opening.kept_hold;
+        is = h.opening.is;
+      };
       reached = goes;
     } in
     let in' = events_within R b.asserts c (board_entries new next) (some_roots b.asserts b refl h one) in
@@ -171,12 +183,12 @@ more_settled nq mq nt (stored.Stop w) le s = tt
 
 -- one event more
 pub roomy_event : (b : Shown) (c : Core Seen) (ss : List Slot) (xs : List Stored) (x : Stored) (f g t s v w : ℕ) → IsRoomy b ss xs f t s v →
-    c.table ≡ b.core.table → IsSettled (length ss) (length b.core.table) x → g ≡ f → w ≡ v →
+    c.table ≡ b.core.table → c.kept ≡ b.core.kept → IsSettled (length ss) (length b.core.table) x → g ≡ f → w ≡ v →
     ((i : ℕ) → has_said c.history i ≡ has_said b.core.history i) → IsRoomy (record b { core = c }) ss (xs ++ x ∷ []) g t s w
-roomy_event b c ss xs x f g t s v w r table own room same quiet = record {
+roomy_event b c ss xs x f g t s v w r table held own room same quiet = record {
   queries = room ∙ r.queries;
   kept = r.kept;
-  summaries = r.summaries;
+  summaries = omega (arith, r.summaries, ap (λ (ks : List Summary). length ks) held);
   happened = omega (arith, r.happened, same);
   settled = subst (λ (ts : List Summary). AllSettled (length ss) (length ts) (xs ++ x ∷ [])) (sym table)
       (settled_pushed (length ss) (length b.core.table) xs x r.settled own);
@@ -187,11 +199,12 @@ roomy_event b c ss xs x f g t s v w r table own room same quiet = record {
 
 -- and one query
 pub roomy_query : (b : Shown) (c : Core Seen) (ss : List Slot) (z : Slot) (xs : List Stored) (x : Stored) (f g t s u v w : ℕ) →
-    IsRoomy b ss xs f t s v → c.table ≡ b.core.table → IsSettled (suc (length ss)) (length b.core.table) x → z.closed ≡ None →
+    IsRoomy b ss xs f t s v → c.table ≡ b.core.table → c.kept ≡ b.core.kept → IsSettled (suc (length ss)) (length b.core.table) x →
+    z.closed ≡ None →
     z.published ≡ None → z.said ≡ false → g ≡ f → u ≡ s → w ≡ v →
     ((i : ℕ) → has_said c.history i ≡ has_said b.core.history i) → has_said b.core.history (length ss) ≡ false →
     IsRoomy (record b { core = c }) (ss ++ z ∷ []) (xs ++ x ∷ []) g t u w
-roomy_query b c ss z xs x f g t s u v w r table own open' hidden silent room wide same quiet fresh =
+roomy_query b c ss z xs x f g t s u v w r table held own open' hidden silent room wide same quiet fresh =
     let n : length (ss ++ z ∷ []) ≡ suc (length ss) = omega (arith, length_push ss z) in
     let nt : ℕ = length b.core.table in
     let more : AllSettled (suc (length ss)) nt xs = λ i e at. more_settled (length ss) (suc (length ss)) nt e (omega arith)
@@ -200,7 +213,7 @@ roomy_query b c ss z xs x f g t s u v w r table own open' hidden silent room wid
     record {
       queries = room ∙ r.queries;
       kept = omega (arith, r.kept, wide);
-      summaries = r.summaries;
+      summaries = omega (arith, r.summaries, ap (λ (ks : List Summary). length ks) held);
       happened = omega (arith, r.happened, same);
       settled = subst (λ (ts : List Summary). AllSettled (length (ss ++ z ∷ [])) (length ts) (xs ++ x ∷ [])) (sym table)
           (subst (λ k. AllSettled k nt (xs ++ x ∷ [])) (sym n) (settled_pushed (suc (length ss)) nt xs x more own));

@@ -32,7 +32,7 @@ use Rattle.bolt_core.specs.KeptNodes.{KeepsNodes}
 use Rattle.bolt_core.specs.Lawful.{IsLawful, IsTrueNews}
 use Rattle.bolt_core.specs.Machine.{AllOf, Core, IsNews, IsSound, Job, Matches, Takes, asks_more}
 use Rattle.bolt_core.specs.States.{IsStateFor, reads}
-use Rattle.bolt_core.proofs.Agreeing.{IsAsk, table_push}
+use Rattle.bolt_core.proofs.Agreeing.{IsAsk, kept_push}
 use Rattle.bolt_core.proofs.AskedFew.{payload_few}
 use Rattle.bolt_core.proofs.BoardKeeps.{board_keeps, nodes_of}
 use Rattle.bolt_core.proofs.Feeding.{matched}
@@ -251,8 +251,8 @@ module _ (gs : List Graph) (lawful : IsLawful (reads gs)) (roots : ℕ) (old : C
       may [] f h = tt
       may (a ∷ xs) f h = (f 0 a refl h.0, may xs (λ number b there. f (suc number) b there) h.1)
 
-    heard_state : IsStateFor gs (table_of old.history) (hears old s)
-    heard_state = all_heard (table_of old.history) s i [] s.asked all_may is_payload.state
+    heard_state : IsStateFor gs (old.kept ++ table_of old.history) (hears old s)
+    heard_state = all_heard (old.kept ++ table_of old.history) s i [] s.asked all_may is_payload.state
 
     heard_news : AllOf (λ a. IsNews a.news (closed_as old.history a.child)) (map heard s.asked)
     heard_news = news_all s.asked all_may where
@@ -273,7 +273,7 @@ module _ (gs : List Graph) (lawful : IsLawful (reads gs)) (roots : ℕ) (old : C
     opened : is_open t.own.status ≡ true
     opened = ap is_open t.ready
 
-    taken_in : IsSound (reads gs) (old.history ++ took w i left steps waiting ∷ []) old.nodes taken_job
+    taken_in : IsSound (reads gs) old.kept (old.history ++ took w i left steps waiting ∷ []) old.nodes taken_job
     taken_in =
         let e : Told = took w i left steps waiting in
         let h : List Told = old.history in
@@ -288,8 +288,8 @@ module _ (gs : List Graph) (lawful : IsLawful (reads gs)) (roots : ℕ) (old : C
           node = n.0;
           take_at = get_pushed h e;
           node_at = n.1;
-          state = subst (λ (x : List Summary). IsStateFor gs x (hears old t.state)) (sym (table_push h e))
-              (lawful.longer (table_of h) (named e) (hears old t.state) (heard_state i t.own t.at t.state t.payload opened));
+          state = subst (λ (x : List Summary). IsStateFor gs x (hears old t.state)) (sym (kept_push old.kept h e))
+              (lawful.longer (old.kept ++ table_of h) (named e) (hears old t.state) (heard_state i t.own t.at t.state t.payload opened));
           query = p.query;
           level = p.level;
           above = p.above;
@@ -300,12 +300,13 @@ module _ (gs : List Graph) (lawful : IsLawful (reads gs)) (roots : ℕ) (old : C
               (matches_heard t.state.asked (asks_of h i) (p.entries opened)));
           news = subst (λ (x : List Told). AllOf (λ (a : Asked). IsNews a.news (closed_as x a.child)) (map heard t.state.asked))
               (sym front) (heard_news i t.own t.at t.state t.payload opened);
-          seen = subst (AllOf (λ n. length (table_of (take (length h) (h ++ e ∷ []))) ≤ n)) (sym (lawful.seen_none (hears old t.state))) tt;
+          seen = subst (AllOf (λ n. length (old.kept ++ table_of (take (length h) (h ++ e ∷ []))) ≤ n))
+              (sym (lawful.seen_none (hears old t.state))) tt;
         }
 
     -- the job is sound
-    pub taken_sound : IsSound (reads gs) new.history new.nodes taken_job
-    taken_sound = subst (λ (c : Core Seen). IsSound (reads gs) c.history c.nodes taken_job) (sym t.new_is) taken_in
+    pub taken_sound : IsSound (reads gs) new.kept new.history new.nodes taken_job
+    taken_sound = subst (λ (c : Core Seen). IsSound (reads gs) c.kept c.history c.nodes taken_job) (sym t.new_is) taken_in
 
     -- for each must that it hears, the table has one that answers
     pub taken_answered : AreAnswered new.table (hears old t.state).asked

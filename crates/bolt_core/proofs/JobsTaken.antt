@@ -229,7 +229,7 @@ some_running es k none going =
 module _ (p : Shown) (es fs : List (Entry Seen)) (ss : List Slot) (ts : List Summary) (xs : List Stored) (st : Bool) (w n : ℕ)
     (lent : Lent Seen) where
   abbrev pub before : Shown
-  before = record p { core = core_of es ss ts xs st }
+  before = record p { core = core_of p.core.kept es ss ts xs st }
 
   abbrev pub take_event : Stored
   take_event = stored.Take w lent.id lent.left n lent.waiting
@@ -238,7 +238,7 @@ module _ (p : Shown) (es fs : List (Entry Seen)) (ss : List Slot) (ts : List Sum
   take_told = took w lent.id lent.left n lent.waiting
 
   abbrev pub taken_core : Core Seen
-  taken_core = core_of fs ss ts (xs ++ take_event ∷ []) st
+  taken_core = core_of p.core.kept fs ss ts (xs ++ take_event ∷ []) st
 
   module _ (b : IsBoard before) (going : st ≡ false) (t : Took es fs lent) where
     pub steps_small : length lent.payload.steps < 2 ^ 32
@@ -256,8 +256,8 @@ module _ (p : Shown) (es fs : List (Entry Seen)) (ss : List Slot) (ts : List Sum
       payload = t.payload;
       steps_is = steps;
       waiting_is = t.waiting;
-      new_is = ap (λ gs. core_of gs ss ts (xs ++ take_event ∷ []) st) t.becomes
-          ∙ ap (λ h. record (core_of (after_take es lent.id) ss ts xs st) { history = h }) (history_push ss ts xs take_event);
+      new_is = ap (λ gs. core_of p.core.kept gs ss ts (xs ++ take_event ∷ []) st) t.becomes
+          ∙ ap (λ h. record (core_of p.core.kept (after_take es lent.id) ss ts xs st) { history = h }) (history_push ss ts xs take_event);
     }
 
     pub take_on : n ≡ length lent.payload.steps → GoesOn before take_told taken_core
@@ -348,13 +348,20 @@ take_gives old c w n waiting j b t place none state =
           let e : t.state ≡ s = cc in
           state ∙ ap (hears old.core) e;
       sound = subst
-          (λ (s : Seen). IsSound R c.history c.nodes (record { id = j.id; taken = j.taken; left = j.left; spent = j.spent; state = s }))
+          (λ (s : Seen). IsSound R c.kept c.history c.nodes (record {
+            id = j.id;
+            taken = j.taken;
+            left = j.left;
+            spent = j.spent;
+            state = s;
+          }))
           (sym state)
           (subst
-          (λ m. IsSound R c.history c.nodes
+          (λ m. IsSound R c.kept c.history c.nodes
           (record { id = j.id; taken = j.taken; left = j.left; spent = m; state = hears old.core t.state })) (sym none)
           (subst
-          (λ m. IsSound R c.history c.nodes (record { id = j.id; taken = m; left = j.left; spent = 0; state = hears old.core t.state }))
+          (λ m. IsSound R c.kept c.history c.nodes
+          (record { id = j.id; taken = m; left = j.left; spent = 0; state = hears old.core t.state }))
           (sym place) (taken_sound old.graphs g old.asserts old.core k c w j.id j.left n waiting t)));
       answered = subst (λ (s : Seen). AreAnswered c.table s.asked) (sym state)
           (taken_answered old.graphs g old.asserts old.core k c w j.id j.left n waiting t);
@@ -366,12 +373,13 @@ take_gives old c w n waiting j b t place none state =
 
 -- where no query is Ready
 pub idle_on : (p : Shown) (es fs : List (Entry Seen)) (ss : List Slot) (ts : List Summary) (xs : List Stored) (st : Bool) (x : Shown) →
-    IsBoard (record p { core = core_of es ss ts xs st }) → record p { core = core_of es ss ts xs st } ≡ x → st ≡ false →
-    not (has_live es) ≡ false → fs ≡ es → HasNoReady es → IsIdle x (record p { core = core_of fs ss ts xs st })
+    IsBoard (record p { core = core_of p.core.kept es ss ts xs st }) → record p { core = core_of p.core.kept es ss ts xs st } ≡ x →
+    st ≡ false →
+    not (has_live es) ≡ false → fs ≡ es → HasNoReady es → IsIdle x (record p { core = core_of p.core.kept fs ss ts xs st })
 idle_on p es fs ss ts xs st x b is going over same none =
-    let old : Shown = record p { core = core_of es ss ts xs st } in
-    subst (λ (x : Shown). IsIdle x (record p { core = core_of fs ss ts xs st })) is (record {
-      same = ap (λ es. record p { core = core_of es ss ts xs st }) same;
+    let old : Shown = record p { core = core_of p.core.kept es ss ts xs st } in
+    subst (λ (x : Shown). IsIdle x (record p { core = core_of p.core.kept fs ss ts xs st })) is (record {
+      same = ap (λ es. record p { core = core_of p.core.kept es ss ts xs st }) same;
       going = going;
       not_over = over;
       none = none;
@@ -398,15 +406,15 @@ module _ (p : Shown) (es fs : List (Entry Seen)) (ss : List Slot) (ts : List Sum
       (news_same old.core new w lent.id lent.left n lent.waiting was_ready t.becomes (history_push ss ts xs event))
 
   pub take_taken : n ≡ length lent.payload.steps → (x : Shown) → old ≡ x → (ys : List Stored) → ys ≡ xs ++ event ∷ [] → (k : ℕ) →
-      k ≡ length xs → (s : Seen) → s ≡ hears (core_of fs ss ts ys st) lent.payload →
-      IsTaken x w (record p { core = core_of fs ss ts ys st })
+      k ≡ length xs → (s : Seen) → s ≡ hears (core_of p.core.kept fs ss ts ys st) lent.payload →
+      IsTaken x w (record p { core = core_of p.core.kept fs ss ts ys st })
       (record { id = lent.id; taken = k; left = lent.left; spent = 0; state = s })
   take_taken steps x is ys pushed k place s heard' =
       let j : Given = record { id = lent.id; taken = k; left = lent.left; spent = 0; state = s } in
       let state : s ≡ hears old.core lent.payload =
-      heard' ∙ (ap (λ zs. hears (core_of fs ss ts zs st) lent.payload) pushed
+      heard' ∙ (ap (λ zs. hears (core_of p.core.kept fs ss ts zs st) lent.payload) pushed
       ∙ hears_same old.core new w lent.id lent.left n lent.waiting was_ready t.becomes (history_push ss ts xs event) lent.payload) in
       let g : IsTaken old w (record p { core = new }) j = take_gives old new w n lent.waiting j b
       (takes_is p es fs ss ts xs st w n lent b going t steps) (place ∙ sym (told_length ss ts xs)) refl state in
-      subst (λ (x : Shown). IsTaken x w (record p { core = core_of fs ss ts ys st }) j) is
-      (subst (λ zs. IsTaken old w (record p { core = core_of fs ss ts zs st }) j) (sym pushed) g)
+      subst (λ (x : Shown). IsTaken x w (record p { core = core_of p.core.kept fs ss ts ys st }) j) is
+      (subst (λ zs. IsTaken old w (record p { core = core_of p.core.kept fs ss ts zs st }) j) (sym pushed) g)

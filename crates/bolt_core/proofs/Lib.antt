@@ -43,6 +43,7 @@ pub mod ClosesOn
 pub mod Changes
 pub mod Closings
 pub mod Firsts
+pub mod Roots
 pub mod StuckSteps
 pub mod Limits
 pub mod InputValues

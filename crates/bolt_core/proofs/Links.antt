@@ -204,7 +204,7 @@ module _ {S : Type 0} (es : List (Entry S)) (h : List Told) (i w : ℕ) (own : E
 
 -- What its last Take told of a sound job
 module _ {S : Type 0} (R : Reads S) (c : Core S) (j : Job S) (own : Entry S) (l : AreLinked c.entries c.history)
-    (s : IsSound R c.history c.nodes j) (since : IsSince R c j own) where
+    (s : IsSound R c.kept c.history c.nodes j) (since : IsSince R c j own) where
   link : IsLinkedTo c.history j.id own
   link = l.linked j.id own since.at since.running
 

@@ -22,9 +22,9 @@ use Rattle.bolt_core.specs.Histories.{Told, asked, asks_by, closed, closes_by, f
 use Rattle.bolt_core.specs.Keeps.{AreGiven, AreLevelled, ArePaired, AreSaid, GivenBy, Placed, counts_once}
 use Rattle.bolt_core.specs.KeptNodes.{KeepsNodes, NodesAreKept}
 use Rattle.bolt_core.specs.Lawful.{GivenFrom, IsLawful}
-use Rattle.bolt_core.specs.Machine.{AllOf, Asks, Closes, Core, Event, Feeds, HoldsBy, MayCloseAs, Parks, Reads, Says, Takes, appended, closed_how, empty_board, node_below, node_of_root, opening, shows, told_child}
+use Rattle.bolt_core.specs.Machine.{AllOf, Asks, Closes, Core, Event, Feeds, HoldsBy, MayCloseAs, Parks, Reads, Says, Takes, appended, closed_how, first_board, node_below, node_of_root, opening, shows, told_child}
 use Rattle.bolt_core.proofs.Above.{close_same, levelled_changed, levelled_pushed}
-use Rattle.bolt_core.proofs.Agreeing.{asked_agree, closed_agree, pushed_agree, quiet_agree, says_not, table_push}
+use Rattle.bolt_core.proofs.Agreeing.{asked_agree, closed_agree, pushed_agree, quiet_agree, says_not, kept_push}
 use Rattle.bolt_core.proofs.Answering.{IsAnsweredIn, answered_closed, answered_last, answered_longer, answered_pushed}
 use Rattle.bolt_core.proofs.Counting.{counted_before, counted_closed, counted_pushed, counted_quiet, counted_said, counted_within, group_length}
 use Rattle.bolt_core.proofs.Groups.{close_given}
@@ -59,37 +59,37 @@ module _ {S : Type 0} where
 module _ {S : Type 0} (R : Reads S) where
   -- The table
 
-  pub table_within : (c : Core S) → KeepsNodes R c → length c.table ≤ length c.nodes
-  table_within c k = counted_within c.table c.nodes c.history k.counted
+  pub table_within : (c : Core S) → KeepsNodes R c → length c.table ≤ length c.kept + length c.nodes
+  table_within c k = counted_within (length c.kept) c.table c.nodes c.history k.counted
 
   -- there is room for one more, of a query that isn't closed, and of which nothing was said
   pub table_before : (c : Core S) → KeepsNodes R c → (i : ℕ) (n : Node) → slice_get c.nodes i ≡ Some n → n.closed ≡ None →
-      has_said c.history i ≡ false → length c.table < length c.nodes
+      has_said c.history i ≡ false → length c.table < length c.kept + length c.nodes
   table_before c k i n at open' unsaid =
-      counted_before c.table c.nodes c.history k.counted i n at (k.counted.silent i n at open') unsaid
+      counted_before (length c.kept) c.table c.nodes c.history k.counted i n at (k.counted.silent i n at open') unsaid
 
   -- Events that change no node
 
-  quiet_kept : (old es : List (Entry S)) (ns : List Node) (table : List Summary) (h : List Told) (e : Told) → named e ≡ [] →
+  quiet_kept : (old es : List (Entry S)) (ns : List Node) (ks table : List Summary) (h : List Told) (e : Told) → named e ≡ [] →
       ((i : ℕ) → closes_by i e None ≡ None) → ((i : ℕ) → asks_by i e ≡ []) → ((i : ℕ) → says_of i e ≡ false) →
-      (ArePaired old ns → ArePaired es ns) → NodesAreKept R old ns table h → NodesAreKept R es ns table (h ++ e ∷ [])
-  quiet_kept old es ns table h e quiet shuts asks says moves k =
+      (ArePaired old ns → ArePaired es ns) → NodesAreKept R old ns ks table h → NodesAreKept R es ns ks table (h ++ e ∷ [])
+  quiet_kept old es ns ks table h e quiet shuts asks says moves k =
       let same : (i : ℕ) → has_said (h ++ e ∷ []) i ≡ has_said h i = λ i. says_not h e i (says i) in
       record {
         paired = moves k.paired;
         levelled = k.levelled;
         agrees = quiet_agree ns h e shuts asks k.agrees;
-        named = table_push h e ∙ (ap (λ ss. table_of h ++ ss) quiet ∙ (append-nil (table_of h) ∙ k.named));
+        named = kept_push ks h e ∙ (ap (λ ss. (ks ++ table_of h) ++ ss) quiet ∙ (append-nil (ks ++ table_of h) ∙ k.named));
         holds = k.holds;
         given = k.given;
         answered = k.answered;
-        counted = counted_quiet table ns h (h ++ e ∷ []) same k.counted;
+        counted = counted_quiet (length ks) table ns h (h ++ e ∷ []) same k.counted;
       }
 
   pub take_nodes : (old new : Core S) (w i left steps : ℕ) (waiting : Bool) →
       Takes R old i left steps waiting (took w i left steps waiting) new → KeepsNodes R old → KeepsNodes R new
   take_nodes old new w i left steps waiting t k = subst (KeepsNodes R) (sym t.new_is)
-      (quiet_kept old.entries (after_take old.entries i) old.nodes old.table old.history (took w i left steps waiting) refl
+      (quiet_kept old.entries (after_take old.entries i) old.nodes old.kept old.table old.history (took w i left steps waiting) refl
       (λ _. refl) (λ _. refl) (λ _. refl)
       (λ p. take_paired old.entries old.nodes p i t.own t.at t.ready) k)
 
@@ -97,19 +97,19 @@ module _ {S : Type 0} (R : Reads S) where
   park_nodes old new w i n r t k =
       let at : slice_get old.entries i ≡ Some t.own = subst (λ j. slice_get old.entries j ≡ Some t.own) t.id t.since.at in
       subst (KeepsNodes R) (sym t.new_is)
-      (quiet_kept old.entries _ old.nodes old.table old.history (parked w i n r) refl (λ _. refl) (λ _. refl) (λ _. refl)
+      (quiet_kept old.entries _ old.nodes old.kept old.table old.history (parked w i n r) refl (λ _. refl) (λ _. refl) (λ _. refl)
       (λ p. back_paired old.entries old.nodes p i t.own at t.since.running n r t.job.state) k)
 
   pub feed_nodes : (old new : Core S) (w i n c : ℕ) → Feeds R old i n c (fed w i n c) new → KeepsNodes R old → KeepsNodes R new
   feed_nodes old new w i n c t k =
       let at : slice_get old.entries i ≡ Some t.own = subst (λ j. slice_get old.entries j ≡ Some t.own) t.id t.since.at in
       subst (KeepsNodes R) (sym t.new_is)
-      (quiet_kept old.entries _ old.nodes old.table old.history (fed w i n c) refl (λ _. refl) (λ _. refl) (λ _. refl)
+      (quiet_kept old.entries _ old.nodes old.kept old.table old.history (fed w i n c) refl (λ _. refl) (λ _. refl) (λ _. refl)
       (λ p. feed_paired old.entries old.nodes p i t.own at t.since.running n t.job.state c t.child) k)
 
   pub stop_nodes : (old new : Core S) (w : ℕ) → Event R old (stopped w) new → KeepsNodes R old → KeepsNodes R new
   stop_nodes old new w t k = subst (KeepsNodes R) (sym t.2)
-      (quiet_kept old.entries old.entries old.nodes old.table old.history (stopped w) refl (λ _. refl) (λ _. refl) (λ _. refl)
+      (quiet_kept old.entries old.entries old.nodes old.kept old.table old.history (stopped w) refl (λ _. refl) (λ _. refl) (λ _. refl)
       (λ p. p) k)
 
   -- A Publish
@@ -120,25 +120,26 @@ module _ {S : Type 0} (R : Reads S) where
       let e : Told = said w i s in
       let open' : t.node.closed ≡ None = open_node old.entries old.nodes k.paired i t.own t.node t.at t.node_at
       (λ z. let f : Dropped t.stamp ≡ Closed = sym t.dropped ∙ z in absurd (cc)) in
-      let next : NodesAreKept R old.entries old.nodes (old.table ++ s ∷ []) (h ++ e ∷ []) = record {
+      let next : NodesAreKept R old.entries old.nodes old.kept (old.table ++ s ∷ []) (h ++ e ∷ []) = record {
         paired = k.paired;
         levelled = k.levelled;
         agrees = quiet_agree old.nodes h e (λ _. refl) (λ _. refl) k.agrees;
-        named = table_push h e ∙ ap (λ ss. ss ++ s ∷ []) k.named;
+        named = kept_push old.kept h e ∙ ap (λ ss. ss ++ s ∷ []) k.named;
         holds = all_append (HoldsBy R) old.table (s ∷ []) k.holds (t.holds, tt);
         given = k.given;
         answered = answered_longer old.table (s ∷ []) old.nodes k.answered;
-        counted = counted_said old.table old.nodes h (h ++ e ∷ []) i t.node s t.node_at open' t.once (said_more h e) k.counted;
+        counted = counted_said (length old.kept) old.table old.nodes h (h ++ e ∷ []) i t.node s t.node_at open' t.once (said_more h e)
+            k.counted;
       } in
       subst (KeepsNodes R) (sym t.new_is) next
 
   -- A query more
 
-  pub pushed_kept : (es : List (Entry S)) (ns : List Node) (table : List Summary) (h : List Told) (x : Entry S) (m : Node) →
+  pub pushed_kept : (es : List (Entry S)) (ns : List Node) (ks table : List Summary) (h : List Told) (x : Entry S) (m : Node) →
       x.parent ≡ m.parent → is_open x.status ≡ true → m.closed ≡ None → m.published ≡ false →
-      Placed ns (length ns) m.parent m.level → has_said h (length ns) ≡ false → NodesAreKept R es ns table h → NodesAreKept R (es ++ x ∷ [])
-      (ns ++ m ∷ []) table h
-  pushed_kept es ns table h x m up opens none silent placed unsaid k = record {
+      Placed ns (length ns) m.parent m.level → has_said h (length ns) ≡ false → NodesAreKept R es ns ks table h →
+      NodesAreKept R (es ++ x ∷ []) (ns ++ m ∷ []) ks table h
+  pushed_kept es ns ks table h x m up opens none silent placed unsaid k = record {
     paired = paired_pushed es ns x m up opens none k.paired;
     levelled = levelled_pushed ns m k.levelled placed;
     agrees = pushed_agree ns h m none k.agrees;
@@ -146,7 +147,7 @@ module _ {S : Type 0} (R : Reads S) where
     holds = k.holds;
     given = given_pushed R ns m k.levelled none k.given;
     answered = answered_pushed table ns m none k.answered;
-    counted = counted_pushed table ns h m silent unsaid k.counted;
+    counted = counted_pushed (length ks) table ns h m silent unsaid k.counted;
   }
 
   pub ask_nodes : (old new : Core S) (w i n c : ℕ) (q : Query) → Asks R old i n c q (asked w i n c q) new →
@@ -162,7 +163,7 @@ module _ {S : Type 0} (R : Reads S) where
       let m : Node = node_below R i t.sound.node q in
       let child : Entry S = child_of t.own i n t.child in
       let es : List (Entry S) = changed (less_at t.own i n (told_child R t.job.state c) (part (t.own.left - n))) old.entries in
-      let moved : NodesAreKept R es old.nodes old.table h = record {
+      let moved : NodesAreKept R es old.nodes old.kept old.table h = record {
         paired = less_paired old.entries old.nodes k.paired i t.own at t.since.running n (told_child R t.job.state c)
             (part (t.own.left - n));
         levelled = k.levelled;
@@ -173,22 +174,22 @@ module _ {S : Type 0} (R : Reads S) where
         answered = k.answered;
         counted = k.counted;
       } in
-      let more = pushed_kept es old.nodes old.table h child m refl (open_rest (part (t.own.left - n))) refl refl
+      let more = pushed_kept es old.nodes old.kept old.table h child m refl (open_rest (part (t.own.left - n))) refl refl
       (within old.nodes i t.sound.node node_at, t.sound.node, node_at, refl)
       (unsaid_next old.entries h d (length old.nodes) (omega (arith, k.paired.count))) moved in
       let same : (j : ℕ) → has_said (h ++ e ∷ []) j ≡ has_said h j = λ j. says_not h e j refl in
-      let next : NodesAreKept R (es ++ child ∷ []) (old.nodes ++ m ∷ []) old.table (h ++ e ∷ []) = record {
+      let next : NodesAreKept R (es ++ child ∷ []) (old.nodes ++ m ∷ []) old.kept old.table (h ++ e ∷ []) = record {
         paired = more.paired;
         levelled = more.levelled;
         agrees = asked_agree old.nodes h w i n c q m (t.number ∙ k.paired.count) refl refl refl k.agrees;
-        named = table_push h e ∙ (append-nil (table_of h) ∙ k.named);
+        named = kept_push old.kept h e ∙ (append-nil (old.kept ++ table_of h) ∙ k.named);
         holds = more.holds;
         given = more.given;
         answered = more.answered;
-        counted = counted_quiet old.table (old.nodes ++ m ∷ []) h (h ++ e ∷ []) same more.counted;
+        counted = counted_quiet (length old.kept) old.table (old.nodes ++ m ∷ []) h (h ++ e ∷ []) same more.counted;
       } in
       subst (KeepsNodes R) (sym t.new_is)
-      (subst (λ ts. NodesAreKept R (es ++ child ∷ []) (old.nodes ++ m ∷ []) ts (h ++ e ∷ [])) (sym (append-nil old.table)) next)
+      (subst (λ ts. NodesAreKept R (es ++ child ∷ []) (old.nodes ++ m ∷ []) old.kept ts (h ++ e ∷ [])) (sym (append-nil old.table)) next)
 
   -- A Close
 
@@ -258,11 +259,11 @@ module _ {S : Type 0} (R : Reads S) where
       (λ m z. let f : Running ≡ Dropped m = sym t.since.running ∙ z in absurd (cc)) in
       let above : R.above s ≡ ancestors ns i own.parent =
       t.sound.above ∙ ap (λ j. ancestors ns j own.parent) t.id in
-      let true' : AllOf (HoldsBy R) (table_of h) = subst (AllOf (HoldsBy R)) (sym k.named) k.holds in
+      let true' : AllOf (HoldsBy R) (old.kept ++ table_of h) = subst (AllOf (HoldsBy R)) (sym k.named) k.holds in
       let gives : t.closing ≡ closing.NotMay → GivenFrom R.nm (ancestors ns i own.parent ++ own.query ∷ []) own.query (R.lowest s) =
       λ c. subst (λ qs. GivenFrom R.nm (qs ++ own.query ∷ []) own.query (R.lowest s)) above
       (subst (λ q. GivenFrom R.nm (R.above s ++ q ∷ []) q (R.lowest s)) t.sound.query
-      (g.gives (table_of h) s t.sound.state true' (subst (R.IsClosed s) c t.is_closed))) in
+      (g.gives (old.kept ++ table_of h) s t.sound.state true' (subst (R.IsClosed s) c t.is_closed))) in
       let may : MayCloseAs R own.query t.closing = subst (λ q. MayCloseAs R q t.closing) t.sound.query t.may in
       let first : IsTrueClose ns old.table i own (closed_how R own.level s t.closing)
       (appended R ns i own (closed_how R own.level s t.closing) t.closing) =
@@ -272,17 +273,18 @@ module _ {S : Type 0} (R : Reads S) where
       let f : IsTrueClose ns old.table i own shut ss = subst (IsTrueClose ns old.table i own shut) (sym t.appends) told in
       let same : (j : ℕ) → has_said (h ++ e ∷ []) j ≡ has_said h j = λ j. says_not h e j refl in
       let next : NodesAreKept R (after_close old.entries t.own i n s (length h)) (changed (closed_at ns i shut (shows R shut) own.level) ns)
-      (old.table ++ ss) (h ++ e ∷ []) = record {
+      old.kept (old.table ++ ss) (h ++ e ∷ []) = record {
         paired = close_paired old.entries i t.own at t.since.running n s (length h) ns shut (shows R shut) own.level k.paired;
         levelled = levelled_changed ns (closed_at ns i shut (shows R shut) own.level) (close_same ns i shut (shows R shut) own.level)
             k.levelled;
         agrees = closed_agree ns h w i n shut ss (shows R shut) own.level own node_at open' k.agrees;
-        named = table_push h e ∙ ap (λ ts. ts ++ ss) k.named;
+        named = kept_push old.kept h e ∙ ap (λ ts. ts ++ ss) k.named;
         holds = all_append (HoldsBy R) old.table ss k.holds f.holds;
         given = given_closed R ns k.given i own node_at shut (shows R shut) f.known;
         answered = answered_closed (old.table ++ ss) ns i own shut (shows R shut) own.level node_at f.must
             (answered_longer old.table ss ns k.answered);
-        counted = counted_closed ns h (h ++ e ∷ []) i own node_at open' unsaid same shut (shows R shut) old.table ss k.counted f.many;
+        counted = counted_closed ns h (h ++ e ∷ []) i own node_at open' unsaid same shut (shows R shut) (length old.kept) old.table ss
+            k.counted f.many;
       } in
       subst (KeepsNodes R) (sym t.new_is) next
 
@@ -301,8 +303,9 @@ module _ {S : Type 0} (R : Reads S) where
   -- Roots
 
   pub root_nodes : (c : Core S) (grant : ℕ) (s : S) → c.history ≡ [] → KeepsNodes R c →
-      NodesAreKept R (after_root c.entries grant s) (c.nodes ++ node_of_root R s ∷ []) c.table c.history
-  root_nodes c grant s none k = pushed_kept c.entries c.nodes c.table c.history (root_of (length c.entries) grant s) (node_of_root R s)
+      NodesAreKept R (after_root c.entries grant s) (c.nodes ++ node_of_root R s ∷ []) c.kept c.table c.history
+  root_nodes c grant s none k = pushed_kept c.entries c.nodes c.kept c.table c.history (root_of (length c.entries) grant s)
+      (node_of_root R s)
       refl refl refl refl refl (ap (λ h. has_said h (length c.nodes)) none) k
 
   pub opening_nodes : (grant : ℕ) (ss : List S) (c : Core S) → c.history ≡ [] → KeepsNodes R c → KeepsNodes R (opening R grant ss c)
@@ -312,8 +315,8 @@ module _ {S : Type 0} (R : Reads S) where
     nodes = c.nodes ++ node_of_root R s ∷ [];
   }) none (root_nodes c grant s none k)
 
-  pub empty_nodes : KeepsNodes R (empty_board R)
-  empty_nodes = record {
+  pub empty_nodes : (ks : List Summary) → AllOf (HoldsBy R) ks → KeepsNodes R (first_board R ks)
+  empty_nodes ks holds = record {
     paired = record {
       count = refl;
       parents = λ i e n a b. absurd (cc);
@@ -321,9 +324,9 @@ module _ {S : Type 0} (R : Reads S) where
     };
     levelled = record { placed = λ i n a. absurd (cc) };
     agrees = record { closed = λ i n a. absurd (cc); asked = λ i. tt; fresh = λ i le. refl };
-    named = refl;
-    holds = tt;
+    named = append-nil ks;
+    holds = holds;
     given = record { given = λ i n a. absurd (cc) };
     answered = record { answered = λ i n a c. absurd (cc) };
-    counted = record { counted = refl; apart = λ i n a e. absurd (cc); silent = λ i n a o. absurd (cc) };
+    counted = record { counted = omega arith; apart = λ i n a e. absurd (cc); silent = λ i n a o. absurd (cc) };
   }

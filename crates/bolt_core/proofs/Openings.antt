@@ -6,10 +6,11 @@ use Rattle.query_tree.specs.Forest.{after_root, root_of}
 use Rattle.query_tree.specs.Kept.{IsKept}
 use Rattle.query_tree.proofs.Feed.{root_kept}
 use Rattle.query_tree.proofs.Lists.{from_pushed}
+use Rattle.summary_form.specs.declared.summary.Summary.{Summary}
 use Rattle.bolt_core.specs.Histories.{Told, has_said}
 use Rattle.bolt_core.specs.Keeps.{AreEnded, Stocked}
 use Rattle.bolt_core.specs.KeptEntries.{KeepsEntries}
-use Rattle.bolt_core.specs.Machine.{AllOf, Core, Reads, empty_board, node_of_root, opening}
+use Rattle.bolt_core.specs.Machine.{AllOf, Core, Reads, first_board, node_of_root, opening}
 use Rattle.bolt_core.proofs.Credits.{room_root}
 use Rattle.bolt_core.proofs.Links.{linked_pushed}
 use Rattle.bolt_core.proofs.Stored.{StoredIn}
@@ -34,14 +35,14 @@ module _ {S : Type 0} (R : Reads S) where
     going = λ t i now k lt z. let a = z.at in let e = ap (λ (h : List Told). slice_get h k) none in absurd (cc);
   }
 
-  none_entries : KeepsEntries R 0 (empty_board R)
-  none_entries = record {
+  none_entries : (ks : List Summary) → KeepsEntries R 0 (first_board R ks)
+  none_entries ks = record {
     kept = none_kept S;
     stocked = record { stocked = λ i e a. absurd (cc) };
     stored = record { stored = λ i e a. absurd (cc) };
     room = record { owed = omega arith; few = omega arith };
     linked = record { linked = λ i e a. absurd (cc) };
-    ended = none_ended (empty_board R) refl;
+    ended = none_ended (first_board R ks) refl;
     said = record { said = λ i is. absurd (cc) };
   }
 
@@ -85,7 +86,9 @@ module _ {S : Type 0} (R : Reads S) where
         subst (λ m. KeepsEntries R m (opening R grant ss (with_root c s))) e
         (roots_entries ss (n + 1) (with_root c s) none made.1 (root_entries n c s none made.0 h))
 
-    pub opening_entries : (ss : List S) → AllOf (λ s. R.steps s ≡ 0) ss → KeepsEntries R (length ss) (opening R grant ss (empty_board R))
-    opening_entries ss made =
+    pub opening_entries : (ss : List S) (ks : List Summary) → AllOf (λ s. R.steps s ≡ 0) ss →
+        KeepsEntries R (length ss) (opening R grant ss (first_board R ks))
+    opening_entries ss ks made =
         let e : 0 + length ss ≡ length ss = omega arith in
-        subst (λ m. KeepsEntries R m (opening R grant ss (empty_board R))) e (roots_entries ss 0 (empty_board R) refl made none_entries)
+        subst (λ m. KeepsEntries R m (opening R grant ss (first_board R ks))) e
+        (roots_entries ss 0 (first_board R ks) refl made (none_entries ks))

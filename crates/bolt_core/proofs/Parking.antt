@@ -33,13 +33,14 @@ live_is true h = refl
 live_is false h = absurd (cc)
 
 pub stop_on : (p : Shown) (es : List (Entry Seen)) (ss : List Slot) (ts : List Summary) (xs : List Stored) (st : Bool) (w : ℕ) →
-    IsBoard (record p { core = core_of es ss ts xs st }) → st ≡ false → not (has_live es) ≡ false →
-    GoesOn (record p { core = core_of es ss ts xs st }) (stopped w) (core_of es ss ts (xs ++ stored.Stop w ∷ []) true)
+    IsBoard (record p { core = core_of p.core.kept es ss ts xs st }) → st ≡ false → not (has_live es) ≡ false →
+    GoesOn (record p { core = core_of p.core.kept es ss ts xs st }) (stopped w) (core_of p.core.kept es ss ts (xs ++ stored.Stop w ∷ [])
+    true)
 stop_on p es ss ts xs st w b going over =
     let a = any_at is_live_entry es (live_is (has_live es) over) in
-    let old : Shown = record p { core = core_of es ss ts xs st } in
-    goes_on old (stopped w) (core_of es ss ts (xs ++ stored.Stop w ∷ []) true) b
-    (over, going, ap (λ h. record (core_of es ss ts xs true) { history = h }) (history_push ss ts xs (stored.Stop w)))
+    let old : Shown = record p { core = core_of p.core.kept es ss ts xs st } in
+    goes_on old (stopped w) (core_of p.core.kept es ss ts (xs ++ stored.Stop w ∷ []) true) b
+    (over, going, ap (λ h. record (core_of p.core.kept es ss ts xs true) { history = h }) (history_push ss ts xs (stored.Stop w)))
     (omega (arith, within es a.0 a.1 a.2))
 
 -- Of a sound job
@@ -83,14 +84,14 @@ park_gives b h g r p v w is = may_give b r g p.sound.waiting w (is ∙ sound_wai
 
 pub park_on : (p : Shown) (es fs : List (Entry Seen)) (ss : List Slot) (ts : List Summary) (xs : List Stored) (st : Bool) (w : ℕ)
     (g : Given)
-    (r : Rest) → let b : Shown = record p { core = core_of es ss ts xs st } in IsBoard b → MayBeParked b g r →
+    (r : Rest) → let b : Shown = record p { core = core_of p.core.kept es ss ts xs st } in IsBoard b → MayBeParked b g r →
     IsNow b.core g.id g.taken → Went (λ own. after_back es own g.id g.spent r g.state) es fs g.id →
-    GoesOn b (parked w g.id g.spent r) (core_of fs ss ts (xs ++ stored.Park w g.id g.spent r ∷ []) st)
+    GoesOn b (parked w g.id g.spent r) (core_of p.core.kept fs ss ts (xs ++ stored.Park w g.id g.spent r ∷ []) st)
 park_on p es fs ss ts xs st w g r h m v t =
-    let b : Shown = record p { core = core_of es ss ts xs st } in
+    let b : Shown = record p { core = core_of p.core.kept es ss ts xs st } in
     let x : Stored = stored.Park w g.id g.spent r in
     let same : t.own ≡ v.own = one_at es g.id g.id v.own t.own v.at t.at refl in
-    goes_on b (parked w g.id g.spent r) (core_of fs ss ts (xs ++ x ∷ []) st) h
+    goes_on b (parked w g.id g.spent r) (core_of p.core.kept fs ss ts (xs ++ x ∷ []) st) h
     (record {
       job = job_of g;
       own = v.own;
@@ -100,8 +101,10 @@ park_on p es fs ss ts xs st w g r h m v t =
       spent = refl;
       may = m.may;
       no_ask = m.no_ask;
-      new_is = ap (λ gs. core_of gs ss ts (xs ++ x ∷ []) st) (t.becomes ∙ ap (λ own. after_back es own g.id g.spent r g.state) same)
-          ∙ ap (λ h. record (core_of (after_back es v.own g.id g.spent r g.state) ss ts xs st) { history = h }) (history_push ss ts xs x);
+      new_is = ap (λ gs. core_of p.core.kept gs ss ts (xs ++ x ∷ []) st) (t.becomes ∙ ap (λ own. after_back es own g.id g.spent r g.state)
+          same)
+          ∙ ap (λ h. record (core_of p.core.kept (after_back es v.own g.id g.spent r g.state) ss ts xs st) { history = h })
+          (history_push ss ts xs x);
     })
     (omega (arith, within es g.id v.own v.at))
 
@@ -123,14 +126,14 @@ feed_child b h g n m v a at =
 
 pub feed_on : (p : Shown) (es fs : List (Entry Seen)) (ss : List Slot) (ts : List Summary) (xs : List Stored) (st : Bool) (w : ℕ)
     (g : Given)
-    (n : ℕ) (a : Asked) → let b : Shown = record p { core = core_of es ss ts xs st } in IsBoard b → MayFeed b g n →
+    (n : ℕ) (a : Asked) → let b : Shown = record p { core = core_of p.core.kept es ss ts xs st } in IsBoard b → MayFeed b g n →
     IsNow b.core g.id g.taken → slice_get g.state.asked n ≡ Some a →
     Fed (λ own entry. after_feed es own g.id g.spent g.state a.child entry) es fs g.id a.child →
-    GoesOn b (fed w g.id g.spent a.child) (core_of fs ss ts (xs ++ stored.Feed w g.id g.spent a.child ∷ []) st)
+    GoesOn b (fed w g.id g.spent a.child) (core_of p.core.kept fs ss ts (xs ++ stored.Feed w g.id g.spent a.child ∷ []) st)
 feed_on p es fs ss ts xs st w g n a h m v at t =
-    let b : Shown = record p { core = core_of es ss ts xs st } in
+    let b : Shown = record p { core = core_of p.core.kept es ss ts xs st } in
     let x : Stored = stored.Feed w g.id g.spent a.child in
-    goes_on b (fed w g.id g.spent a.child) (core_of fs ss ts (xs ++ x ∷ []) st) h
+    goes_on b (fed w g.id g.spent a.child) (core_of p.core.kept fs ss ts (xs ++ x ∷ []) st) h
     (record {
       job = job_of g;
       own = t.own;
@@ -146,8 +149,8 @@ feed_on p es fs ss ts xs st w g n a h m v at t =
       asked = at;
       is_child = refl;
       child_at = t.child_at;
-      new_is = ap (λ gs. core_of gs ss ts (xs ++ x ∷ []) st) t.becomes
-          ∙ ap (λ h. record (core_of (after_feed es t.own g.id g.spent g.state a.child t.entry) ss ts xs st) { history = h })
+      new_is = ap (λ gs. core_of p.core.kept gs ss ts (xs ++ x ∷ []) st) t.becomes
+          ∙ ap (λ h. record (core_of p.core.kept (after_feed es t.own g.id g.spent g.state a.child t.entry) ss ts xs st) { history = h })
           (history_push ss ts xs x);
     })
     (omega (arith, within es g.id v.own v.at))

@@ -2,7 +2,7 @@
 use Rattle.std.proofs.Common.{◌≡◌, ℕ, zero, suc, ◌+◌, ◌-◌, ◌<◌, ◌≤◌, List, [], ◌∷◌, ◌++◌, length, take, drop, Bool, true, false, Option, Some, refl, sym, ap, ◌∙◌, subst, ⊎_elim, arith}
 use Rattle.std.specs.Prelude.{slice_get, ◌==◌, ◌&&◌}
 use Rattle.std.proofs.lemmas.Bool.{cond_both, eq-eqb, ne_eqb}
-use Rattle.std.proofs.lemmas.List.{take-append-drop}
+use Rattle.std.proofs.lemmas.List.{append-nil, take-append-drop}
 use Rattle.query_tree.specs.declared.Entry.{Entry}
 use Rattle.query_tree.specs.declared.Rest.{Rest}
 use Rattle.query_tree.specs.declared.Status.{Status}
@@ -25,9 +25,9 @@ use Rattle.bolt_core.specs.Histories.{Told, asked, asks_by, asks_of, closed, clo
 use Rattle.bolt_core.specs.Keeps.{AreLevelled, ArePayloads, AreLinked, IsPayload, Placed}
 use Rattle.bolt_core.specs.KeptNodes.{KeepsNodes}
 use Rattle.bolt_core.specs.Lawful.{IsLawful}
-use Rattle.bolt_core.specs.Machine.{AllOf, Asks, Closes, Core, Event, Feeds, IsNews, IsRoot, IsSince, IsSound, Job, Last, Matches, Parks, Reads, Says, Takes, a_feed, an_ask, asks_more, empty_board, node_below, node_of_root, opening, other, shows, told_child, with_event, with_nodes}
+use Rattle.bolt_core.specs.Machine.{AllOf, Asks, Closes, Core, Event, Feeds, HoldsBy, IsNews, IsRoot, IsSince, IsSound, Job, Last, Matches, Parks, Reads, Says, Takes, a_feed, an_ask, asks_more, first_board, node_below, node_of_root, opening, other, shows, told_child, with_event, with_nodes}
 use Rattle.bolt_core.proofs.Above.{SameNode, ancestors_changed, ancestors_pushed, close_same, levelled_pushed}
-use Rattle.bolt_core.proofs.Agreeing.{IsAsk, asks_push, closed_append, orelse, table_push}
+use Rattle.bolt_core.proofs.Agreeing.{IsAsk, asks_push, closed_append, orelse, kept_push}
 use Rattle.bolt_core.proofs.Lines.{ancestors_line, line_step}
 use Rattle.bolt_core.proofs.Links.{asks_more_of, quiet_is}
 use Rattle.bolt_core.proofs.Nodes.{empty_nodes, root_nodes}
@@ -157,10 +157,12 @@ module _ {S : Type 0} (R : Reads S) where
   }
 
   -- At an event
-  module _ (g : IsLawful R) (old new : Core S) (e : Told) (grown : new.history ≡ old.history ++ e ∷ []) where
-    state_more : (s : S) → R.IsState (table_of old.history) s → R.IsState (table_of new.history) s
-    state_more s h = subst (λ t. R.IsState t s) (sym (ap table_of grown ∙ table_push old.history e))
-        (g.longer (table_of old.history) (named e) s h)
+  module _ (g : IsLawful R) (old new : Core S) (e : Told) (grown : new.history ≡ old.history ++ e ∷ [])
+      (same_kept : new.kept ≡ old.kept) where
+    state_more : (s : S) → R.IsState (old.kept ++ table_of old.history) s → R.IsState (new.kept ++ table_of new.history) s
+    state_more s h = subst (λ t. R.IsState t s) (sym (ap (λ ks. ks ++ table_of new.history) same_kept
+        ∙ (ap (λ h. old.kept ++ table_of h) grown ∙ kept_push old.kept old.history e)))
+        (g.longer (old.kept ++ table_of old.history) (named e) s h)
 
     news_more : (as' : List Asked) → AllOf (λ a. IsNews a.news (closed_as old.history a.child)) as' →
         AllOf (λ a. IsNews a.news (closed_as new.history a.child)) as'
@@ -182,7 +184,7 @@ module _ {S : Type 0} (R : Reads S) where
     }
 
     -- the state of a sound job
-    job_payload : (j : Job S) (sound : IsSound R old.history old.nodes j) (m : Node) (st : Status) →
+    job_payload : (j : Job S) (sound : IsSound R old.kept old.history old.nodes j) (m : Node) (st : Status) →
         SameFor old.nodes new.nodes j.id sound.node m →
         (is_open st ≡ true → Matches (R.entries j.state) (asks_of new.history j.id) 0) → IsPayload R new j.id m st j.state
     job_payload j sound m st same entries = record {
@@ -195,7 +197,7 @@ module _ {S : Type 0} (R : Reads S) where
     }
 
     -- of a job whose last step isn't an Ask
-    matched_job : (j : Job S) (own : Entry S) (l : AreLinked old.entries old.history) (sound : IsSound R old.history old.nodes j)
+    matched_job : (j : Job S) (own : Entry S) (l : AreLinked old.entries old.history) (sound : IsSound R old.kept old.history old.nodes j)
         (since : IsSince R old j own) → asks_more j.spent (R.last j.state) ≡ 0 → asks_by j.id e ≡ [] →
         Matches (R.entries j.state) (asks_of new.history j.id) 0
     matched_job j own l sound since no' none =
@@ -278,7 +280,8 @@ module _ {S : Type 0} (R : Reads S) where
             (from_pushed es (child_of own i n c) j x a)
 
       -- the state of the job that is given back
-      given_for : (j : Job S) (own : Entry S) (sound : IsSound R old.history old.nodes j) → IsSince R old j own → (i : ℕ) → j.id ≡ i →
+      given_for : (j : Job S) (own : Entry S) (sound : IsSound R old.kept old.history old.nodes j) → IsSince R old j own → (i : ℕ) →
+          j.id ≡ i →
           (st : Status) → (is_open st ≡ true → Matches (R.entries j.state) (asks_of new.history j.id) 0) → (m : Node) →
           slice_get new.nodes i ≡ Some m → IsPayload R new i m st j.state
       given_for j own sound since i id st entries m b =
@@ -289,14 +292,14 @@ module _ {S : Type 0} (R : Reads S) where
           (job_payload j sound m st (subst (λ (o : Node). SameFor old.nodes new.nodes j.id o m) n w.same) entries)
 
       -- the state of an asking job, whose last entry is told the child
-      told_for : (j : Job S) (own : Entry S) → AreLinked old.entries old.history → (sound : IsSound R old.history old.nodes j) →
+      told_for : (j : Job S) (own : Entry S) → AreLinked old.entries old.history → (sound : IsSound R old.kept old.history old.nodes j) →
           IsSince R old j own → (i : ℕ) → j.id ≡ i → (c : ℕ) (q : Query) → R.last j.state ≡ an_ask q → 1 ≤ j.spent →
           asks_by j.id e ≡ (c, q) ∷ [] → (st : Status) (m : Node) → slice_get new.nodes i ≡ Some m →
           IsPayload R new i m st (told_child R j.state c)
       told_for j own l sound since i id c q last made asks st m b =
           let s : S = j.state in
           let n : ℕ = length (R.entries s) - 1 in
-          let a = g.asks_last (table_of old.history) s q sound.state last in
+          let a = g.asks_last (old.kept ++ table_of old.history) s q sound.state last in
           let b' : slice_get new.nodes j.id ≡ Some m = subst (λ k. slice_get new.nodes k ≡ Some m) (sym id) b in
           let w = was j.id own m since.at b' in
           let o : w.node ≡ sound.node = let x = w.at in let y = sound.node_at in cc in
@@ -311,7 +314,7 @@ module _ {S : Type 0} (R : Reads S) where
           ap (λ h. asks_of h j.id) grown ∙ (asks_push old.history e j.id ∙ ap (λ ys. asks_of old.history j.id ++ ys) asks) in
           let full : length (R.entries s) ≡ suc n = omega (arith, within (R.entries s) n a.entry a.there) in
           subst (λ k. IsPayload R new k m st (told_child R s c)) id (record {
-            state = state_more (told_child R s c) (g.tell_asked (table_of old.history) s q c sound.state last);
+            state = state_more (told_child R s c) (g.tell_asked (old.kept ++ table_of old.history) s q c sound.state last);
             query = g.tell_query n c news.Waiting s ∙ (sound.query ∙ sym same.query);
             level = g.tell_level n c news.Waiting s ∙ (sound.level ∙ sym same.level);
             above = g.tell_above n c news.Waiting s ∙ (sound.above ∙ sym same.above);
@@ -336,7 +339,7 @@ module _ {S : Type 0} (R : Reads S) where
         let e : Told = took w i left steps waiting in
         let c : Core S = with_event R old (after_take old.entries i) e in
         let p : ArePayloads R c = record {
-          payloads = take_payloads g old c e refl same_nodes h i (has_live_child old.entries i) (λ _. refl);
+          payloads = take_payloads g old c e refl refl same_nodes h i (has_live_child old.entries i) (λ _. refl);
         } in
         subst (ArePayloads R) (sym t.new_is) p
 
@@ -344,14 +347,14 @@ module _ {S : Type 0} (R : Reads S) where
     said_payloads new w i s t =
         let e : Told = said w i s in
         let c : Core S = with_nodes R old old.entries old.nodes (s ∷ []) e in
-        let p : ArePayloads R c = record { payloads = same_payloads g old c e refl same_nodes h (λ _. refl) } in
+        let p : ArePayloads R c = record { payloads = same_payloads g old c e refl refl same_nodes h (λ _. refl) } in
         subst (ArePayloads R) (sym t.new_is) p
 
     stopped_payloads : (new : Core S) (w : ℕ) → Event R old (stopped w) new → ArePayloads R new
     stopped_payloads new w t =
         let e : Told = stopped w in
         let c : Core S = record old { history = old.history ++ e ∷ []; is_stopped = true } in
-        let p : ArePayloads R c = record { payloads = same_payloads g old c e refl same_nodes h (λ _. refl) } in
+        let p : ArePayloads R c = record { payloads = same_payloads g old c e refl refl same_nodes h (λ _. refl) } in
         subst (ArePayloads R) (sym t.2) p
 
     fed_payloads : (new : Core S) (w i n c : ℕ) → Feeds R old i n c (fed w i n c) new → ArePayloads R new
@@ -361,9 +364,9 @@ module _ {S : Type 0} (R : Reads S) where
         let at : slice_get old.entries i ≡ Some t.own = subst (λ j. slice_get old.entries j ≡ Some t.own) t.id t.since.at in
         let c : Core S = with_event R old (after_feed old.entries t.own i n j.state d t.child) e in
         let p : ArePayloads R c = record {
-          payloads = feed_payloads g old c e refl same_nodes h t.own i at j.state (λ _ _. refl) n d t.child
-              (λ st. given_for g old c e refl same_nodes h j t.own t.sound t.since i t.id st
-              (λ _. matched_job g old c e refl j t.own l t.sound t.since
+          payloads = feed_payloads g old c e refl refl same_nodes h t.own i at j.state (λ _ _. refl) n d t.child
+              (λ st. given_for g old c e refl refl same_nodes h j t.own t.sound t.since i t.id st
+              (λ _. matched_job g old c e refl refl j t.own l t.sound t.since
               (subst (λ x. asks_more j.spent x ≡ 0) (sym t.last) refl) refl));
         } in
         subst (ArePayloads R) (sym t.new_is) p
@@ -376,9 +379,9 @@ module _ {S : Type 0} (R : Reads S) where
         let c : Core S = with_event R old (after_back old.entries t.own i n r j.state) e in
         let st : Status = back_as r t.own.stirred (t.own.left - n) in
         let p : ArePayloads R c = record {
-          payloads = rest_payloads g old c e refl same_nodes h t.own i at j.state (λ _ _. refl) st (t.own.left - n) n
-              (given_for g old c e refl same_nodes h j t.own t.sound t.since i t.id st
-              (λ _. matched_job g old c e refl j t.own l t.sound t.since (no_more j.spent (R.last j.state) t.no_ask) refl));
+          payloads = rest_payloads g old c e refl refl same_nodes h t.own i at j.state (λ _ _. refl) st (t.own.left - n) n
+              (given_for g old c e refl refl same_nodes h j t.own t.sound t.since i t.id st
+              (λ _. matched_job g old c e refl refl j t.own l t.sound t.since (no_more j.spent (R.last j.state) t.no_ask) refl));
         } in
         subst (ArePayloads R) (sym t.new_is) p
 
@@ -395,8 +398,8 @@ module _ {S : Type 0} (R : Reads S) where
         WasFor old.nodes c.nodes o m =
         λ o x m a b. changed_for old.nodes f (close_same old.nodes i shut (shows R shut) t.sound.node.level) o m b in
         let p : ArePayloads R c = record {
-          payloads = close_payloads g old c e refl was h t.own i at j.state (λ _ _. refl) n stamp
-              (given_for g old c e refl was h j t.own t.sound t.since i t.id Closed (λ o. absurd (cc)));
+          payloads = close_payloads g old c e refl refl was h t.own i at j.state (λ _ _. refl) n stamp
+              (given_for g old c e refl refl was h j t.own t.sound t.since i t.id Closed (λ o. absurd (cc)));
         } in
         subst (ArePayloads R) (sym t.new_is) p
 
@@ -427,7 +430,7 @@ module _ {S : Type 0} (R : Reads S) where
         ∙ sym (ancestors_line (ns ++ x ∷ []) levelled place x i last_at refl
         ∙ (line_step (ns ++ x ∷ []) levelled i node (to_pushed ns x i node node_at)
         ∙ ap (λ qs. qs ++ node.query ∷ []) (ancestors_pushed ns x k.levelled i node node_at))))) in
-        let none : R.entries t.child ≡ [] = g.unasked (table_of old.history) t.child t.fresh.state t.fresh.none in
+        let none : R.entries t.child ≡ [] = g.unasked (old.kept ++ table_of old.history) t.child t.fresh.state t.fresh.none in
         let asks : asks_of c.history place ≡ [] =
         asks_push old.history e place
         ∙ (ap (λ ys. asks_of old.history place ++ ys) (let ne : (i == place) ≡ _ = ne_eqb i place (λ z. omega (arith, z, lt, count)) in
@@ -435,7 +438,7 @@ module _ {S : Type 0} (R : Reads S) where
         ∙ ap (λ (ys : List (ℕ × Query)). ys ++ [])
         (asks_none ns place (asks_of old.history place) k.levelled (omega (arith, count)) (k.agrees.asked place))) in
         let below : (st : Status) → IsPayload R c place x st t.child = λ st. record {
-          state = state_more g old c e refl t.child t.fresh.state;
+          state = state_more g old c e refl refl t.child t.fresh.state;
           query = t.fresh.query;
           level = t.fresh.level ∙ ap suc t.sound.level;
           above = above;
@@ -444,9 +447,9 @@ module _ {S : Type 0} (R : Reads S) where
               (subst (λ (xs : List Asked). Matches xs [] 0) (sym none) refl);
         } in
         let p : ArePayloads R c = record {
-          payloads = ask_payloads g old c e refl was h t.own i at p'
+          payloads = ask_payloads g old c e refl refl was h t.own i at p'
               (λ o ne. rw (ne_eqb i o (λ z. ne (sym z))) refl) n t.child
-              (λ st. told_for g old c e refl was h j t.own l t.sound t.since i t.id d q t.last (omega (arith, t.spent, t.made))
+              (λ st. told_for g old c e refl refl was h j t.own l t.sound t.since i t.id d q t.last (omega (arith, t.spent, t.made))
               (rw (t.id, eq-eqb i i refl) refl) st)
               (λ st m b. let o : Some x ≡ Some m = sym last_at ∙ b in
               let v : x ≡ m = cc in subst (λ (m : Node). IsPayload R c place m st t.child) v (below st));
@@ -476,7 +479,9 @@ module _ {S : Type 0} (R : Reads S) where
         let y : Entry S = root_of (length c.entries) grant s in
         let at : slice_get (c.nodes ++ x ∷ []) (length c.entries) ≡ Some x =
         ap (slice_get (c.nodes ++ x ∷ [])) k.paired.count ∙ get_pushed c.nodes x in
-        let state : R.IsState (table_of c.history) s = subst (λ (t : List Told). R.IsState (table_of t) s) (sym none) r.state in
+        let state : R.IsState (c.kept ++ table_of c.history) s =
+        subst (λ (t : List Told). R.IsState (c.kept ++ table_of t) s) (sym none)
+        (subst (λ (t : List Summary). R.IsState t s) (sym (append-nil c.kept)) (g.longer [] c.kept s r.state)) in
         let empty : R.entries s ≡ [] = g.unasked [] s r.state r.none in
         let own : (i : ℕ) → IsPayload R (with_root c s) i x y.status s = λ i. record {
           state = state;
@@ -517,5 +522,7 @@ module _ {S : Type 0} (R : Reads S) where
     roots_payloads (s ∷ ss) c none k rs h =
         roots_payloads ss (with_root c s) none (root_nodes R c grant s none k) rs.1 (root_payloads c s none k rs.0 h)
 
-    pub opening_payloads : (ss : List S) → AllOf (IsRoot R) ss → ArePayloads R (opening R grant ss (empty_board R))
-    opening_payloads ss rs = roots_payloads ss (empty_board R) refl (empty_nodes R) rs (record { payloads = λ i e n a b s is. absurd (cc) })
+    pub opening_payloads : (ss : List S) (ks : List Summary) → AllOf (HoldsBy R) ks → AllOf (IsRoot R) ss →
+        ArePayloads R (opening R grant ss (first_board R ks))
+    opening_payloads ss ks holds rs = roots_payloads ss (first_board R ks) refl (empty_nodes R ks holds) rs
+        (record { payloads = λ i e n a b s is. absurd (cc) })

@@ -77,6 +77,16 @@ module _ {S : Type 0} (R : Reads S) where
   event_history old new (closed w i n how ss) t = ap (λ (c : Core S). c.history) t.new_is
   event_history old new (stopped w) t = ap (λ (c : Core S). c.history) t.2
 
+  -- no event changes with which summaries the board opened
+  pub event_kept : (old new : Core S) (e : Told) → Event R old e new → new.kept ≡ old.kept
+  event_kept old new (took w i left steps waiting) t = ap (λ (c : Core S). c.kept) t.new_is
+  event_kept old new (said w i s) t = ap (λ (c : Core S). c.kept) t.new_is
+  event_kept old new (asked w i n c q) t = ap (λ (c : Core S). c.kept) t.new_is
+  event_kept old new (fed w i n c) t = ap (λ (c : Core S). c.kept) t.new_is
+  event_kept old new (parked w i n r) t = ap (λ (c : Core S). c.kept) t.new_is
+  event_kept old new (closed w i n how ss) t = ap (λ (c : Core S). c.kept) t.new_is
+  event_kept old new (stopped w) t = ap (λ (c : Core S). c.kept) t.2
+
   pub run_grants : (h : List Told) (old new : Core S) → Reached R old h new → grants_of new ≡ grants_of old
   run_grants [] old new r = ap grants_of r
   run_grants (e ∷ h) old new r = run_grants h r.0 new r.2 ∙ event_grants old r.0 e r.1

@@ -15,7 +15,7 @@ use Rattle.summary_form.specs.declared.summary.Summary.{Summary}
 use Rattle.bolt_core.specs.declared.event.Event.{Event as Stored}
 use Rattle.bolt_core.specs.declared.event.Event.TheVariants as stored
 use Rattle.bolt_core.specs.declared.slot.Slot.{Slot}
-use Rattle.bolt_core.specs.Boards.{IsBoard, IsRoomy, IsSettled, MayBeSaid, Publishes, Shown, core_of, history_of, most_queries, node_of, said_as, told_by}
+use Rattle.bolt_core.specs.Boards.{IsBoard, IsRoomy, IsSettled, MayBeSaid, Publishes, Shown, core_of, history_of, most_summaries, node_of, said_as, told_by}
 use Rattle.bolt_core.specs.Groups.{Node}
 use Rattle.bolt_core.specs.Histories.{Told, has_said, said}
 use Rattle.bolt_core.specs.Machine.{Core, HoldsBy, exit_of, proc_of}
@@ -51,10 +51,10 @@ said_now true o x e = refl
 said_now false o x e = e
 
 module _ (p : Shown) (es : List (Entry Seen)) (ss : List Slot) (ts : List Summary) (xs : List Stored) (st : Bool)
-    (h : IsBoard (record p { core = core_of es ss ts xs st })) (f t s v : ℕ)
-    (r : IsRoomy (record p { core = core_of es ss ts xs st }) ss xs f t s v) (i : ℕ) where
+    (h : IsBoard (record p { core = core_of p.core.kept es ss ts xs st })) (f t s v : ℕ)
+    (r : IsRoomy (record p { core = core_of p.core.kept es ss ts xs st }) ss xs f t s v) (i : ℕ) where
   abbrev before : Shown
-  before = record p { core = core_of es ss ts xs st }
+  before = record p { core = core_of p.core.kept es ss ts xs st }
 
   pub slot_here : i < length es → i < length ss
   slot_here lt = omega (arith, lt, has_slot before h ss refl)
@@ -111,13 +111,13 @@ module _ (p : Shown) (es : List (Entry Seen)) (ss : List Slot) (ts : List Summar
     node_there : (n : Node) × (slice_get (map node_of ss) i ≡ Some n)
     node_there = present (map node_of ss) i (omega (arith, within es i m.own m.at, (board_keeps before h).paired.count))
 
-    pub say_on : GoesOn before (said w i q) (core_of es marked (ts ++ q ∷ []) (xs ++ event ∷ []) st)
+    pub say_on : GoesOn before (said w i q) (core_of p.core.kept es marked (ts ++ q ∷ []) (xs ++ event ∷ []) st)
     say_on =
         let us : List Summary = ts ++ q ∷ [] in
         let ys : List Stored = xs ++ event ∷ [] in
         let n = node_there in
         let kinds = fits n.0 n.1 in
-        goes_on before (said w i q) (core_of es marked us ys st) h
+        goes_on before (said w i q) (core_of p.core.kept es marked us ys st) h
         (record {
           own = m.own;
           node = n.0;
@@ -130,14 +130,18 @@ module _ (p : Shown) (es : List (Entry Seen)) (ss : List Slot) (ts : List Summar
           holds = holds;
           of_procedure = kinds.0;
           of_exit = kinds.1;
-          new_is = ap (λ l. record (core_of es marked us ys st) { history = l }) history_is
-              ∙ ap (λ (l : List Node). record (core_of es ss us ys st) { nodes = l; history = history_of ss ts xs ++ said w i q ∷ [] })
+          new_is = ap (λ l. record (core_of p.core.kept es marked us ys st) { history = l }) history_is
+              ∙ ap (λ (l : List Node). record (core_of p.core.kept es ss us ys st) {
+                nodes = l;
+                history = history_of ss ts xs ++ said w i q
+                    ∷ [];
+              })
               nodes_are;
         })
         (omega (arith, within es i m.own m.at))
 
     -- the table has room for it
-    pub say_room : length ts < most_queries before
+    pub say_room : length ts < most_summaries before
     say_room =
         let k = board_keeps before h in
         let n = node_there in
@@ -151,7 +155,7 @@ module _ (p : Shown) (es : List (Entry Seen)) (ss : List Slot) (ts : List Summar
         )
 
     pub roomy_say : (tr er : ℕ) → tr ≡ t → er ≡ v →
-        IsRoomy (record p { core = core_of es marked (ts ++ q ∷ []) (xs ++ event ∷ []) st }) marked (xs ++ event ∷ []) f tr s er
+        IsRoomy (record p { core = core_of p.core.kept es marked (ts ++ q ∷ []) (xs ++ event ∷ []) st }) marked (xs ++ event ∷ []) f tr s er
     roomy_say tr er wide same =
         let us : List Summary = ts ++ q ∷ [] in
         let ys : List Stored = xs ++ event ∷ [] in
@@ -193,19 +197,19 @@ module _ (p : Shown) (es : List (Entry Seen)) (ss : List Slot) (ts : List Summar
       event_is : ys ≡ xs ++ event ∷ []
       event_is = pushed ∙ ap (λ k. xs ++ stored.Publish w i k ∷ []) last
 
-      pub say_goes : GoesOn before (said w i q) (core_of es ls us ys st)
+      pub say_goes : GoesOn before (said w i q) (core_of p.core.kept es ls us ys st)
       say_goes = subst (λ (x : Core Seen). GoesOn before (said w i q) x)
-          (sym (ap (λ l. core_of es l us ys st) are ∙ (ap (λ l. core_of es marked l ys st) table
-          ∙ ap (λ l. core_of es marked (ts ++ q ∷ []) l st) event_is)))
+          (sym (ap (λ l. core_of p.core.kept es l us ys st) are ∙ (ap (λ l. core_of p.core.kept es marked l ys st) table
+          ∙ ap (λ l. core_of p.core.kept es marked (ts ++ q ∷ []) l st) event_is)))
           say_on
 
-      pub say_is : (x : Shown) → before ≡ x → Publishes x w i q (record p { core = core_of es ls us ys st })
-      say_is x same = subst (λ (y : Shown). Publishes y w i q (record p { core = core_of es ls us ys st })) same (record {
+      pub say_is : (x : Shown) → before ≡ x → Publishes x w i q (record p { core = core_of p.core.kept es ls us ys st })
+      say_is x same = subst (λ (y : Shown). Publishes y w i q (record p { core = core_of p.core.kept es ls us ys st })) same (record {
         acts = λ _. say_goes.event;
         keeps = λ no. absurd (no m);
       })
 
-      pub say_roomy : (tr er : ℕ) → tr ≡ t → er ≡ v → IsRoomy (record p { core = core_of es ls us ys st }) ls ys f tr s er
+      pub say_roomy : (tr er : ℕ) → tr ≡ t → er ≡ v → IsRoomy (record p { core = core_of p.core.kept es ls us ys st }) ls ys f tr s er
       say_roomy tr er wide same = rw (are, table, event_is) (roomy_say tr er wide same)
 
   -- what the write of a slot makes of them

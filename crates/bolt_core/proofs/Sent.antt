@@ -22,6 +22,7 @@ use Rattle.query_rules.specs.contracts.step.Killer as killer
 use Rattle.query_rules.specs.contracts.step.Step as step
 use Rattle.query_tree.proofs.forest.Forest.TheSendSync as forest
 use Rattle.summary_form.proofs.query.Query.TheSendSync as query
+use Rattle.summary_form.proofs.summary.Summary.TheSendSync as summary
 use Rattle.summary_table.proofs.table.Table.TheSendSync as table
 
 certificates_send : IsSend certificates.the_row
@@ -97,6 +98,8 @@ board_send = search (
   graphs.the_send,
   graphs.the_sync,
   slot.the_send,
+  summary.the_send,
+  summary.the_sync,
   table.the_send,
   sendable,
   crosses,

@@ -23,10 +23,10 @@ use Rattle.bolt_core.proofs.BoardKeeps.{board_keeps}
 
 -- the slots of a board are those of a group
 pub group_of : (p : Shown) (es : List (Entry Seen)) (ss : List Slot) (ts : List Summary) (xs : List Stored) (st : Bool) (f t s v : ℕ) →
-    let b : Shown = record p { core = core_of es ss ts xs st } in IsBoard b → IsRoomy b ss xs f t s v → (place : ℕ) →
+    let b : Shown = record p { core = core_of p.core.kept es ss ts xs st } in IsBoard b → IsRoomy b ss xs f t s v → (place : ℕ) →
     place ≡ length xs → (i : ℕ) (own : Slot) → slice_get ss i ≡ Some own → IsGroupOf ss i own.level place
 group_of p es ss ts xs st f t s v h r place is i own a = record {
-  levelled = (board_keeps (record p { core = core_of es ss ts xs st }) h).levelled;
+  levelled = (board_keeps (record p { core = core_of p.core.kept es ss ts xs st }) h).levelled;
   own = own;
   at = a;
   level = refl;

@@ -12,10 +12,10 @@ use Rattle.bolt_core.specs.Keeps.{AreLevelled, Keeps}
 use Rattle.bolt_core.specs.Lawful.{IsLawful}
 use Rattle.bolt_core.specs.Machine.{AllOf, Core, Event, IsNews, IsSound, Job, Matches, Reached, Reads, asks_more, node_below, shows}
 use Rattle.bolt_core.proofs.Above.{SameNode, ancestors_changed, ancestors_pushed, close_same}
-use Rattle.bolt_core.proofs.Agreeing.{table_push}
+use Rattle.bolt_core.proofs.Agreeing.{kept_push}
 use Rattle.bolt_core.proofs.BoardKeeps.{event_keeps}
 use Rattle.bolt_core.proofs.Payloads.{SameFor}
-use Rattle.bolt_core.proofs.Reserve.{event_history}
+use Rattle.bolt_core.proofs.Reserve.{event_history, event_kept}
 
 -- the node is there, with what a job knows of it
 pub record IsFor (ns ms : List Node) (i : ℕ) (n : Node) : Type 0 where
@@ -68,9 +68,9 @@ module _ {S : Type 0} (R : Reads S) where
   event_stay old new (stopped w) t l =
       subst (λ (c : Core S). NodesStay old.nodes c.nodes) (sym t.2) (unchanged_stay old.nodes)
 
-  sound_behind : IsLawful R → (h : List Told) (e : Told) (ns ms : List Node) → NodesStay ns ms → (j : Job S) → IsSound R h ns j →
-      IsSound R (h ++ e ∷ []) ms j
-  sound_behind g h e ns ms stay j s =
+  sound_behind : IsLawful R → (ks : List Summary) (h : List Told) (e : Told) (ns ms : List Node) → NodesStay ns ms → (j : Job S) →
+      IsSound R ks h ns j → IsSound R ks (h ++ e ∷ []) ms j
+  sound_behind g ks h e ns ms stay j s =
       let f : IsFor ns ms j.id s.node = stay j.id s.node s.node_at in
       let front : take j.taken (h ++ e ∷ []) ≡ take j.taken h =
       take-append-le j.taken h (e ∷ []) (omega (arith, within h j.taken _ s.take_at)) in
@@ -81,7 +81,8 @@ module _ {S : Type 0} (R : Reads S) where
         node = f.node;
         take_at = to_pushed h e j.taken _ s.take_at;
         node_at = f.at;
-        state = subst (λ (t : List Summary). R.IsState t j.state) (sym (table_push h e)) (g.longer (table_of h) (named e) j.state s.state);
+        state = subst (λ (t : List Summary). R.IsState t j.state) (sym (kept_push ks h e))
+            (g.longer (ks ++ table_of h) (named e) j.state s.state);
         query = s.query ∙ sym f.same.query;
         level = s.level ∙ sym f.same.level;
         above = s.above ∙ sym f.same.above;
@@ -90,16 +91,17 @@ module _ {S : Type 0} (R : Reads S) where
         entries = subst (λ (x : List Told). Matches (R.entries j.state) (asks_of x j.id) (asks_more j.spent (R.last j.state))) (sym front)
             s.entries;
         news = subst (λ (x : List Told). AllOf (λ (a : Asked). IsNews a.news (closed_as x a.child)) (R.entries j.state)) (sym front) s.news;
-        seen = subst (λ (x : List Told). AllOf (λ n. length (table_of x) ≤ n) (R.seen j.state j.spent)) (sym front) s.seen;
+        seen = subst (λ (x : List Told). AllOf (λ n. length (ks ++ table_of x) ≤ n) (R.seen j.state j.spent)) (sym front) s.seen;
       }
 
   pub sound_more : IsLawful R → (old new : Core S) (e : Told) → AreLevelled old.nodes → Event R old e new → (j : Job S) →
-      IsSound R old.history old.nodes j → IsSound R new.history new.nodes j
-  sound_more g old new e l t j s = subst (λ h. IsSound R h new.nodes j) (sym (event_history R old new e t))
-      (sound_behind g old.history e old.nodes new.nodes (event_stay old new e t l) j s)
+      IsSound R old.kept old.history old.nodes j → IsSound R new.kept new.history new.nodes j
+  sound_more g old new e l t j s = subst (λ ks. IsSound R ks new.history new.nodes j) (sym (event_kept R old new e t))
+      (subst (λ h. IsSound R old.kept h new.nodes j) (sym (event_history R old new e t))
+      (sound_behind g old.kept old.history e old.nodes new.nodes (event_stay old new e t l) j s))
 
   pub sound_reached : IsLawful R → (roots : ℕ) (old : Core S) (es : List Told) (new : Core S) → Reached R old es new →
-      Keeps R roots old → (j : Job S) → IsSound R old.history old.nodes j → IsSound R new.history new.nodes j
-  sound_reached g roots old [] new r k j s = subst (λ (c : Core S). IsSound R c.history c.nodes j) (sym r) s
+      Keeps R roots old → (j : Job S) → IsSound R old.kept old.history old.nodes j → IsSound R new.kept new.history new.nodes j
+  sound_reached g roots old [] new r k j s = subst (λ (c : Core S). IsSound R c.kept c.history c.nodes j) (sym r) s
   sound_reached g roots old (e ∷ es) new r k j s =
       sound_reached g roots r.0 es new r.2 (event_keeps R g roots old r.0 e k r.1) j (sound_more g old r.0 e k.levelled r.1 j s)

@@ -17,10 +17,10 @@ use Rattle.bolt_core.specs.KeptBoards.{MovesStay}
 use Rattle.bolt_core.specs.Lawful.{IsLawful}
 use Rattle.bolt_core.specs.Machine.{Core, MayPark, Reached, Reads}
 use Rattle.bolt_core.specs.States.{reads}
-use Rattle.bolt_core.proofs.Agreeing.{table_push}
+use Rattle.bolt_core.proofs.Agreeing.{kept_push}
 use Rattle.bolt_core.proofs.BoardKeeps.{board_keeps, reached_keeps}
 use Rattle.bolt_core.proofs.Going.{get_front}
-use Rattle.bolt_core.proofs.Reserve.{event_history}
+use Rattle.bolt_core.proofs.Reserve.{event_history, event_kept}
 use Rattle.bolt_core.proofs.Sounds.{sound_reached}
 use Rattle.bolt_core.proofs.StatesLawful.{states_lawful}
 
@@ -31,12 +31,17 @@ module _ {S : Type 0} (R : Reads S) where
       reached_history r.0 new es r.2
       ∙ (ap (λ (h : List Told). h ++ es) (event_history R old r.0 e r.1) ∙ append_assoc old.history (e ∷ []) es)
 
-  state_reached : IsLawful R → (old new : Core S) (es : List Told) → Reached R old es new → (s : S) → R.IsState (table_of old.history) s →
-      R.IsState (table_of new.history) s
-  state_reached g old new [] r s is = subst (λ (c : Core S). R.IsState (table_of c.history) s) (sym r) is
+  pub reached_kept : (old new : Core S) (es : List Told) → Reached R old es new → new.kept ≡ old.kept
+  reached_kept old new [] r = ap (λ (c : Core S). c.kept) r
+  reached_kept old new (e ∷ es) r = reached_kept r.0 new es r.2 ∙ event_kept R old r.0 e r.1
+
+  state_reached : IsLawful R → (old new : Core S) (es : List Told) → Reached R old es new → (s : S) →
+      R.IsState (old.kept ++ table_of old.history) s → R.IsState (new.kept ++ table_of new.history) s
+  state_reached g old new [] r s is = subst (λ (c : Core S). R.IsState (c.kept ++ table_of c.history) s) (sym r) is
   state_reached g old new (e ∷ es) r s is = state_reached g r.0 new es r.2 s
-      (subst (λ (t : List Summary). R.IsState t s) (sym (ap table_of (event_history R old r.0 e r.1) ∙ table_push old.history e))
-      (g.longer (table_of old.history) (named e) s is))
+      (subst (λ (t : List Summary). R.IsState t s) (sym (ap (λ ks. ks ++ table_of r.0.history) (event_kept R old r.0 e r.1)
+      ∙ (ap (λ h. old.kept ++ table_of h) (event_history R old r.0 e r.1) ∙ kept_push old.kept old.history e)))
+      (g.longer (old.kept ++ table_of old.history) (named e) s is))
 
 -- The board may have further parts, and its graphs are named
 module _ (old new : Shown) (es : List Told) (h : IsBoard old) (j : Given) where

@@ -107,7 +107,7 @@ module _ {S : Type 0} (R : Reads S) where
         }
 
   -- a sound job may be told as what its children closed
-  pub told_true : (c : Core S) → KeepsNodes R c → (j : Job S) → IsSound R c.history c.nodes j → (i : ℕ) (a : Asked) →
+  pub told_true : (c : Core S) → KeepsNodes R c → (j : Job S) → IsSound R c.kept c.history c.nodes j → (i : ℕ) (a : Asked) →
       slice_get (R.entries j.state) i ≡ Some a → i < length (asks_of (take j.taken c.history) j.id) → (known : News) →
       StaysNews a.news known → IsNews known (closed_as c.history a.child) → MayTell R j.state i known
   told_true c k j s i a at lt known stays news =

@@ -1,7 +1,7 @@
 -- What became of the roots of a board, by as what they closed.
-use Rattle.std.proofs.Common.{◌≡◌, ℕ, zero, suc, ◌+◌, ◌<◌, List, [], ◌∷◌, Bool, true, false, cond, Option, Some, None, ℤ, refl, sym, ap, ◌∙◌, subst, arith}
+use Rattle.std.proofs.Common.{◌≡◌, ℕ, zero, suc, ◌+◌, ◌<◌, List, [], Bool, true, false, cond, Option, Some, None, ℤ, refl, sym, ap, ◌∙◌, subst, arith}
 use Rattle.std.specs.Prelude.{slice_get, ◌==◌}
-use Rattle.std.proofs.lemmas.Bool.{eqb-true, or_parts}
+use Rattle.std.proofs.lemmas.Bool.{eqb-true}
 use Rattle.std.proofs.lemmas.Option.{none-some, same_Some}
 use Rattle.linear_formula.specs.LinearSum.{valuation}
 use Rattle.flow_graph.specs.Runs.{failed}
@@ -15,7 +15,7 @@ use Rattle.summary_form.specs.declared.query.Query.{Query}
 use Rattle.query_tree.specs.declared.Entry.{Entry}
 use Rattle.query_tree.specs.declared.Status.{Status}
 use Rattle.query_tree.specs.declared.Status.TheVariants.{Ready, Running, Blocked, Starved, Closed, Dropped}
-use Rattle.query_tree.specs.Forest.{any, has_live, is_live, is_live_entry, is_none, is_open}
+use Rattle.query_tree.specs.Forest.{has_live, is_live_entry, is_none, is_open}
 use Rattle.query_tree.specs.Kept.{EndedAbove, Held, Holds, Rooted, of_root, worth}
 use Rattle.query_tree.proofs.Lists.{present, tally_same, within}
 use Rattle.query_rules.specs.Closings.{IsTargetMark}
@@ -36,6 +36,7 @@ use Rattle.bolt_core.proofs.BoardKeeps.{board_keeps}
 use Rattle.bolt_core.proofs.Closings.{HasClosing}
 use Rattle.bolt_core.proofs.Conditions.{Within, graded, table_holds}
 use Rattle.bolt_core.proofs.Firsts.{IsFirst, board_first}
+use Rattle.bolt_core.proofs.Roots.{none_passes, open_starved}
 use Rattle.bolt_core.proofs.Groups.{not_false}
 use Rattle.bolt_core.proofs.Limits.{IsShut, closed_in, closing_of, limit_of, must_is, not_may_is, payload_of, same_told, shut_there, state_of, stuck_is}
 use Rattle.bolt_core.proofs.StatesLawful.{closed_state}
@@ -51,27 +52,9 @@ alone gs q (Some j) h = by j h where
   by zero k (suc d) = k.next d tt
   by (suc j) k (suc d) = k.next d tt
 
--- What is open and isn't live is Starved
-open_starved : (s : Status) → is_open s ≡ true → is_live s ≡ false → s ≡ Starved
-open_starved Ready o l = absurd (cc)
-open_starved Running o l = absurd (cc)
-open_starved Blocked o l = absurd (cc)
-open_starved Starved o l = refl
-open_starved Closed o l = absurd (cc)
-open_starved (Dropped n) o l = absurd (cc)
-
 cond_same : (c : Bool) (n m : ℕ) → (c ≡ true → n ≡ m) → cond c n 0 ≡ cond c m 0
 cond_same true n m h = h refl
 cond_same false n m h = refl
-
--- where none passes
-none_any : {X : Type 0} (p : X → Bool) (xs : List X) → any p xs ≡ false → (i : ℕ) (x : X) → slice_get xs i ≡ Some x → p x ≡ false
-none_any p [] h i x a = absurd (cc)
-none_any p (y ∷ xs) h zero x a =
-    let o : Some y ≡ Some x = a in
-    let v : y ≡ x = cc in
-    ap p (sym v) ∙ (or_parts (p y) (any p xs) h).0
-none_any p (y ∷ xs) h (suc i) x a = none_any p xs (or_parts (p y) (any p xs) h).1 i x a
 
 module _ (b : Shown) (h : IsBoard b) (root : ℕ) (lt : root < b.asserts) where
   keeps : Keeps (reads b.graphs) b.asserts b.core
@@ -249,7 +232,7 @@ module _ (b : Shown) (h : IsBoard b) (root : ℕ) (lt : root < b.asserts) where
 
     starved : (i : ℕ) (e : Entry Seen) → slice_get b.core.entries i ≡ Some e → is_open e.status ≡ true → (e.status ≡ Starved) × (e.left ≡ 0)
     starved i e a o =
-        let s : e.status ≡ Starved = open_starved e.status o (none_any is_live_entry b.core.entries not_live i e a) in
+        let s : e.status ≡ Starved = open_starved e.status o (none_passes is_live_entry b.core.entries not_live i e a) in
         (s, subst (λ st. Holds st e.left e.lent (is_none e.parent)) s (keeps.kept.each.fine i e a).holds)
 
     own_root : first.own.root ≡ root

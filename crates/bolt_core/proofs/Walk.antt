@@ -56,7 +56,8 @@ or_right : (a b : Bool) → (a || b) ≡ false → b ≡ false
 or_right true b h = absurd (cc)
 or_right false b h = h
 
-module _ (es : List (Entry Seen)) (ss : List Slot) (ts : List Summary) (xs : List Stored) (st : Bool) (i k : ℕ) (x : Stored)
+module _ (ks : List Summary) (es : List (Entry Seen)) (ss : List Slot) (ts : List Summary) (xs : List Stored) (st : Bool) (i k : ℕ)
+    (x : Stored)
     (a : slice_get xs k ≡ Some x) (s : Status) (lt : i < length es) (same : (e : Entry Seen) → slice_get es i ≡ Some e → s ≡ e.status)
     (set : IsSettled (length ss) (length ts) x) where
   abbrev qs : List Query
@@ -67,7 +68,7 @@ module _ (es : List (Entry Seen)) (ss : List Slot) (ts : List Summary) (xs : Lis
       let n : length ss ≡ length qs = sym (length-map ss (λ s. s.query.value)) in
       told_back qs ts i x (subst (λ n. IsSettled n (length ts) x) n set)
 
-  pub end_here : is_end k i s x ≡ true → IsEnd (core_of es ss ts xs st) i k
+  pub end_here : is_end k i s x ≡ true → IsEnd (core_of ks es ss ts xs st) i k
   end_here h =
       let p = present es i lt in
       record {
@@ -79,7 +80,7 @@ module _ (es : List (Entry Seen)) (ss : List Slot) (ts : List Summary) (xs : Lis
             (or_cases (is_given_back i x) (is_dropped_by k s) h);
       }
 
-  pub not_here : is_end k i s x ≡ false → IsEnd (core_of es ss ts xs st) i k → ⊥
+  pub not_here : is_end k i s x ≡ false → IsEnd (core_of ks es ss ts xs st) i k → ⊥
   not_here h z =
       let is : Some (told_by qs ts x) ≡ Some z.event = sym (get_map (told_by qs ts) xs k x a) ∙ z.at in
       let e : told_by qs ts x ≡ z.event = cc in

@@ -33,7 +33,7 @@ use Rattle.bolt_core.specs.declared.slot.Slot.{Slot}
 use Rattle.bolt_core.specs.Groups.{Node}
 use Rattle.bolt_core.specs.Histories.{Told, asked, closed, closed_as, fed, has_said, parked, said, stopped, took}
 use Rattle.bolt_core.specs.Keeps.{IsFirstEnd}
-use Rattle.bolt_core.specs.Machine.{AsksNotLast, Core, closed_how, Event, IsFresh, IsSound, Job, MayCloseAs, MayPark, Reached, a_feed, an_ask, empty_board, is_over, opening}
+use Rattle.bolt_core.specs.Machine.{AllOf, AsksNotLast, Core, HoldsBy, closed_how, Event, IsFresh, IsSound, Job, MayCloseAs, MayPark, Reached, a_feed, an_ask, first_board, is_over, opening}
 use Rattle.bolt_core.specs.Lawful.{MayTell}
 use Rattle.bolt_core.specs.States.{IsStateFor, reads}
 
@@ -76,10 +76,12 @@ node_of s = record {
 abbrev pub history_of : List Slot → List Summary → List Stored → List Told
 history_of slots ts es = map (told_by (map (λ s. s.query.value) slots) ts) es
 
-abbrev pub core_of : List (Entry Seen) → List Slot → List Summary → List Stored → Bool → Core Seen
-core_of entries slots ts es is_stopped = record {
+abbrev pub core_of : (kept : List Summary) → List (Entry Seen) → List Slot → List Summary →
+    List Stored → Bool → Core Seen
+core_of kept entries slots ts es is_stopped = record {
   entries = entries;
   nodes = map node_of slots;
+  kept = kept;
   table = ts;
   history = history_of slots ts es;
   is_stopped = is_stopped;
@@ -100,10 +102,15 @@ pub record SameProgram (old new : Shown) : Type 0 where
   pub main : new.main ≡ old.main
   pub asserts : new.asserts ≡ old.asserts
   pub budget : new.budget ≡ old.budget
+  pub kept : new.core.kept ≡ old.core.kept
 
 -- the queries that there may be: a root for each assertion, and one for each step
 abbrev pub most_queries : Shown → ℕ
 most_queries b = b.asserts * b.budget + b.asserts
+
+-- the summaries that there may be: those with which it opened, and one of each query
+abbrev pub most_summaries : Shown → ℕ
+most_summaries b = length b.core.kept + most_queries b
 
 -- what is asked of an assertion: is there a run of `main` that fails at it?
 abbrev pub root_query : (main id : ℕ) → Query
@@ -128,7 +135,8 @@ pub record IsOpening (b : Shown) (c : Core Seen) : Type 0 where
   pub roots : List Seen
   pub count : length roots ≡ b.asserts
   pub are_roots : AreRootsOf b.graphs b.main 0 roots
-  pub is : c ≡ opening (reads b.graphs) b.budget roots (empty_board (reads b.graphs))
+  pub kept_hold : AllOf (HoldsBy (reads b.graphs)) c.kept
+  pub is : c ≡ opening (reads b.graphs) b.budget roots (first_board (reads b.graphs) c.kept)
 
 -- the board is reached from its opening by its history
 pub record IsBoard (b : Shown) : Type 0 where
@@ -138,16 +146,24 @@ pub record IsBoard (b : Shown) : Type 0 where
   pub few : b.asserts ≤ 64
   pub some : 1 ≤ b.budget
   pub most : b.budget ≤ 20000
+  pub few_kept : length b.core.kept ≤ 2000000
   pub opened : Core Seen
   pub opening : IsOpening b opened
   pub reached : Reached (reads b.graphs) opened b.core.history b.core
 
-pub record IsBegun (gs : List Graph) (main asserts budget : ℕ) (b : Shown) : Type 0 where
+pub record IsBegunWith (gs : List Graph) (main asserts budget : ℕ) (kept : List Summary)
+    (b : Shown) :
+    Type 0 where
   pub graphs : b.graphs ≡ gs
   pub is_main : b.main ≡ main
   pub all : b.asserts ≡ asserts
   pub granted : b.budget ≡ budget
+  pub kept_are : b.core.kept ≡ kept
   pub opening : IsOpening b b.core
+
+-- and without summaries
+abbrev pub IsBegun : List Graph → (main asserts budget : ℕ) → Shown → Type 0
+IsBegun gs main asserts budget = IsBegunWith gs main asserts budget []
 
 -- What the board's lists keep: room for all that may come, stored events that tell the same behind
 -- more queries and summaries, the not-mays that aren't published yet, of those that are the places
@@ -156,7 +172,7 @@ pub record IsRoomy (b : Shown) (slots : List Slot) (events : List Stored)
     (forest_room table_room slots_room events_room : ℕ) : Type 0 where
   pub queries : forest_room ≡ most_queries b
   pub kept : most_queries b ≤ slots_room
-  pub summaries : table_room ≡ most_queries b
+  pub summaries : table_room ≡ most_summaries b
   pub happened : 16 * most_queries b ≤ events_room
   pub settled : (i : ℕ) (e : Stored) → slice_get events i ≡ Some e →
       IsSettled (length slots) (length b.core.table) e
@@ -180,7 +196,7 @@ job_of j = record {
 }
 
 abbrev pub IsSoundFor : Shown → Given → Type 0
-IsSoundFor b j = IsSound (reads b.graphs) b.core.history b.core.nodes (job_of j)
+IsSoundFor b j = IsSound (reads b.graphs) b.core.kept b.core.history b.core.nodes (job_of j)
 
 -- the news of a query that was closed so
 abbrev pub closed_news : ClosedAs → News

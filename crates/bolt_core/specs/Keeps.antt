@@ -1,5 +1,5 @@
 -- What is true of every board that events lead to.
-use Rattle.std.specs.Prelude.{◌≡◌, ◌⊎◌, ◌↔◌, ℕ, suc, ◌+◌, ◌*◌, ◌<◌, ◌≤◌, List, length, take, drop, Bool, true, false, cond, ◌||◌, Option, Some, None, slice_get}
+use Rattle.std.specs.Prelude.{◌≡◌, ◌⊎◌, ◌↔◌, ℕ, suc, ◌+◌, ◌*◌, ◌<◌, ◌≤◌, List, ◌++◌, length, take, drop, Bool, true, false, cond, ◌||◌, Option, Some, None, slice_get}
 use Rattle.query_tree.specs.declared.Entry.{Entry}
 use Rattle.query_tree.specs.declared.Status.{Status}
 use Rattle.query_tree.specs.declared.Status.TheVariants.{Ready, Running, Blocked, Starved, Closed, Dropped}
@@ -153,8 +153,9 @@ is_counted h i n = counts_once (n.published || has_said h i)
 
 -- each query has at most one summary in the table: one that was published of a query that is no
 -- longer open, or by a close
-pub record AreCounted (table : List Summary) (ns : List Node) (h : List Told) : Type 0 where
-  pub counted : length table ≡ tally (is_counted h) ns
+pub record AreCounted (kept : ℕ) (table : List Summary) (ns : List Node) (h : List Told) :
+    Type 0 where
+  pub counted : length table ≡ kept + tally (is_counted h) ns
   pub apart : (i : ℕ) (n : Node) → slice_get ns i ≡ Some n → has_said h i ≡ true →
       (n.published ≡ false) × (n.closed ≡ None)
   pub silent : (i : ℕ) (n : Node) → slice_get ns i ≡ Some n → n.closed ≡ None →
@@ -173,7 +174,7 @@ module _ {S : Type 0} (R : Reads S) where
   -- a payload is a state of its query, its news is what was told, and while it is open its asked
   -- entries are those of the Ask events
   pub record IsPayload (c : Core S) (i : ℕ) (n : Node) (status : Status) (s : S) : Type 0 where
-    pub state : R.IsState (table_of c.history) s
+    pub state : R.IsState (c.kept ++ table_of c.history) s
     pub query : R.query s ≡ n.query
     pub level : R.level s ≡ n.level
     pub above : R.above s ≡ ancestors c.nodes i n.parent
@@ -194,11 +195,11 @@ module _ {S : Type 0} (R : Reads S) where
     pub levelled : AreLevelled c.nodes
     pub agrees : AgreeOn c.nodes c.history
     -- the table is that of the named summaries, each of which holds by itself
-    pub named : table_of c.history ≡ c.table
+    pub named : c.kept ++ table_of c.history ≡ c.table
     pub holds : AllOf (HoldsBy R) c.table
     pub given : AreGiven c.nodes
     pub answered : AreAnsweredIn c.table c.nodes
-    pub counted : AreCounted c.table c.nodes c.history
+    pub counted : AreCounted (length c.kept) c.table c.nodes c.history
     pub said : AreSaid c.entries c.history
     pub payloads : ArePayloads c
     pub ended : AreEnded c

@@ -63,6 +63,8 @@ pub record Job (S : Type 0) : Type 0 where
 pub record Core (S : Type 0) : Type 0 where
   pub entries : List (Entry S)
   pub nodes : List Node
+  -- the summaries with which the board opened
+  pub kept : List Summary
   pub table : List Summary
   pub history : List Told
   pub is_stopped : Bool
@@ -96,14 +98,15 @@ IsNews (news.Stuck kind) o = o ≡ Some (how.Stuck kind)
 
 module _ {S : Type 0} (R : Reads S) where
   -- a job that is sound for a history, where these are its queries
-  pub record IsSound (h : List Told) (nodes : List Node) (j : Job S) : Type 0 where
+  pub record IsSound (kept : List Summary) (h : List Told) (nodes : List Node) (j : Job S) :
+      Type 0 where
     pub worker : ℕ
     pub stored : ℕ
     pub waiting : Bool
     pub node : Node
     pub take_at : slice_get h j.taken ≡ Some (took worker j.id j.left stored waiting)
     pub node_at : slice_get nodes j.id ≡ Some node
-    pub state : R.IsState (table_of h) j.state
+    pub state : R.IsState (kept ++ table_of h) j.state
     pub query : R.query j.state ≡ node.query
     pub level : R.level j.state ≡ node.level
     pub above : R.above j.state ≡ ancestors nodes j.id node.parent
@@ -112,7 +115,8 @@ module _ {S : Type 0} (R : Reads S) where
     pub entries : Matches (R.entries j.state) (asks_of (take j.taken h) j.id)
         (asks_more j.spent (R.last j.state))
     pub news : AllOf (λ a. IsNews a.news (closed_as (take j.taken h) a.child)) (R.entries j.state)
-    pub seen : AllOf (λ n. length (table_of (take j.taken h)) ≤ n) (R.seen j.state j.spent)
+    pub seen : AllOf (λ n. length (kept ++ table_of (take j.taken h)) ≤ n)
+        (R.seen j.state j.spent)
 
   -- the query is Running since the Take that the job names
   pub record IsSince (old : Core S) (j : Job S) (own : Entry S) : Type 0 where
@@ -173,6 +177,7 @@ module _ {S : Type 0} (R : Reads S) where
   with_nodes old es ns ss e = record {
     entries = es;
     nodes = ns;
+    kept = old.kept;
     table = old.table ++ ss;
     history = old.history ++ e ∷ [];
     is_stopped = old.is_stopped;
@@ -236,14 +241,14 @@ module _ {S : Type 0} (R : Reads S) where
     pub job : Job S
     pub own : Entry S
     pub child : S
-    pub sound : IsSound old.history old.nodes job
+    pub sound : IsSound old.kept old.history old.nodes job
     pub since : IsSince old job own
     pub id : job.id ≡ i
     pub spent : job.spent ≡ n
     pub made : 1 ≤ n
     pub last : R.last job.state ≡ an_ask q
     pub number : c ≡ length old.entries
-    pub fresh : IsFresh (table_of old.history) job.state child q
+    pub fresh : IsFresh (old.kept ++ table_of old.history) job.state child q
     pub new_is : new ≡ with_nodes old
         (after_ask old.entries own i n (told_child job.state c) child)
         (old.nodes ++ node_below i sound.node q ∷ []) [] e
@@ -254,7 +259,7 @@ module _ {S : Type 0} (R : Reads S) where
     pub child : Entry S
     pub number : ℕ
     pub entry : Asked
-    pub sound : IsSound old.history old.nodes job
+    pub sound : IsSound old.kept old.history old.nodes job
     pub since : IsSince old job own
     pub id : job.id ≡ i
     pub spent : job.spent ≡ n
@@ -278,7 +283,7 @@ module _ {S : Type 0} (R : Reads S) where
   pub record Parks (old : Core S) (i n : ℕ) (r : Rest) (e : Told) (new : Core S) : Type 0 where
     pub job : Job S
     pub own : Entry S
-    pub sound : IsSound old.history old.nodes job
+    pub sound : IsSound old.kept old.history old.nodes job
     pub since : IsSince old job own
     pub id : job.id ≡ i
     pub spent : job.spent ≡ n
@@ -291,7 +296,7 @@ module _ {S : Type 0} (R : Reads S) where
     pub job : Job S
     pub own : Entry S
     pub closing : Closing
-    pub sound : IsSound old.history old.nodes job
+    pub sound : IsSound old.kept old.history old.nodes job
     pub since : IsSince old job own
     pub id : job.id ≡ i
     pub spent : job.spent ≡ n
@@ -347,11 +352,13 @@ module _ {S : Type 0} (R : Reads S) where
     nodes = c.nodes ++ node_of_root s ∷ [];
   })
 
-  abbrev pub empty_board : Core S
-  empty_board = record {
+  -- no query yet, and these summaries
+  abbrev pub first_board : List Summary → Core S
+  first_board kept = record {
     entries = [];
     nodes = [];
-    table = [];
+    kept = kept;
+    table = kept;
     history = [];
     is_stopped = false;
   }

@@ -1,11 +1,11 @@
 //! The board.
 
-ghost use Rattle.std.specs.Prelude.{◌≡◌, ◌≤◌, IfOk, OnOk, Some, length, slice_get};
+ghost use Rattle.std.specs.Prelude.{◌≡◌, ◌≤◌, IfOk, OnOk, Some, length, map, slice_get};
 ghost use Rattle.flow_graph.specs.declared.graph.Graph.{Graph as AGraph};
-ghost use Rattle.bolt_core.specs.Boards.{IsBegun, IsRootOf, SameProgram, Stops, root_query};
+ghost use Rattle.bolt_core.specs.Boards.{IsBegun, IsBegunWith, IsRootOf, SameProgram, Stops, root_query};
 ghost use Rattle.bolt_core.specs.States.{reads};
 ghost use Rattle.summary_table.specs.Tables.{StartsWith};
-ghost use Rattle.bolt_core.specs.Machine.{is_over};
+ghost use Rattle.bolt_core.specs.Machine.{AllOf, HoldsBy, is_over};
 
 use crate::event::Event;
 use crate::slot::Slot;
@@ -19,10 +19,11 @@ use std::alloc::Global;
 use std::marker::Model;
 use std::sync::Arc;
 use summary_form::query::{ExitKind, Query};
+use summary_form::summary::Summary;
 use summary_table::table::Table;
 
 /// Queries with their states and budgets, summaries, and all that happened. No call but `begin`,
-/// `bring` and `verdict` takes memory.
+/// `begin_with`, `bring` and `verdict` takes memory.
 #[derive(Drop)]
 pub struct Board {
     pub(crate) graphs: Arc<Graphs>,
@@ -32,12 +33,13 @@ pub struct Board {
     pub(crate) forest: Forest<QueryState>,
     pub(crate) slots: Vec<Slot>,
     pub(crate) table: Table,
+    pub(crate) kept: Vec<Arc<Summary>>,
     pub(crate) events: Vec<Event>,
     pub(crate) stopped: bool,
 }
 
 impl Model for Board {
-    ghost use Rattle.std.specs.Prelude.{vec_capacity};
+    ghost use Rattle.std.specs.Prelude.{map, vec_capacity};
     ghost use Rattle.std.specs.Coded.{codes};
     ghost use Rattle.infeasible_cert.specs.contracts.certificate.Certificate as e;
     ghost use Rattle.bolt_core.specs.Boards.{IsBoard, IsRoomy, Shown, core_of};
@@ -51,7 +53,8 @@ impl Model for Board {
       main = b.main;
       asserts = b.asserts;
       budget = b.budget;
-      core = core_of b.forest.entries b.slots.items b.table.summaries b.events.items b.stopped;
+      core = core_of (map (λ a. a.value) b.kept.items) b.forest.entries b.slots.items
+          b.table.summaries b.events.items b.stopped;
     } };
 
     ghost invariant = { λ b.
@@ -60,14 +63,16 @@ impl Model for Board {
           main = b.main;
           asserts = b.asserts;
           budget = b.budget;
-          core = core_of b.forest.entries b.slots.items b.table.summaries b.events.items b.stopped;
+          core = core_of (map (λ a. a.value) b.kept.items) b.forest.entries b.slots.items
+              b.table.summaries b.events.items b.stopped;
         })
         × IsRoomy (record {
           graphs = b.graphs.value.graphs;
           main = b.main;
           asserts = b.asserts;
           budget = b.budget;
-          core = core_of b.forest.entries b.slots.items b.table.summaries b.events.items b.stopped;
+          core = core_of (map (λ a. a.value) b.kept.items) b.forest.entries b.slots.items
+              b.table.summaries b.events.items b.stopped;
         })
         b.slots.items b.events.items b.forest.room b.table.room (vec_capacity b.slots)
         (vec_capacity b.events) };
@@ -125,10 +130,38 @@ impl Board {
         requires most { budget ≤ 20000 }
         ensures { IfOk result (λ b. IsBegun graphs.value.graphs main asserts budget b) }
     {
+        Board::begin_with(alloc, graphs, main, asserts, budget, Vec::new(alloc))
+    }
+
+    /// The same with summaries that are known to hold: its table opens with them, in order, and has
+    /// room for all that may come besides. They are at most 2,000,000.
+    pub fn begin_with(
+        alloc: Global,
+        graphs: Arc<Graphs>,
+        main: ProcId,
+        asserts: u32,
+        budget: u32,
+        kept: Vec<Arc<Summary>>,
+    ) -> Result<Board, OutOfMemory>
+        requires main { (g : AGraph) × (slice_get graphs.value.graphs main ≡ Some g) }
+        requires asserts { asserts ≤ 64 }
+        requires some { 1 ≤ budget }
+        requires most { budget ≤ 20000 }
+        requires few { length kept.items ≤ 2000000 }
+        requires hold { AllOf (HoldsBy (reads graphs.value.graphs))
+            (map (λ a. a.value) kept.items) }
+        ensures { IfOk result
+            (λ b. IsBegunWith graphs.value.graphs main asserts budget
+            (map (λ a. a.value) kept.items)
+            b) }
+    {
         let room = asserts * budget + asserts;
         let mut forest = Forest::with_room(alloc, room)?;
         let mut slots = Vec::with_capacity(alloc, room as usize)?;
-        let table = Table::with_room(alloc, room)?;
+        let mut table = Table::with_room(alloc, room + kept.len() as u32)?;
+        for place in 0..kept.len() {
+            table.push(kept[place].clone()?);
+        }
         let events = Vec::with_capacity(alloc, 16 * (room as usize))?;
         for id in 0..asserts {
             let (query, state) = root_of(alloc, &graphs, main, id)?;
@@ -151,6 +184,7 @@ impl Board {
             forest,
             slots,
             table,
+            kept,
             events,
             stopped: false,
         })

@@ -5,6 +5,7 @@ ghost use Rattle.std.specs.Option.{option_map};
 ghost use Rattle.query_tree.specs.Forest.{changed, is_place};
 ghost use Rattle.bolt_core.specs.Boards.{HandsIn, IsClosedBy, IsGone, IsStored, MayBeClosed, SameProgram, node_of};
 ghost use Rattle.bolt_core.specs.Groups.{group, leans_within};
+ghost use Rattle.bolt_core.specs.Keeps.{IsNow};
 ghost use Rattle.bolt_core.specs.declared.slot.Slot.{Slot as ASlot};
 ghost use Rattle.bolt_core.specs.steps.Closes.{IsGroupOf, Settles, appended_by, closed_as, done, is_below, joins_now, kept_slot, members_on, only_at, settled_slot, shown_slot, summaries_in, told_of, value_of};
 
@@ -227,6 +228,7 @@ impl Board {
         ensures closed { MatchResult result (λ _. IsClosedBy self.old worker job how self.new)
             (λ gone. IsGone self.old self.new job gone) }
         ensures stored { IfOk result (λ _. IsStored self.new job.id job.state) }
+        ensures current { IfOk result (λ _. IsNow self.old.core job.id job.taken) }
     {
         if let Some(event) = self.ended(job.id, job.taken) {
             return Err(Gone { event, job });

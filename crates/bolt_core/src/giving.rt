@@ -67,6 +67,7 @@ impl Board {
             (parked worker job.id job.spent rest) self.new.core)
             (λ gone. IsGone self.old self.new job gone) }
         ensures stored { IfOk result (λ _. IsStored self.new job.id job.state) }
+        ensures current { IfOk result (λ _. IsNow self.old.core job.id job.taken) }
     {
         if let Some(event) = self.ended(job.id, job.taken) {
             return Err(Gone { event, job });
@@ -103,6 +104,7 @@ impl Board {
         ensures fed { MatchResult result (λ _. IsFedBy self.old worker job asked self.new)
             (λ gone. IsGone self.old self.new job gone) }
         ensures stored { IfOk result (λ _. IsStored self.new job.id job.state) }
+        ensures current { IfOk result (λ _. IsNow self.old.core job.id job.taken) }
     {
         if let Some(event) = self.ended(job.id, job.taken) {
             return Err(Gone { event, job });
@@ -150,6 +152,7 @@ impl Board {
             (λ gone. IsGone self.old self.new job gone) }
         ensures stored { IfOk result (λ _. IsStored self.new job.id
             (told_child (reads self.old.graphs) job.state (length self.old.core.entries))) }
+        ensures current { IfOk result (λ _. IsNow self.old.core job.id job.taken) }
     {
         if let Some(event) = self.ended(job.id, job.taken) {
             return Err(Gone { event, job });

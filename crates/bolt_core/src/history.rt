@@ -16,6 +16,7 @@ pub struct Program {
     pub main: ProcId,
     pub asserts: u32,
     pub budget: u32,
+    pub kept: LinkedList<Summary>,
 }
 
 /// An event with the queries and the table that it tells of, for contracts alone: no value of it is
@@ -49,6 +50,7 @@ impl Chronicle for Board {
       main = b.main;
       asserts = b.asserts;
       budget = b.budget;
+      kept = b.core.kept;
     } };
 
     ghost events = { λ b. b.core.history };

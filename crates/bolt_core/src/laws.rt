@@ -1,7 +1,7 @@
 //! What events keep. The functions do nothing: their contracts are the laws.
 
 ghost use Rattle.bolt_core.specs.KeptBoards.{BoardsAreKept, BoardsKeep, BoardsOpen, JobsMayBeTold, JobsStaySound};
-ghost use Rattle.bolt_core.specs.KeptBoards.{MovesStay, OpeningGrants, ReserveSuffices, TableHasRoom, TableIsWithin, TakenJobsAreSound};
+ghost use Rattle.bolt_core.specs.KeptBoards.{MovesStay, OpeningGrants, OverByRoots, ReserveSuffices, RootsHaveBudget, TableHasRoom, TableIsWithin, TakenJobsAreSound};
 ghost use Rattle.bolt_core.specs.LawfulStates.{StatesAreLawful};
 
 /// Each event keeps what is true of a board.
@@ -53,6 +53,16 @@ pub fn reserve_suffices()
 /// Each root has its grant.
 pub fn opening_grants()
     ensures { OpeningGrants }
+{}
+
+/// A board is over exactly where the root of each assertion is.
+pub fn over_by_roots()
+    ensures { OverByRoots }
+{}
+
+/// What is left in the tree of a root, and what was spent there, is the budget together.
+pub fn roots_have_budget()
+    ensures { RootsHaveBudget }
 {}
 
 /// The states of queries are what the machine needs.

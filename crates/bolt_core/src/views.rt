@@ -1,7 +1,7 @@
 //! What callers read of a board.
 
 ghost use Rattle.std.specs.Prelude.{◌≡◌, ◌≤◌, length};
-ghost use Rattle.bolt_core.specs.Boards.{IsBoard, most_queries};
+ghost use Rattle.bolt_core.specs.Boards.{IsBoard, most_summaries};
 
 use crate::board::Board;
 use query_rules::state::QueryState;
@@ -29,11 +29,12 @@ impl Board {
         &self.table
     }
 
-    /// The most summaries that the table may come to hold: one of each query that there may be.
+    /// The most summaries that the table may come to hold: those with which the board opened, and
+    /// one of each query that there may be.
     pub fn room(&self) -> u32
-        ensures room { result ≡ most_queries self.now }
+        ensures room { result ≡ most_summaries self.now }
         ensures within { length self.now.core.table ≤ result }
     {
-        self.asserts * self.budget + self.asserts
+        self.asserts * self.budget + self.asserts + self.kept.len() as u32
     }
 }

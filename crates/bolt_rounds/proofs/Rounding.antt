@@ -13,7 +13,7 @@ use Rattle.summary_form.specs.declared.summary.Summary.{Summary}
 use Rattle.summary_table.specs.Tables.{StartsWith}
 use Rattle.bolt_core.specs.declared.job.Gone.{Gone as GoneJob}
 use Rattle.bolt_core.specs.declared.job.Job.{Job as Given}
-use Rattle.bolt_core.specs.Boards.{IsBoard, IsBusy, IsGone, IsSoundFor, IsTaken, Publishes, SameProgram, Shown, most_queries}
+use Rattle.bolt_core.specs.Boards.{IsBoard, IsBusy, IsGone, IsSoundFor, IsTaken, Publishes, SameProgram, Shown, most_queries, most_summaries}
 use Rattle.bolt_core.specs.Histories.{Told, WasTaken, said, took}
 use Rattle.bolt_core.specs.Machine.{Core, Reached, Reads, is_over}
 use Rattle.bolt_core.specs.States.{reads}
@@ -30,7 +30,7 @@ use Rattle.bolt_rounds.specs.Moves.{IsJustTaken, IsMoved, MayBeShown, MayMove}
 use Rattle.bolt_rounds.specs.steps.Places.{AreMade, HasGiven, HasTaken, IsAtRest, IsNewCrew, IsOutIn, IsTakeOf, IsTakenOf, IsToGive, MayBeMade, MayGive, MayHaveSaid, WasMade}
 use Rattle.bolt_rounds.specs.steps.Turning.{AreBackBut, IsBack}
 use Rattle.bolt_rounds.proofs.Shown.{moves_keep, said_decided, spare_is_shown}
-use Rattle.bolt_rounds.proofs.Turning.{back_going, back_in, begun_going, event_front, history_is, less_out, moved_back, never_idle, none_back, outs_more, same_most, starts_self, starts_then, take_out}
+use Rattle.bolt_rounds.proofs.Turning.{back_going, back_in, begun_going, event_front, history_is, less_out, moved_back, never_idle, none_back, outs_more, same_most, same_summaries, starts_self, starts_then, take_out}
 
 all_more : {X : Type 0} (P Q : X → Type 0) (xs : List X) → ((x : X) → P x → Q x) → All P xs → All Q xs
 all_more P Q xs f h i d lt = f (get_or xs i d) (h i d lt)
@@ -99,7 +99,7 @@ module _ (old new : Shown) (w : ℕ) (j : Given) (h : IsBoard old) (same : SameP
       crew_of = record {
         some = omega (arith, before.crew_of.some, workers);
         kept = omega (arith, before.crew_of.kept, workers, kept);
-        room = room ∙ (before.crew_of.room ∙ sym (same_most old new same));
+        room = room ∙ (before.crew_of.room ∙ sym (same_summaries old new same));
         front = subst (StartsWith new.core.table) (sym known) (starts_self new.core.table);
         going = ap (λ (c : Core Seen). c.is_stopped) t.event.new_is ∙ before.crew_of.going;
       };
@@ -263,7 +263,7 @@ module _ (old new : Shown) (p : Place) (same : SameProgram old new) (g : HasGive
     crew_of = record {
       some = omega (arith, a.crew_of.some, workers);
       kept = omega (arith, a.crew_of.kept, workers, kept);
-      room = ap (λ k. k.room) known ∙ (a.crew_of.room ∙ sym (same_most old new same));
+      room = ap (λ k. k.room) known ∙ (a.crew_of.room ∙ sym (same_summaries old new same));
       front = subst (λ k. StartsWith new.core.table k.summaries) (sym known)
           (starts_then new.core.table old.core.table crew.known.summaries (reached_front (reads old.graphs) old.core g.events new.core
           g.reached)
@@ -301,7 +301,7 @@ idle_over b new ps h out busy e = absurd (never_idle b h (record {
 }) busy)
 
 -- before the first round
-pub begun_rest : (b : Shown) (crew : Crew) (workers room : ℕ) → IsBoard b → b.core.history ≡ [] → 1 ≤ workers → room ≡ most_queries b →
+pub begun_rest : (b : Shown) (crew : Crew) (workers room : ℕ) → IsBoard b → b.core.history ≡ [] → 1 ≤ workers → room ≡ most_summaries b →
     IsNewCrew workers room crew → IsAtRest b crew
 begun_rest b crew workers room h e some is n = record {
   crew_of = record {

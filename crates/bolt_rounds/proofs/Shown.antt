@@ -1,5 +1,5 @@
 -- What may be published of a job, and that it stays so, as what its calls ask does.
-use Rattle.std.proofs.Common.{Global, ◌≡◌, ◌⊎◌, ℕ, ◌<◌, List, [], ◌∷◌, length, Bool, false, true, Option, None, Some, refl, sym, ap, ◌∙◌, subst, inl, inr}
+use Rattle.std.proofs.Common.{Global, ◌≡◌, ◌⊎◌, ℕ, ◌<◌, List, [], ◌∷◌, ◌++◌, length, Bool, false, true, Option, None, Some, refl, sym, ap, ◌∙◌, subst, inl, inr}
 use Rattle.std.specs.Prelude.{IfSome, slice_get}
 use Rattle.std.specs.Option.{option_map}
 use Rattle.std.specs.declared.sync.Arc.{Arc}
@@ -60,8 +60,8 @@ module _ (b : Shown) (h : IsBoard b) (j : Given) where
       let R = reads b.graphs in
       let k = board_keeps b h in
       let g : IsLawful R = states_lawful b.graphs h.linked in
-      let holds : AllOf (HoldsBy R) (table_of b.core.history) = subst (AllOf (HoldsBy R)) (sym k.named) k.holds in
-      let given = g.gives (table_of b.core.history) j.state m.sound.state holds m.is_closed in
+      let holds : AllOf (HoldsBy R) (b.core.kept ++ table_of b.core.history) = subst (AllOf (HoldsBy R)) (sym k.named) k.holds in
+      let given = g.gives (b.core.kept ++ table_of b.core.history) j.state m.sound.state holds m.is_closed in
       of_own m.sound (summary.NotMay j.state.query) refl refl
       (subst (GivenFrom R.nm (levels_of R j.state) j.state.query) none given)
 

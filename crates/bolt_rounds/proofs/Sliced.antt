@@ -79,8 +79,9 @@ is_begun b j h t =
         graphs = h.linked;
         table_holds = table_holds gs b.core.table k.holds;
         state = subst (λ (l : List Summary). IsStateOf gs s.graph l s.model.query s.model.ancestors s.model) k.named
-            (subst (λ (q : Query). IsStateOf gs s.graph (table_of b.core.history) q s.model.ancestors s.model) (sym s.shows.query)
-            (subst (λ (qs : List Query). IsStateOf gs s.graph (table_of b.core.history) j.state.query qs s.model)
+            (subst (λ (q : Query). IsStateOf gs s.graph (b.core.kept ++ table_of b.core.history) q s.model.ancestors s.model)
+            (sym s.shows.query)
+            (subst (λ (qs : List Query). IsStateOf gs s.graph (b.core.kept ++ table_of b.core.history) j.state.query qs s.model)
             (sym s.shows.ancestors) s.state));
       };
     }
@@ -107,7 +108,7 @@ sliced_job j s made = record { id = j.id; taken = j.taken; left = j.left; spent 
 
 module _ (b : Shown) (j : Given) (h : IsBoard b) (t : IsJustTaken b j) (most : ℕ) (s : Seen) (made : Sliced)
     (o : HasSliced b.graphs t.sound.state.graph b.core.table j.left most t.sound.state.model s made) where
-  abbrev old : IsStateFor b.graphs (table_of b.core.history) j.state
+  abbrev old : IsStateFor b.graphs (b.core.kept ++ table_of b.core.history) j.state
   old = t.sound.state
 
   steps_are : s.steps ≡ j.state.steps ++ o.sliced.steps
@@ -135,7 +136,7 @@ module _ (b : Shown) (j : Given) (h : IsBoard b) (t : IsJustTaken b j) (most : �
   at_graph : slice_get b.graphs s.query.proc ≡ Some old.graph
   at_graph = subst (λ (q : Query). slice_get b.graphs q.proc ≡ Some old.graph) o.analysed.shows.query o.analysed.at
 
-  state_now : IsStateFor b.graphs (table_of b.core.history) s
+  state_now : IsStateFor b.graphs (b.core.kept ++ table_of b.core.history) s
   state_now = record {
     graph = old.graph;
     model = o.new;
@@ -193,14 +194,14 @@ module _ (b : Shown) (j : Given) (h : IsBoard b) (t : IsJustTaken b j) (most : �
         (matches_now (last_step o.sliced.steps) refl);
     news = subst (AllOf (λ (a : Asked). IsNews a.news (closed_as (take j.taken b.core.history) a.child))) (sym asked_are)
         (news_after (closed_as (take j.taken b.core.history)) (last_step o.sliced.steps) j.state.asked t.sound.news);
-    seen = subst (λ (xs : List Step). AllOf (λ n. length (table_of (take j.taken b.core.history)) ≤ n)
+    seen = subst (λ (xs : List Step). AllOf (λ n. length (b.core.kept ++ table_of (take j.taken b.core.history)) ≤ n)
         (seen_in (drop (length xs - made.steps) xs))) (sym steps_are)
-        (subst (λ (xs : List Step). AllOf (λ n. length (table_of (take j.taken b.core.history)) ≤ n) (seen_in xs))
+        (subst (λ (xs : List Step). AllOf (λ n. length (b.core.kept ++ table_of (take j.taken b.core.history)) ≤ n) (seen_in xs))
         (sym (last_made j.state.steps o.sliced.steps made.steps o.sliced.counted))
-        (seen_all (length (table_of (take j.taken b.core.history))) (length b.core.table) o.sliced.steps
+        (seen_all (length (b.core.kept ++ table_of (take j.taken b.core.history))) (length b.core.table) o.sliced.steps
         (omega (
           arith,
-          table_longer b.core.history j.taken,
+          table_longer b.core.kept b.core.history j.taken,
           ap (λ (ss : List Summary). length ss) (board_keeps b h).named,
         )) o.sliced.seen));
   }

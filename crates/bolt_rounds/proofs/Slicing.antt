@@ -244,12 +244,14 @@ table_joined [] l = refl
 table_joined (e ∷ h) l =
     ap (λ (ss : List Summary). named e ++ ss) (table_joined h l) ∙ sym (append_assoc (named e) (table_of h) (table_of l))
 
-pub table_longer : (h : List Told) (n : ℕ) → length (table_of (take n h)) ≤ length (table_of h)
-table_longer h n =
+pub table_longer : (ks : List Summary) (h : List Told) (n : ℕ) → length (ks ++ table_of (take n h)) ≤ length (ks ++ table_of h)
+table_longer ks h n =
     let e : table_of h ≡ table_of (take n h) ++ table_of (drop n h) =
     ap table_of (sym (take-append-drop n h)) ∙ table_joined (take n h) (drop n h) in
     omega (
       arith,
       ap (λ (ss : List Summary). length ss) e,
       length-append (table_of (take n h)) (table_of (drop n h)),
+      length-append ks (table_of (take n h)),
+      length-append ks (table_of h),
     )

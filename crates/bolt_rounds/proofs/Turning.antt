@@ -11,10 +11,10 @@ use Rattle.summary_form.specs.declared.summary.Summary.{Summary}
 use Rattle.summary_table.specs.Tables.{StartsWith}
 use Rattle.bolt_core.specs.declared.job.Gone.{Gone as GoneJob}
 use Rattle.bolt_core.specs.declared.job.Job.{Job as Given}
-use Rattle.bolt_core.specs.Boards.{IsBegun, IsBoard, IsBusy, IsGone, IsTaken, SameProgram, Shown, most_queries}
+use Rattle.bolt_core.specs.Boards.{IsBegun, IsBoard, IsBusy, IsGone, IsTaken, SameProgram, Shown, most_queries, most_summaries}
 use Rattle.bolt_core.specs.Histories.{Told, WasTaken, asked, closed, fed, gives_back, parked, said, stopped, took}
 use Rattle.bolt_core.specs.Keeps.{IsNow}
-use Rattle.bolt_core.specs.Machine.{Core, Event, Reached, Reads, closed_how, empty_board, opening}
+use Rattle.bolt_core.specs.Machine.{Core, Event, Reached, Reads, closed_how, first_board, opening}
 use Rattle.bolt_core.specs.States.{reads}
 use Rattle.bolt_core.proofs.BoardKeeps.{board_keeps, nodes_of}
 use Rattle.bolt_core.proofs.Ending.{end_more, event_frame}
@@ -236,12 +236,18 @@ module _ {S : Type 0} (R : Reads S) (old new : Core S) where
 pub same_most : (a b : Shown) → SameProgram a b → most_queries b ≡ most_queries a
 same_most a b s = ap (λ n. n * b.budget + n) s.asserts ∙ ap (λ m. a.asserts * m + a.asserts) s.budget
 
+pub same_summaries : (a b : Shown) → SameProgram a b → most_summaries b ≡ most_summaries a
+same_summaries a b s =
+    let n : length b.core.kept ≡ length a.core.kept = ap (λ (ks : List Summary). length ks) s.kept in
+    ap (λ k. k + most_queries b) n ∙ ap (λ m. length a.core.kept + m) (same_most a b s)
+
 pub same_program : (a b c : Shown) → SameProgram a b → SameProgram b c → SameProgram a c
 same_program a b c s t = record {
   graphs = t.graphs ∙ s.graphs;
   main = t.main ∙ s.main;
   asserts = t.asserts ∙ s.asserts;
   budget = t.budget ∙ s.budget;
+  kept = t.kept ∙ s.kept;
 }
 
 -- A turn
@@ -281,10 +287,10 @@ opens_bare R grant [] c = (refl, refl, refl)
 opens_bare R grant (s ∷ ss) c = opens_bare R grant ss _
 
 pub begun_bare : (gs : List Graph) (main asserts budget : ℕ) (b : Shown) → IsBegun gs main asserts budget b →
-    (b.core.history ≡ []) × (b.core.table ≡ [])
+    (b.core.history ≡ []) × (b.core.table ≡ b.core.kept)
 begun_bare gs main asserts budget b h =
     let o = h.opening in
-    let bare = opens_bare (reads b.graphs) b.budget o.roots (empty_board (reads b.graphs)) in
+    let bare = opens_bare (reads b.graphs) b.budget o.roots (first_board (reads b.graphs) b.core.kept) in
     (ap (λ (c : Core Seen). c.history) o.is ∙ bare.0, ap (λ (c : Core Seen). c.table) o.is ∙ bare.1)
 
 reached_none : {S : Type 0} (R : Reads S) (old new : Core S) (h : List Told) → h ≡ [] → Reached R old h new → new ≡ old
@@ -296,10 +302,10 @@ begun_going b h e =
     let R = reads b.graphs in
     let o = h.opening in
     ap (λ (c : Core Seen). c.is_stopped) (reached_none R h.opened b.core b.core.history e h.reached ∙ o.is)
-    ∙ (opens_bare R b.budget o.roots (empty_board R)).2
+    ∙ (opens_bare R b.budget o.roots (first_board R h.opened.kept)).2
 
 -- there is room for the board's table
-pub table_few : (b : Shown) → IsBoard b → length b.core.table ≤ most_queries b
+pub table_few : (b : Shown) → IsBoard b → length b.core.table ≤ most_summaries b
 table_few b h =
     let k = board_keeps b h in
     omega (

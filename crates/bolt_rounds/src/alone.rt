@@ -2,7 +2,7 @@
 
 ghost use Rattle.std.specs.Prelude.{◌≡◌, [], IfOk, OnOk, false, true};
 ghost use Rattle.summary_table.specs.Tables.{StartsWith};
-ghost use Rattle.bolt_core.specs.Boards.{SameProgram, Shown, most_queries};
+ghost use Rattle.bolt_core.specs.Boards.{SameProgram, Shown, most_summaries};
 ghost use Rattle.bolt_core.specs.Keeps.{IsNow};
 ghost use Rattle.bolt_core.specs.Machine.{is_over};
 ghost use Rattle.bolt_core.specs.States.{reads};
@@ -55,7 +55,7 @@ fn turn(
 ) -> Result<bool, OutOfMemory>
     requires back { AreBack board.old.core }
     requires going { board.old.core.is_stopped ≡ false }
-    requires room { known.old.room ≡ most_queries board.old }
+    requires room { known.old.room ≡ most_summaries board.old }
     requires front { StartsWith board.old.core.table known.old.summaries }
     ensures same { SameProgram board.old board.new }
     ensures room { known.new.room ≡ known.old.room }

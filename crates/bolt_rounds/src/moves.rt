@@ -3,7 +3,7 @@
 ghost use Rattle.std.specs.Prelude.{◌≡◌, ◌≤◌, ◌++◌, ◌∷◌, [], IfOk, IfSome, MatchResult, OnOk, map};
 ghost use Rattle.std.specs.Option.{option_map};
 ghost use Rattle.summary_table.specs.Tables.{StartsWith};
-ghost use Rattle.bolt_core.specs.Boards.{Gives, HandsIn, IsBoard, IsGone, SameProgram, Shown, most_queries};
+ghost use Rattle.bolt_core.specs.Boards.{Gives, HandsIn, IsBoard, IsGone, SameProgram, Shown, most_summaries};
 ghost use Rattle.bolt_rounds.specs.Moves.{IsJustTaken, IsMade, IsMoved, MayBeShown, MayMove, MovesKeep, WasJustTaken, spare};
 ghost use Rattle.bolt_rounds.specs.steps.Moving.{HasAskedLast, IsAskOf, IsMoveOf, MayEnd};
 
@@ -59,7 +59,7 @@ pub struct Made {
 
 /// Brings a table up to the board's, and takes a query. After want of memory none is taken.
 pub(crate) fn fetch(board: &mut Board, worker: u32, known: &mut Table) -> Result<Taken, OutOfMemory>
-    requires room { known.old.room ≡ most_queries board.old }
+    requires room { known.old.room ≡ most_summaries board.old }
     requires front { StartsWith board.old.core.table known.old.summaries }
     ensures same { SameProgram board.old board.new }
     ensures board { IsBoard board.old }
@@ -149,6 +149,7 @@ fn worked_by(
     requires job { WasJustTaken graphs.now.graphs known.now.summaries job }
     requires at_most { 1 ≤ at_most }
     ensures same { IfOk result (λ w. (w.job.id ≡ job.id) × (w.job.taken ≡ job.taken)) }
+    ensures few { IfOk result (λ w. w.job.spent ≤ at_most) }
     ensures may { IfOk result (λ w. (b : Shown) → IsBoard b → graphs.now.graphs ≡ b.graphs →
         known.now.summaries ≡ b.core.table → IsJustTaken b job → MayMove b w.job w.next) }
 {
@@ -189,6 +190,7 @@ pub fn work_on(
     requires job { IsJustTaken board job }
     requires at_most { 1 ≤ at_most }
     ensures same { IfOk result (λ w. (w.job.id ≡ job.id) × (w.job.taken ≡ job.taken)) }
+    ensures few { IfOk result (λ w. w.job.spent ≤ at_most) }
     ensures may { IfOk result (λ w. MayMove board w.job w.next) }
 {
     worked_by(alloc, memos, graphs, known, job, at_most)

@@ -11,14 +11,15 @@ use Rattle.query_rules.specs.Seen.{Seen}
 use Rattle.bolt_core.specs.Boards.{AreRootsOf, IsBoard, IsOpening, IsRootOf, SameProgram, Shown}
 use Rattle.bolt_core.specs.Groups.{Node, closed_at}
 use Rattle.bolt_core.specs.Histories.{Told, asked, closed, fed, parked, said, stopped, took}
-use Rattle.bolt_core.specs.Machine.{Core, Event, IsSince, IsSound, Job, Reached, Reads, empty_board, node_below, node_of_root, opening, shows, told_child, with_event, with_nodes}
+use Rattle.bolt_core.specs.Machine.{Core, Event, IsSince, IsSound, Job, Reached, Reads, first_board, node_below, node_of_root, opening, shows, told_child, with_event, with_nodes}
 use Rattle.bolt_core.specs.States.{reads}
+use Rattle.bolt_core.proofs.Staying.{reached_kept}
 use Rattle.bolt_workers.specs.Later.{AreAlike, HistoriesTell}
 use Rattle.bolt_workers.proofs.Bare.{Alike, AllAlike, asks_alike, backs_alike, closes_alike, feeds_alike, own_alike, roots_alike, takes_alike}
 
 module _ {S : Type 0} where
   pub same_alike : (c : Core S) → AreAlike c c
-  same_alike c = record { entries = refl; nodes = refl; table = refl; history = refl; stopped = refl }
+  same_alike c = record { entries = refl; nodes = refl; kept = refl; table = refl; history = refl; stopped = refl }
 
   to_alike : (c d x y : Core S) → c ≡ x → d ≡ y → AreAlike x y → AreAlike c d
   to_alike c d x y e f a = subst (λ (z : Core S). AreAlike z d) (sym e) (subst (λ (z : Core S). AreAlike x z) (sym f) a)
@@ -30,6 +31,7 @@ module _ {S : Type 0} (R : Reads S) where
   event_alike c d c' d' es fs e a b x y = to_alike c' d' (with_event R c es e) (with_event R d fs e) x y (record {
     entries = b;
     nodes = a.nodes;
+    kept = a.kept;
     table = a.table;
     history = ap (λ (h : List Told). h ++ e ∷ []) a.history;
     stopped = a.stopped;
@@ -40,6 +42,7 @@ module _ {S : Type 0} (R : Reads S) where
   nodes_alike c d c' d' es fs ns ms ss e a b n x y = to_alike c' d' (with_nodes R c es ns ss e) (with_nodes R d fs ms ss e) x y (record {
     entries = b;
     nodes = n;
+    kept = a.kept;
     table = ap (λ (ts : List Summary). ts ++ ss) a.table;
     history = ap (λ (h : List Told). h ++ e ∷ []) a.history;
     stopped = a.stopped;
@@ -51,7 +54,7 @@ module _ {S : Type 0} (R : Reads S) where
     owns_alike = own_alike c.entries d.entries a.entries i own its
         (subst (λ (n : ℕ). slice_get c.entries n ≡ Some own) e s.at) (subst (λ (n : ℕ). slice_get d.entries n ≡ Some its) f t.at)
 
-    nodes_same : (u : IsSound R c.history c.nodes j) → (v : IsSound R d.history d.nodes k) → u.node ≡ v.node
+    nodes_same : (u : IsSound R c.kept c.history c.nodes j) → (v : IsSound R d.kept d.history d.nodes k) → u.node ≡ v.node
     nodes_same u v = same_Some u.node v.node
         (sym u.node_at ∙ (ap (λ (n : ℕ). slice_get c.nodes n) (e ∙ sym f) ∙ (ap (λ (ns : List Node). slice_get ns k.id) a.nodes
         ∙ v.node_at)))
@@ -103,6 +106,7 @@ module _ {S : Type 0} (R : Reads S) where
       (record d { history = d.history ++ stopped w ∷ []; is_stopped = true }) t.2 u.2 (record {
         entries = a.entries;
         nodes = a.nodes;
+        kept = a.kept;
         table = a.table;
         history = ap (λ (h : List Told). h ++ stopped w ∷ []) a.history;
         stopped = refl;
@@ -128,6 +132,7 @@ module _ {S : Type 0} (R : Reads S) where
         entries = roots_alike c.entries d.entries a.entries grant s t;
         nodes = ap (λ (ns : List Node). ns ++ node_of_root R s ∷ []) a.nodes
             ∙ ap (λ (z : Query). d.nodes ++ record { parent = None; level = 0; query = z; closed = None; published = false } ∷ []) x;
+        kept = a.kept;
         table = a.table;
         history = a.history;
         stopped = a.stopped;
@@ -165,12 +170,14 @@ roots_same gs main k (s ∷ ss) (t ∷ ts) l a b =
     cc
 
 module _ (b : Shown) (c d : Core Seen) (x : IsOpening b c) (y : IsOpening b d) where
-  pub opened_alike : AreAlike c d
-  opened_alike =
+  pub opened_alike : c.kept ≡ d.kept → AreAlike c d
+  opened_alike same =
       let R = reads b.graphs in
-      to_alike c d (opening R b.budget x.roots (empty_board R)) (opening R b.budget y.roots (empty_board R)) x.is y.is
-      (openings_alike R b.budget x.roots y.roots (empty_board R) (empty_board R)
-      (roots_same b.graphs b.main 0 x.roots y.roots (x.count ∙ sym y.count) x.are_roots y.are_roots) (same_alike (empty_board R)))
+      let first : AreAlike (first_board R c.kept) (first_board R d.kept) =
+      subst (λ (ks : List Summary). AreAlike (first_board R c.kept) (first_board R ks)) same (same_alike (first_board R c.kept)) in
+      to_alike c d (opening R b.budget x.roots (first_board R c.kept)) (opening R b.budget y.roots (first_board R d.kept)) x.is y.is
+      (openings_alike R b.budget x.roots y.roots (first_board R c.kept) (first_board R d.kept)
+      (roots_same b.graphs b.main 0 x.roots y.roots (x.count ∙ sym y.count) x.are_roots y.are_roots) first)
 
 -- what is of the same program is this board with another core
 pub with_core : (a b : Shown) → SameProgram a b → record a { core = b.core } ≡ b
@@ -181,16 +188,30 @@ with_core a b s =
     ∙ ap (λ (n : ℕ). record b { budget = n }) (sym s.budget)))
 
 -- of one board with two cores
-cores_alike : (b : Shown) (c d : Core Seen) → IsBoard (record b { core = c }) → IsBoard (record b { core = d }) → d.history ≡ c.history →
-    AreAlike c d
-cores_alike b c d x y e =
+cores_alike : (b : Shown) (c d : Core Seen) → IsBoard (record b { core = c }) → IsBoard (record b { core = d }) → d.kept ≡ c.kept →
+    d.history ≡ c.history → AreAlike c d
+cores_alike b c d x y same e =
     let R = reads b.graphs in
+    let kept : x.opened.kept ≡ y.opened.kept =
+    sym (reached_kept R x.opened c c.history x.reached) ∙ (sym same ∙ reached_kept R y.opened d d.history y.reached) in
     reached_alike R c.history x.opened y.opened c d
     (opened_alike b x.opened y.opened
-    (record { roots = x.opening.roots; count = x.opening.count; are_roots = x.opening.are_roots; is = x.opening.is })
-    (record { roots = y.opening.roots; count = y.opening.count; are_roots = y.opening.are_roots; is = y.opening.is }))
+    (record {
+      roots = x.opening.roots;
+      count = x.opening.count;
+      are_roots = x.opening.are_roots;
+      kept_hold = x.opening.kept_hold;
+      is = x.opening.is;
+    })
+    (record {
+      roots = y.opening.roots;
+      count = y.opening.count;
+      are_roots = y.opening.are_roots;
+      kept_hold = y.opening.kept_hold;
+      is = y.opening.is;
+    }) kept)
     x.reached (subst (λ (h : List Told). Reached R y.opened h d) e y.reached)
 
 pub histories_tell : HistoriesTell
 histories_tell a b x y s e =
-    cores_alike a a.core b.core x (subst IsBoard (sym (with_core a b s)) y) e
+    cores_alike a a.core b.core x (subst IsBoard (sym (with_core a b s)) y) s.kept e

@@ -24,6 +24,7 @@ same_program_of a b e = record {
   main = sym (ap (λ (p : Program). p.main) e);
   asserts = sym (ap (λ (p : Program). p.asserts) e);
   budget = sym (ap (λ (p : Program). p.budget) e);
+  kept = sym (ap (λ (p : Program). p.kept) e);
 }
 
 pub seat_programs : (o : Option Program) (a b : Shown) → o ≡ Some (program_of a) → o ≡ Some (program_of b) → SameProgram a b

@@ -1,5 +1,5 @@
 -- What holds of a board holds of each later one: jobs that are out, and the end.
-use Rattle.std.proofs.Common.{◌≡◌, ℕ, zero, suc, List, [], ◌∷◌, ◌++◌, true, not, Some, refl, sym, ap, ◌∙◌, subst, append_assoc}
+use Rattle.std.proofs.Common.{◌≡◌, ℕ, zero, suc, List, [], ◌∷◌, ◌++◌, length, true, not, Some, refl, sym, ap, ◌∙◌, subst, append_assoc, arith}
 use Rattle.std.specs.Prelude.{slice_get}
 use Rattle.std.proofs.Math.Bool.{or-true}
 use Rattle.std.proofs.lemmas.Bool.{both_ways, not-true}
@@ -14,9 +14,9 @@ use Rattle.bolt_core.specs.declared.job.Job.{Job as Given}
 use Rattle.bolt_core.specs.Boards.{IsBoard, Shown}
 use Rattle.bolt_core.specs.Groups.{Node}
 use Rattle.bolt_core.specs.Histories.{Told, asked, closed, fed, parked, said, stopped, took}
-use Rattle.bolt_core.specs.Machine.{Core, Event, Reached, Reads, empty_board, is_over}
+use Rattle.bolt_core.specs.Machine.{Core, Event, Reached, Reads, first_board, is_over}
 use Rattle.bolt_core.specs.States.{reads}
-use Rattle.bolt_core.proofs.Staying.{reached_history}
+use Rattle.bolt_core.proofs.Staying.{reached_history, reached_kept}
 use Rattle.bolt_rounds.specs.declared.moves.Move.{Move}
 use Rattle.bolt_rounds.specs.declared.moves.Move.TheVariants as move
 use Rattle.bolt_rounds.specs.Moves.{MayBeShown, MayMove}
@@ -84,7 +84,7 @@ passed_by old new l =
     let p = reached_parts R old.core.history l.begins.rest b.opened new.core
     (subst (λ (h : List Told). Reached R b.opened h new.core) l.begins.is b.reached) in
     let none : b.opened.history ≡ [] =
-    ap (λ (c : Core Seen). c.history) b.opening.is ∙ opening_history R old.budget b.opening.roots (empty_board R) in
+    ap (λ (c : Core Seen). c.history) b.opening.is ∙ opening_history R old.budget b.opening.roots (first_board R b.opened.kept) in
     let h : p.0.history ≡ old.core.history =
     reached_history R b.opened p.0 old.core.history p.1 ∙ ap (λ (xs : List Told). xs ++ old.core.history) none in
     let board : IsBoard (record old { core = p.0 }) = record {
@@ -94,15 +94,34 @@ passed_by old new l =
       few = b.few;
       some = b.some;
       most = b.most;
+      few_kept = omega (
+        arith,
+        b.few_kept,
+        ap (λ (ks : List Summary). length ks) (reached_kept R b.opened p.0 old.core.history p.1),
+        ap (λ (ks : List Summary). length ks) (reached_kept R b.opened new.core new.core.history b.reached),
+      );
       opened = b.opened;
-      opening = record { roots = b.opening.roots; count = b.opening.count; are_roots = b.opening.are_roots; is = b.opening.is };
+      opening = record {
+        roots = b.opening.roots;
+        count = b.opening.count;
+        are_roots = b.opening.are_roots;
+        kept_hold = b.opening.kept_hold;
+        is = b.opening.is;
+      };
       reached = subst (λ (xs : List Told). Reached R b.opened xs p.0) (sym h) p.1;
     } in
     record {
       mid = p.0;
       board = board;
       alike = histories_tell old (record old { core = p.0 }) l.is_old board
-          (record { graphs = refl; main = refl; asserts = refl; budget = refl })
+          (record {
+            graphs = refl;
+            main = refl;
+            asserts = refl;
+            budget = refl;
+            kept = reached_kept R b.opened p.0 old.core.history p.1
+                ∙ (sym (reached_kept R b.opened new.core new.core.history b.reached) ∙ l.same.kept);
+          })
           h;
       rest = l.begins.rest;
       reached = p.2;
@@ -125,13 +144,14 @@ ends_stay old new l =
 module _ (b : Shown) (c : Core Seen) (a : AreAlike b.core c) where
   -- the other board, in the words of this one
   abbrev twin : Core Seen
-  twin = record c { history = b.core.history; nodes = b.core.nodes; table = b.core.table }
+  twin = record c { history = b.core.history; nodes = b.core.nodes; kept = b.core.kept; table = b.core.table }
 
   is_twin : twin ≡ c
   is_twin =
-      ap (λ (h : List Told). record c { history = h; nodes = b.core.nodes; table = b.core.table }) a.history
-      ∙ (ap (λ (ns : List Node). record c { nodes = ns; table = b.core.table }) a.nodes
-      ∙ ap (λ (ts : List Summary). record c { table = ts }) a.table)
+      ap (λ (h : List Told). record c { history = h; nodes = b.core.nodes; kept = b.core.kept; table = b.core.table }) a.history
+      ∙ (ap (λ (ns : List Node). record c { nodes = ns; kept = b.core.kept; table = b.core.table }) a.nodes
+      ∙ (ap (λ (ks : List Summary). record c { kept = ks; table = b.core.table }) a.kept
+      ∙ ap (λ (ts : List Summary). record c { table = ts }) a.table))
 
   moves_twin : (j : Given) (m : Move) → MayMove b j m → MayMove (record b { core = twin }) j m
   moves_twin j (move.Ask child query) h = record { sound = h.sound; made = h.made; last = h.last; fresh = h.fresh }

@@ -27,7 +27,7 @@ use Rattle.bolt_rounds.specs.declared.moves.Move.TheVariants as move
 use Rattle.bolt_rounds.specs.declared.moves.Worked.{Worked}
 use Rattle.bolt_rounds.specs.Moves.{IsMade, IsMoved, MayBeShown, MayMove, WasJustTaken}
 use Rattle.bolt_rounds.proofs.Shown.{said_decided, spare_is_shown}
-use Rattle.bolt_rounds.proofs.Turning.{just_taken, same_most, same_program}
+use Rattle.bolt_rounds.proofs.Turning.{just_taken, same_summaries, same_program}
 use Rattle.bolt_workers.specs.declared.desk.Desk.{Desk}
 use Rattle.bolt_workers.specs.Later.{IsLater}
 use Rattle.bolt_workers.specs.steps.Desks.{AreOf, CanGive, CanShow, CanWork, Frees, HasEnded, Holds, IsBack, IsTold, Sits}
@@ -95,7 +95,7 @@ publishes_begins old new w i s p =
 pub later_of : (a b : Shown) (gs : List Graph) (known : Listed) → IsLater a b → AreOf a gs known → AreOf b gs known
 later_of a b gs known l o = record {
   graphs = o.graphs ∙ sym l.same.graphs;
-  room = o.room ∙ sym (same_most a b l.same);
+  room = o.room ∙ sym (same_summaries a b l.same);
   front = front_later a b known.summaries l o.front;
 }
 
@@ -239,7 +239,7 @@ module _ (mid new : Desk) (b c : Shown) (w : ℕ) (j : Given) (l : IsLater b c) 
   }
     where
       same_same : (x : Shown) → SameProgram x x
-      same_same x = record { graphs = refl; main = refl; asserts = refl; budget = refl }
+      same_same x = record { graphs = refl; main = refl; asserts = refl; budget = refl; kept = refl }
 
   pub moved_back : (m : Move) → IsMoved b w j m c → j.taken < length b.core.history → IsBack new j
   moved_back (move.Ask child query) e lt =

@@ -19,6 +19,7 @@ bare e = record e { payload = None }
 pub record AreAlike {S : Type 0} (c d : Core S) : Type 0 where
   pub entries : map bare c.entries ≡ map bare d.entries
   pub nodes : c.nodes ≡ d.nodes
+  pub kept : c.kept ≡ d.kept
   pub table : c.table ≡ d.table
   pub history : c.history ≡ d.history
   pub stopped : c.is_stopped ≡ d.is_stopped

@@ -4,7 +4,7 @@ use Rattle.std.specs.List.{All}
 use Rattle.flow_graph.specs.declared.graph.Graph.{Graph}
 use Rattle.summary_form.specs.declared.summary.Summary.{Summary}
 use Rattle.summary_table.specs.Tables.{StartsWith}
-use Rattle.bolt_core.specs.Boards.{IsBoard, Publishes, Shown, most_queries}
+use Rattle.bolt_core.specs.Boards.{IsBoard, Publishes, Shown, most_queries, most_summaries}
 use Rattle.bolt_core.specs.Histories.{Told}
 use Rattle.bolt_core.specs.Machine.{Reached, is_over}
 use Rattle.bolt_core.specs.States.{reads}
@@ -68,7 +68,7 @@ IsOutIn (p ∷ ps) t = IsTakeOf p.stage t ⊎ IsOutIn ps t
 pub record IsCrewOf (b : Shown) (crew : Crew) : Type 0 where
   pub some : 1 ≤ crew.workers
   pub kept : crew.workers ≤ vec_capacity crew.places
-  pub room : crew.known.room ≡ most_queries b
+  pub room : crew.known.room ≡ most_summaries b
   pub front : StartsWith b.core.table crew.known.summaries
   pub going : b.core.is_stopped ≡ false
 

@@ -10,7 +10,7 @@ use Rattle.bolt_core.specs.declared.history.Program.{Program}
 use Rattle.bolt_core.specs.declared.job.Job.{Job as Given}
 use Rattle.bolt_core.specs.declared.job.Taken.{Taken}
 use Rattle.bolt_core.specs.declared.job.Taken.TheVariants as taken
-use Rattle.bolt_core.specs.Boards.{IsBoard, Shown, most_queries}
+use Rattle.bolt_core.specs.Boards.{IsBoard, Shown, most_summaries}
 use Rattle.bolt_core.specs.Histories.{Told}
 use Rattle.bolt_core.specs.Keeps.{IsEnd}
 use Rattle.bolt_core.specs.Machine.{is_over}
@@ -26,6 +26,7 @@ program_of b = record {
   main = b.main;
   asserts = b.asserts;
   budget = b.budget;
+  kept = b.core.kept;
 }
 
 -- the seat doesn't hold, and has seen the history of this board
@@ -38,7 +39,7 @@ pub record HasSeen (v : View Program Told) (b : Shown) : Type 0 where
 -- its graphs are those of the board, and its table is a front of the board's, with as much room
 pub record AreOf (b : Shown) (gs : List Graph) (known : Listed) : Type 0 where
   pub graphs : gs ≡ b.graphs
-  pub room : known.room ≡ most_queries b
+  pub room : known.room ≡ most_summaries b
   pub front : FrontOf b.core.table known.summaries
 
 -- a worker that doesn't hold
@@ -125,4 +126,4 @@ pub record BeginsAt (v : View Program Told) (gs : List Graph) (wanted : ℕ) : T
   pub board : Shown
   pub has_seen : HasSeen v board
   pub graphs : gs ≡ board.graphs
-  pub room : wanted ≡ most_queries board
+  pub room : wanted ≡ most_summaries board

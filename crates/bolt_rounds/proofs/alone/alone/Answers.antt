@@ -7,7 +7,7 @@ pub loop-board-init : goal.loop-board-init
 loop-board-init c =
     let b = c.args.board in
     record {
-      same = record { graphs = refl; main = refl; asserts = refl; budget = refl };
+      same = record { graphs = refl; main = refl; asserts = refl; budget = refl; kept = refl };
       back = none_back b.core c.requires;
       going = begun_going b c.reached.ensures c.requires;
       room = c.in_ok-known.ensures.room ∙ c.room.ensures.room;

@@ -1,6 +1,6 @@
 use Rattle.std.proofs.Common.{◌≡◌, ◌*◌, ◌-◌, length, false}
 use Rattle.summary_table.specs.Tables.{StartsWith}
-use Rattle.bolt_core.specs.Boards.{SameProgram, most_queries}
+use Rattle.bolt_core.specs.Boards.{SameProgram, most_queries, most_summaries}
 use Rattle.bolt_rounds.specs.steps.Turning.{AreBack}
 use Rattle.bolt_rounds.proofs.alone.alone.Given as goal
 
@@ -9,7 +9,7 @@ invariant-loop-board l = record {
   same : SameProgram l.fn.board l.board;
   back : AreBack l.board.core;
   going : l.board.core.is_stopped ≡ false;
-  room : l.known.room ≡ most_queries l.board;
+  room : l.known.room ≡ most_summaries l.board;
   front : StartsWith l.board.core.table l.known.summaries;
 }
 

@@ -30,6 +30,14 @@ move_of-requires c =
     subst (λ (gs : List Graph). MayEnd gs s made.end) (sym w.graphs)
     (may_end w.board c.args.job w.is_board w.taken c.args.at_most c.requires.at_most s made o)
 
+pub returns-clause-few : goal.returns-clause-few
+returns-clause-few c =
+    let w = c.requires.job in
+    let made = c.in_ok-steps.field-0 in
+    let o = sliced_at w.board c.args.job w.is_board w.taken c.args.graphs.now.graphs c.args.known.now.summaries w.graphs w.table
+    c.args.at_most c.slice.new.state made c.in_ok-steps.ensures in
+    o.sliced.in_most
+
 pub returns-clause-may : goal.returns-clause-may
 returns-clause-may c =
     let s = c.slice.new.state in

@@ -247,7 +247,7 @@ invariant_of-self c =
     rw (c.push_reserved-2.ensures.items, c.push_reserved.ensures.items) (
       g.board,
       roomy_query p _ b.slots.items (child_slot c.args.job.id (c.index.result.now.level + 1) z) b.events.items _ _ _ _ _ _ _ _
-          c.self.invariant.1 refl (omega (arith, place)) refl refl refl c.ask.ensures.room c.push_reserved.ensures.capacity
+          c.self.invariant.1 refl refl (omega (arith, place)) refl refl refl c.ask.ensures.room c.push_reserved.ensures.capacity
           c.push_reserved-2.ensures.capacity (said_stays p _ _ g (λ i. refl))
           (next_unsaid p c.self.invariant.0 (length b.slots.items) len),
     )
@@ -285,7 +285,7 @@ returns-clause-asked c =
     let g = ask_on p b.forest.entries c.ask.new.self.entries b.slots.items b.table.summaries b.events.items b.stopped c.args.worker
     c.args.job c.args.child z c.len-number.result (c.index.result.now.level + 1) _ _ _ _ c.self.invariant.0 c.self.invariant.1 m v
     (place ∙ sym len) place up went in
-    let core : Core Seen = core_of c.ask.new.self.entries
+    let core : Core Seen = core_of (the_view b).core.kept c.ask.new.self.entries
     (b.slots.items ++ child_slot c.args.job.id (c.index.result.now.level + 1) z ∷ []) b.table.summaries
     (b.events.items ++ stored.Ask c.args.worker c.args.job.id c.args.job.spent c.len-number.result ∷ []) b.stopped in
     rw (← c.self.view_is, c.push_reserved-2.ensures.items, c.push_reserved.ensures.items)

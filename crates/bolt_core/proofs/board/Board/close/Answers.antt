@@ -10,7 +10,7 @@ use Rattle.bolt_core.specs.Keeps.{IsNow}
 use Rattle.bolt_core.specs.contracts.board.Board.{the_view}
 use Rattle.bolt_core.proofs.BoardKeeps.{board_keeps}
 use Rattle.bolt_core.proofs.ClosesOn.{close_goes, close_group, close_is, close_room, close_settles, roomy_close}
-use Rattle.bolt_core.proofs.Going.{board_queries, most_small, said_stays, told_length}
+use Rattle.bolt_core.proofs.Going.{board_queries, most_small, said_stays, summaries_small, told_length}
 use Rattle.bolt_core.proofs.Parking.{sound_here, sound_lent}
 use Rattle.bolt_core.specs.steps.Closes.{appended_by, closed_as, settled_slot, value_of}
 use Rattle.bolt_core.proofs.Storing.{close_stores}
@@ -75,7 +75,7 @@ overflow_cast-from c =
     let room = close_room p b.forest.entries b.slots.items b.table.summaries b.events.items b.stopped c.self.invariant.0 _ _ _ _
     c.self.invariant.1 c.args.worker c.args.job c.args.how m v own at c.closed_as-closed.result is c.args.summary c.requires.summary
     c.len-place.result here in
-    omega (arith, from, room.0, length-append b.table.summaries more, most_small p c.self.invariant.0)
+    omega (arith, from, room.0, length-append b.table.summaries more, summaries_small p c.self.invariant.0)
 
 pub settle-requires : goal.settle-requires
 settle-requires c =
@@ -137,7 +137,7 @@ overflow_cast-more c =
     sym (length-map c.all-2.result.now (λ s. s.value)) ∙ ap (λ (l : List Summary). length l) c.all-2.ensures in
     let size : length c.settle.new.table.summaries ≡ length b.table.summaries + length more =
     ap (λ (l : List Summary). length l) table ∙ length-append b.table.summaries more in
-    omega (arith, count, size, room.0, length-append b.table.summaries more, most_small p c.self.invariant.0)
+    omega (arith, count, size, room.0, length-append b.table.summaries more, summaries_small p c.self.invariant.0)
 
 pub overflow_sub-more : goal.overflow_sub-more
 overflow_sub-more c =
@@ -241,7 +241,7 @@ invariant_of-self c =
           c.self.invariant.1 c.args.worker c.args.job c.args.how m v own at c.closed_as-closed.result is c.args.summary c.requires.summary
           c.len-place.result here c.settle.new.slots are c.settle.new.table.summaries table c.push_reserved.new.self.items
           (length c.all.result.now) (length c.all-2.result.now - length c.all.result.now) from total c.push_reserved.ensures.items
-          _ _ _ _ _ refl c.close.ensures.room c.settle.ensures.room (omega arith) c.push_reserved.ensures.capacity
+          _ _ _ _ _ refl refl c.close.ensures.room c.settle.ensures.room (omega arith) c.push_reserved.ensures.capacity
           (said_stays p _ _ g (λ j. refl)),
     )
 
@@ -285,11 +285,13 @@ returns-clause-closed c =
     (omega (arith, b.slots.ok.0, c.settle.auto.slots, c.deref_mut.ensures.len)) in
     let went = c.in-Ok.ensures.closed in
     subst (λ (x : Shown). IsClosedBy x c.args.worker c.args.job c.args.how (record p {
-      core = core_of c.close.new.self.entries (take b.slots.len (c.settle.new.slots ++ drop (length c.settle.new.slots) b.slots.items))
+      core = core_of (the_view b).core.kept c.close.new.self.entries
+          (take b.slots.len (c.settle.new.slots ++ drop (length c.settle.new.slots) b.slots.items))
           c.settle.new.table.summaries c.push_reserved.new.self.items b.stopped;
     })) c.self.view_is
     (subst (λ (l : List Slot). IsClosedBy p c.args.worker c.args.job c.args.how (record p {
-      core = core_of c.close.new.self.entries l c.settle.new.table.summaries c.push_reserved.new.self.items b.stopped;
+      core = core_of (the_view b).core.kept c.close.new.self.entries l c.settle.new.table.summaries c.push_reserved.new.self.items
+          b.stopped;
     })) (sym taken) (close_is p b.forest.entries b.slots.items b.table.summaries b.events.items b.stopped c.self.invariant.0 _ _ _ _
     c.self.invariant.1 c.args.worker c.args.job c.args.how m v own at c.closed_as-closed.result is c.args.summary c.requires.summary
     c.len-place.result here c.settle.new.slots are c.settle.new.table.summaries table c.push_reserved.new.self.items

@@ -25,7 +25,8 @@ returns-then-is_end c =
     record {
       after = omega (arith, c.loop-place.auto.place);
       is_end = subst (λ (m : Core Seen). IsEnd m c.args.id k) is
-          (end_here b.forest.entries b.slots.items b.table.summaries b.events.items b.stopped c.args.id k c.index.result.now event
+          (end_here (the_view b).core.kept b.forest.entries b.slots.items b.table.summaries b.events.items b.stopped c.args.id k
+          c.index.result.now event
           c.status-status.result here c.status-status.ensures (c.self.invariant.1.settled k c.index.result.now event)
           (sym c.is_end.ensures ∙ c.if-is_end.true));
       first = c.loop-place.invariant;
@@ -42,10 +43,13 @@ loop-place-preserved c j after before z =
     let here : c.args.id < length b.forest.entries = omega (arith, c.requires.here, ap (λ (m : Core Seen). length m.entries) is) in
     ⊎_elim
     (λ lt. c.loop-place.invariant j after lt z)
-    (λ same. not_here b.forest.entries b.slots.items b.table.summaries b.events.items b.stopped c.args.id k c.index.result.now event
+    (λ same. not_here (the_view b).core.kept b.forest.entries b.slots.items b.table.summaries b.events.items b.stopped c.args.id k
+    c.index.result.now event
     c.status-status.result here c.status-status.ensures (c.self.invariant.1.settled k c.index.result.now event)
     (sym c.is_end.ensures ∙ c.if-is_end.false)
-    (subst (λ n. IsEnd (core_of b.forest.entries b.slots.items b.table.summaries b.events.items b.stopped) c.args.id n) same
+    (subst (λ n. IsEnd (core_of (the_view b).core.kept b.forest.entries b.slots.items b.table.summaries b.events.items b.stopped) c.args.id
+    n)
+    same
     (subst (λ (m : Core Seen). IsEnd m c.args.id j) (sym is) z)))
     (below j k before)
 

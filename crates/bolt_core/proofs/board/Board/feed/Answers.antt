@@ -131,7 +131,7 @@ invariant_of-self c =
     c.args.job c.args.asked a c.self.invariant.0 m v at c.in-Ok.ensures.fed in
     rw c.push_reserved.ensures.items (
       g.board,
-      roomy_event p _ b.slots.items b.events.items _ _ _ _ _ _ _ c.self.invariant.1 refl tt c.feed.ensures.room
+      roomy_event p _ b.slots.items b.events.items _ _ _ _ _ _ _ c.self.invariant.1 refl refl tt c.feed.ensures.room
           c.push_reserved.ensures.capacity (said_stays p _ _ g (λ i. refl)),
     )
 
@@ -157,14 +157,16 @@ returns-clause-fed c =
     c.args.job c.args.asked a c.self.invariant.0 m v at c.in-Ok.ensures.fed in
     subst
     (λ (x : Shown). IsFedBy x c.args.worker c.args.job c.args.asked (record p {
-      core = core_of c.feed.new.self.entries b.slots.items b.table.summaries c.push_reserved.new.self.items b.stopped;
+      core = core_of (the_view b).core.kept c.feed.new.self.entries b.slots.items b.table.summaries c.push_reserved.new.self.items
+          b.stopped;
     })) c.self.view_is
     (record {
       entry = a;
       there = at;
       event = subst
           (λ (xs : List Stored). Event (reads p.graphs) p.core (fed c.args.worker c.args.job.id c.args.job.spent a.child)
-          (core_of c.feed.new.self.entries b.slots.items b.table.summaries xs b.stopped)) (sym c.push_reserved.ensures.items) g.event;
+          (core_of (the_view b).core.kept c.feed.new.self.entries b.slots.items b.table.summaries xs b.stopped)) (sym
+          c.push_reserved.ensures.items) g.event;
     })
 
 pub returns-clause-stored : goal.returns-clause-stored

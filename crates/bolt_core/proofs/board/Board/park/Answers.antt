@@ -71,7 +71,7 @@ invariant_of-self c =
     c.args.job c.args.rest c.self.invariant.0 m v c.in-Ok.ensures.given in
     rw c.push_reserved.ensures.items (
       g.board,
-      roomy_event p _ b.slots.items b.events.items _ _ _ _ _ _ _ c.self.invariant.1 refl tt c.give_back.ensures.room
+      roomy_event p _ b.slots.items b.events.items _ _ _ _ _ _ _ c.self.invariant.1 refl refl tt c.give_back.ensures.room
           c.push_reserved.ensures.capacity (said_stays p _ _ g (λ i. refl)),
     )
 
@@ -87,10 +87,12 @@ returns-clause-parked c =
     c.args.job c.args.rest c.self.invariant.0 m v c.in-Ok.ensures.given in
     subst
     (λ (x : Shown). Event (reads x.graphs) x.core (parked c.args.worker c.args.job.id c.args.job.spent c.args.rest)
-    (core_of c.give_back.new.self.entries b.slots.items b.table.summaries c.push_reserved.new.self.items b.stopped)) c.self.view_is
+    (core_of (the_view b).core.kept c.give_back.new.self.entries b.slots.items b.table.summaries c.push_reserved.new.self.items b.stopped))
+    c.self.view_is
     (subst
     (λ (xs : List Stored). Event (reads p.graphs) p.core (parked c.args.worker c.args.job.id c.args.job.spent c.args.rest)
-    (core_of c.give_back.new.self.entries b.slots.items b.table.summaries xs b.stopped)) (sym c.push_reserved.ensures.items) g.event)
+    (core_of (the_view b).core.kept c.give_back.new.self.entries b.slots.items b.table.summaries xs b.stopped)) (sym
+    c.push_reserved.ensures.items) g.event)
 
 pub returns-clause-stored : goal.returns-clause-stored
 returns-clause-stored c =

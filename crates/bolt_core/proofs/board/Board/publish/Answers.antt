@@ -9,7 +9,7 @@ use Rattle.bolt_core.specs.Machine.{HoldsBy, exit_of, proc_of}
 use Rattle.bolt_core.specs.States.{reads}
 use Rattle.bolt_core.specs.contracts.board.Board.{the_view}
 use Rattle.bolt_core.proofs.BoardKeeps.{board_keeps}
-use Rattle.bolt_core.proofs.Going.{most_small, told_length}
+use Rattle.bolt_core.proofs.Going.{summaries_small, told_length}
 use Rattle.bolt_core.proofs.Saying.{marked_is, say_goes, say_is, say_on, say_room, say_roomy, slot_here}
 use Rattle.bolt_core.proofs.board.Board.publish.Goals as goal
 
@@ -34,7 +34,7 @@ overflow_cast-place c =
     c.self.invariant.1 c.args.gone.now.job.id c.args.worker q m holds fits in
     let last : length c.all.result.now ≡ length b.table.summaries =
     sym (length-map c.all.result.now (λ s. s.value)) ∙ ap (λ (l : List Summary). length l) c.all.ensures in
-    omega (arith, last, room, most_small p c.self.invariant.0)
+    omega (arith, last, room, summaries_small p c.self.invariant.0)
 
 pub push-requires : goal.push-requires
 push-requires c =

@@ -27,6 +27,6 @@ invariant_of-self c =
     c.if-self.false over in
     rw c.push_reserved.ensures.items (
       g.board,
-      roomy_event p _ b.slots.items b.events.items _ _ _ _ _ _ _ c.self.invariant.1 refl tt refl c.push_reserved.ensures.capacity
+      roomy_event p _ b.slots.items b.events.items _ _ _ _ _ _ _ c.self.invariant.1 refl refl tt refl c.push_reserved.ensures.capacity
           (said_stays p _ _ g (λ i. refl)),
     )

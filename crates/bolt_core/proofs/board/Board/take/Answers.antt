@@ -45,7 +45,7 @@ invariant_of-self-2 c =
     (ap (λ (xs : List Step). length xs) c.steps.ensures) in
     rw c.push_reserved.ensures.items (
       g.board,
-      roomy_event p _ b.slots.items b.events.items _ _ _ _ _ _ _ c.self.invariant.1 refl tt c.take.ensures.room
+      roomy_event p _ b.slots.items b.events.items _ _ _ _ _ _ _ c.self.invariant.1 refl refl tt c.take.ensures.room
           c.push_reserved.ensures.capacity (said_stays p _ _ g (λ i. refl)),
     )
 
@@ -57,7 +57,8 @@ hear-requires c =
     (length c.steps.result.now) c.in-Some.lent c.self.invariant.0 c.if-self.false c.in-Some.ensures.taken in
     subst
     (λ (xs : List Stored). CanHear
-    (record p { core = core_of c.take.new.self.entries b.slots.items b.table.summaries xs b.stopped }) c.in-Some.lent.payload)
+    (record p { core = core_of (the_view b).core.kept c.take.new.self.entries b.slots.items b.table.summaries xs b.stopped })
+    c.in-Some.lent.payload)
     (sym c.push_reserved.ensures.items) h
 
 pub returns-clause-taken : goal.returns-clause-taken
