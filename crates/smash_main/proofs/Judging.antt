@@ -1,14 +1,16 @@
 -- What the verdicts of a board's roots say of the program.
-use Rattle.std.proofs.Common.{◌≡◌, ℕ, ◌+◌, ◌<◌, ◌⊎◌, inl, inr, List, [], ◌∷◌, ◌++◌, length, Option, None, Some, ℤ, IsTrue, refl, sym, ap, ◌∙◌, subst, length-append}
+use Rattle.std.proofs.Common.{◌≡◌, ℕ, ◌+◌, ◌<◌, ◌⊎◌, inl, inr, List, [], ◌∷◌, ◌++◌, length, Option, None, Some, ℤ, IsTrue, cond, refl, sym, ap, ◌∙◌, subst, length-append}
 use Rattle.std.specs.Prelude.{slice_get}
-use Rattle.std.proofs.lemmas.Bool.{eqb-true}
+use Rattle.std.proofs.lemmas.Bool.{eq-eqb}
 use Rattle.std.proofs.lemmas.Option.{slice_get_within}
 use Rattle.c_tree.specs.Meaning.{Outcome, Returned, Stopped, Failed, Reaches, Runs}
 use Rattle.c_tree.specs.Syntax.{PureProcedure, PureProgram}
 use Rattle.c_tree.specs.WellFormed.{IsWellFormed, takes}
 use Rattle.linear_formula.specs.LinearSum.{valuation}
 use Rattle.flow_build.specs.Promises.{AreBounded}
-use Rattle.flow_graph.specs.Runs.{end_of, failed}
+use Rattle.flow_graph.specs.ProgramGraphs.{MayTake}
+use Rattle.flow_graph.specs.Columns.{AreAllValues}
+use Rattle.flow_graph.specs.Runs.{GraphRuns, end_of, entry_list, failed}
 use Rattle.flow_graph.specs.declared.graph.Graph.{Graph}
 use Rattle.summary_form.specs.Instances.{arity_in, arity_of, graph_runs}
 use Rattle.summary_form.specs.Musts.{values_of}
@@ -16,7 +18,7 @@ use Rattle.summary_form.specs.NotMays.{NotMayHolds}
 use Rattle.query_rules.specs.Seen.{Seen}
 use Rattle.query_tree.proofs.Lists.{from_pushed, present}
 use Rattle.bolt_core.specs.Boards.{IsBegun, Shown, root_query}
-use Rattle.bolt_core.specs.Machine.{Core, Reads, empty_board, opening}
+use Rattle.bolt_core.specs.Machine.{Core, Reads, first_board, opening}
 use Rattle.bolt_core.specs.States.{reads}
 use Rattle.bolt_core.specs.Verdicts.{HasVerdict, IsFoundIn}
 use Rattle.bolt_core.specs.declared.job.Verdict.{Verdict}
@@ -26,12 +28,11 @@ use Rattle.smash_main.specs.steps.Judging.{AreVerdicts}
 
 -- The graph of `main`
 
--- the procedure that exists and has no parameters
-without_parameters : (o : Option PureProcedure) → IsTrue (takes o 0) → (p : PureProcedure) × (o ≡ Some p) × (p.params ≡ 0)
-without_parameters None h = absurd cc
-without_parameters (Some p) h = (p, refl, eqb-true p.params 0 h)
+there : (o : Option PureProcedure) → IsTrue (takes o 0) → (p : PureProcedure) × (o ≡ Some p)
+there None h = absurd cc
+there (Some p) h = (p, refl)
 
--- it is there, without parameters
+-- it is there, without entry values
 pub record MainGraph (P : PureProgram) (gs : List Graph) : Type 0 where
   pub graph : Graph
   pub at : slice_get gs P.main ≡ Some graph
@@ -39,13 +40,14 @@ pub record MainGraph (P : PureProgram) (gs : List Graph) : Type 0 where
 
 pub main_graph : (P : PureProgram) (gs : List Graph) → IsWellFormed P → AreBounded P gs → MainGraph P gs
 main_graph P gs fine bounds =
-    let main = without_parameters (slice_get P.procedures P.main) fine.main_takes_none in
+    let main = there (slice_get P.procedures P.main) fine.main_takes_none in
     let within = slice_get_within P.procedures P.main main.0 main.1 in
     let found = present gs P.main (subst (λ n. P.main < n) (sym bounds.each_procedure) within) in
     record {
       graph = found.0;
       at = found.1;
-      no_params = (bounds.bounded P.main main.0 found.0 main.1 found.1).params ∙ main.2;
+      no_params = (bounds.bounded P.main main.0 found.0 main.1 found.1).params
+          ∙ ap (λ t. cond t 0 (main.0.params + length P.globals)) (eq-eqb P.main P.main refl);
     }
 
 pub main_there : (P : PureProgram) (gs : List Graph) → IsWellFormed P → AreBounded P gs → (g : Graph) × (slice_get gs P.main ≡ Some g)
@@ -61,7 +63,7 @@ opens_empty R grant (s ∷ ss) c = opens_empty R grant ss _
 pub begun_empty : (gs : List Graph) (main asserts budget : ℕ) (b : Shown) → IsBegun gs main asserts budget b → b.core.history ≡ []
 begun_empty gs main asserts budget b h =
     let o = h.opening in
-    ap (λ (c : Core Seen). c.history) o.is ∙ opens_empty (reads b.graphs) b.budget o.roots (empty_board (reads b.graphs))
+    ap (λ (c : Core Seen). c.history) o.is ∙ opens_empty (reads b.graphs) b.budget o.roots (first_board (reads b.graphs) b.core.kept)
 
 -- Verdicts
 
@@ -70,50 +72,66 @@ none_long [] h = refl
 none_long (x ∷ xs) h = absurd cc
 
 -- the end of a failure is that of no other outcome
-failed_of : (id : ℕ) (out : Outcome) → failed id ≡ end_of out → out ≡ Failed id
-failed_of id (Returned v) e = absurd cc
-failed_of id Stopped e = absurd cc
-failed_of id (Failed other) e = cc
+failed_of : (id : ℕ) (out : Outcome) (after : List ℤ) → failed id ≡ end_of out after → out ≡ Failed id
+failed_of id (Returned v) after e = absurd cc
+failed_of id Stopped after e = absurd cc
+failed_of id (Failed other) after e = cc
 
-module _ (P : PureProgram) (budget : ℕ) (b : Shown) (fine : IsWellFormed P) (is : IsBoardOf P budget b) (id : ℕ) where
-  main_has_none : (arity_in b.graphs P.main).entries ≡ 0
-  main_has_none =
-      let w = main_graph P b.graphs fine is.bounds in
-      ap (λ o. (arity_of o).entries) w.at ∙ w.no_params
+module _ (P : PureProgram) (fine : IsWellFormed P) (opening : AreAllValues P.globals) where
+  -- the entry list of `main` is empty
+  enters_none : entry_list P P.main [] P.globals ≡ []
+  enters_none = ap (λ t. cond t [] ([] ++ P.globals)) (eq-eqb P.main P.main refl)
 
-  -- no run of `main` fails at the assertion
-  never : NotMayHolds (graph_runs b.graphs) (root_query b.main id) → (ins : List ℤ) → ¬ Reaches P id ins
-  never none ins w =
-      subst (λ m. NotMayHolds (graph_runs b.graphs) (root_query m id)) is.main none w.0 [] ins [] (record {
-        count = sym main_has_none;
-        values = λ i. refl;
-        run = is.runs.program_to_graphs w.0 P.main [] ins (Failed id) (λ i. refl) w.1;
-      }) tt
+  -- its run from the opening values may begin
+  may_take : MayTake P P.main [] P.globals
+  may_take = record {
+    arguments = fine.main_takes_none;
+    begins = record { count = refl; opening = λ e. refl };
+    values = λ i. refl;
+    global_values = opening;
+  }
 
-  -- on these inputs `main` fails there
-  reaches : (list : List ℤ) → IsFoundIn b id list → Reaches P id list
-  reaches list f =
-      let args = values_of (valuation f.mark.point) f.trail.entry in
-      let run = subst (λ m. graph_runs b.graphs f.depth m args list (failed id)) is.main f.run in
-      let none = none_long args (run.count ∙ main_has_none) in
-      let o = is.runs.graphs_to_program f.depth P.main args list (failed id) run.values run.run in (
-        f.depth,
-        subst (λ xs. Runs P f.depth P.main xs list (Failed id)) none
-            (subst (λ out. Runs P f.depth P.main args list out) (failed_of id o.0 o.1) o.2),
-      )
+  module _ (budget : ℕ) (b : Shown) (is : IsBoardOf P budget b) (id : ℕ) where
+    main_has_none : (arity_in b.graphs P.main).entries ≡ 0
+    main_has_none =
+        let w = main_graph P b.graphs fine is.bounds in
+        ap (λ o. (arity_of o).entries) w.at ∙ w.no_params
 
-  pub judged : (v : Verdict) → HasVerdict b id v → IsVerdict P b id v
-  judged verdict.Proved h = (h, never h.none)
-  judged (verdict.Found list) h = (h, reaches list.items h)
-  judged (verdict.Budget n) h = h
-  judged (verdict.Limit kind) h = h
+    -- no run of `main` fails at the assertion
+    never : NotMayHolds (graph_runs b.graphs) (root_query b.main id) → (ins : List ℤ) → ¬ Reaches P id ins
+    never none ins w =
+        subst (λ m. NotMayHolds (graph_runs b.graphs) (root_query m id)) is.main none w.0 [] ins [] (record {
+          count = sym main_has_none;
+          values = λ i. refl;
+          run = subst (λ xs. GraphRuns b.graphs w.0 P.main xs ins (failed id)) enters_none
+              (is.runs.program_to_graphs w.0 P.main [] P.globals ins (Failed id) w.1 may_take w.2);
+        }) tt
 
-pub analysed : (P : PureProgram) (budget : ℕ) (b : Shown) (vs : List Verdict) → IsWellFormed P → IsBoardOf P budget b →
-    AreVerdicts b (length P.asserts) vs → IsAnalysis P budget b vs
-analysed P budget b vs fine is are = record {
+    -- on these inputs `main` fails there
+    reaches : (list : List ℤ) → IsFoundIn b id list → Reaches P id list
+    reaches list f =
+        let args = values_of (valuation f.mark.point) f.trail.entry in
+        let run = subst (λ m. graph_runs b.graphs f.depth m args list (failed id)) is.main f.run in
+        let none = none_long args (run.count ∙ main_has_none) in
+        let o = is.runs.graphs_to_program f.depth P.main [] P.globals list (failed id) may_take
+        (subst (λ xs. GraphRuns b.graphs f.depth P.main xs list (failed id)) (none ∙ sym enters_none) run.run) in (
+          f.depth,
+          o.1,
+          subst (λ out. Runs P f.depth P.main [] P.globals list out o.1) (failed_of id o.0 o.1 o.2) o.3,
+        )
+
+    pub judged : (v : Verdict) → HasVerdict b id v → IsVerdict P b id v
+    judged verdict.Proved h = (never h.none, h)
+    judged (verdict.Found list) h = (reaches list.items h, h)
+    judged (verdict.Budget n) h = (tt, h)
+    judged (verdict.Limit kind) h = (tt, h)
+
+pub analysed : (P : PureProgram) (budget : ℕ) (b : Shown) (vs : List Verdict) → IsWellFormed P → AreAllValues P.globals →
+    IsBoardOf P budget b → AreVerdicts b (length P.asserts) vs → IsAnalysis P budget b vs
+analysed P budget b vs fine opening is are = record {
   board = is;
   each = are.each;
-  right = λ id v there. judged P budget b fine is id v (are.right id v there);
+  right = λ id v there. judged P fine opening budget b is id v (are.right id v there);
 }
 
 -- Verdicts that are pushed one after the other

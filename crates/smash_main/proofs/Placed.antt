@@ -1,11 +1,11 @@
 -- An assertion at which a program fails is one of its assertions.
-use Rattle.std.proofs.Common.{◌≡◌, ℕ, zero, suc, ◌<◌, List, [], ◌∷◌, length, Bool, true, false, Option, Some, None, ℤ, ◌+ℤ◌, ◌-ℤ◌, ◌*ℤ◌, neg_ℤ, IsTrue, refl, sym, subst, nat_le, ◌&&◌}
+use Rattle.std.proofs.Common.{◌≡◌, ℕ, zero, suc, ◌<◌, List, [], ◌∷◌, length, Bool, true, false, Option, Some, None, ℤ, ◌+ℤ◌, ◌-ℤ◌, ◌*ℤ◌, neg_ℤ, int_div, IsTrue, refl, sym, subst, nat_le, ◌&&◌}
 use Rattle.std.specs.Prelude.{slice_get}
 use Rattle.std.proofs.lemmas.Bool.{ltb-true}
 use Rattle.c_tree.specs.declared.tree.Op.{Op}
-use Rattle.c_tree.specs.declared.tree.Op.TheVariants.{Add, Subtract, Multiply, Less, LessEqual, Greater, GreaterEqual, Equal, Unequal, And, Or}
-use Rattle.c_tree.specs.Syntax.{Expression, literal, read, input, call, negate, not as not_of, binary, Expressions, no_expressions, expression, Statement, block, set, ignore, assume, assert, if_else, loop, do_while, break, continue, return, Statements, no_statements, statement, PureProcedure, PureProgram}
-use Rattle.c_tree.specs.Meaning.{State, World, Progress, goes, ends, Ending, stopped, failed, starved, spent, Flow, normal, broken, continued, returned, Relation, Gives, Ends, Onward, Then, Ticked, Counted, Choice, is_value, ExactOrStopped, decided, Applied, is_zero, RightSide, TakesInput, Callee, Eval, Evals, Returns, Turns, DoTurns, AfterNormal, AfterBody, Exec, Execs, UnlessZero, entered, returned_value, Enters, Run, Replays, ReplayOutcome, replay_of}
+use Rattle.c_tree.specs.declared.tree.Op.TheVariants.{Add, Subtract, Multiply, Divide, Remainder, Less, LessEqual, Greater, GreaterEqual, Equal, Unequal, And, Or}
+use Rattle.c_tree.specs.Syntax.{Expression, literal, read, read_global, input, call, negate, not as not_of, binary, Expressions, no_expressions, expression, Statement, block, set, set_global, ignore, assume, assert, if_else, loop, do_while, break, continue, return, Statements, no_statements, statement, PureProcedure, PureProgram}
+use Rattle.c_tree.specs.Meaning.{State, World, Progress, goes, ends, Ending, stopped, failed, starved, spent, Flow, normal, broken, continued, returned, Relation, Gives, Ends, Onward, Then, Ticked, Counted, Choice, is_value, ExactOrStopped, has_quotient, decided, Applied, is_zero, RightSide, TakesInput, ReadsGlobal, SetsGlobal, Callee, Eval, Evals, Returns, Turns, DoTurns, AfterNormal, AfterBody, Exec, Execs, UnlessZero, entered, returned_value, Enters, Run, Replays, ReplayOutcome, replay_of}
 use Rattle.c_tree.specs.WellFormed.{statements_nodes, IsWellFormed, runs_well_scoped, all_well_scoped, is_well_formed_procedure}
 use Rattle.run_replay.proofs.Keeps.{and_left, and_right}
 use Rattle.report_text.specs.Replay.{HasPlace}
@@ -64,6 +64,8 @@ applied_placed : (n : ℕ) (op : Op) (x y : ℤ) → IsPlaced n (Applied op x y)
 applied_placed n Add x y = exact_placed n (x +ℤ y)
 applied_placed n Subtract x y = exact_placed n (x -ℤ y)
 applied_placed n Multiply x y = exact_placed n (x *ℤ y)
+applied_placed n Divide x y = choice_placed n (has_quotient x y) _ _ (exact_placed n (int_div x y)) (stops_placed n)
+applied_placed n Remainder x y = choice_placed n (has_quotient x y) _ _ (gives_placed n _) (stops_placed n)
 applied_placed n Less x y = gives_placed n _
 applied_placed n LessEqual x y = gives_placed n _
 applied_placed n Greater x y = gives_placed n _
@@ -84,6 +86,12 @@ takes_placed n = record { placed = λ w r h. on w r w.inputs h }
     on : (w : World) (r : Progress ℤ) (vs : List ℤ) → TakesInput vs w r → FailsBelow n r
     on w r [] h = subst (FailsBelow n) (sym h) tt
     on w r (v ∷ vs) h = subst (FailsBelow n) (sym h.1) tt
+
+reads_placed : (n y : ℕ) → IsPlaced n (ReadsGlobal y)
+reads_placed n y = record { placed = λ w r h. subst (FailsBelow n) (sym h) tt }
+
+sets_placed : (n y : ℕ) (v : ℤ) (s : State) → IsPlaced n (SetsGlobal y v s)
+sets_placed n y v s = record { placed = λ w r h. subst (FailsBelow n) (sym h) tt }
 
 next_placed : (n : ℕ) (f : Flow) (Q : State → Relation Flow) → ((s : State) → IsPlaced n (Q s)) → IsPlaced n (AfterNormal f Q)
 next_placed n (normal s) Q q = q s
@@ -127,6 +135,7 @@ module _ (c : Bool) (C : Callee) (P : PureProgram) (slots : ℕ) (called : (p : 
     eval_placed : (e : Expression) (s : State) → IsPlaced n (Eval c C e s)
     eval_placed (literal v) s = counted_placed n c _ (gives_placed n v)
     eval_placed (read x) s = counted_placed n c _ (gives_placed n _)
+    eval_placed (read_global y) s = counted_placed n c _ (reads_placed n y)
     eval_placed input s = counted_placed n c _ (takes_placed n)
     eval_placed (call p es) s = counted_placed n c _ (then_placed n _ _ (evals_placed es s) (called p))
     eval_placed (negate e) s = counted_placed n c _ (then_placed n _ _ (eval_placed e s) (λ v. exact_placed n (neg_ℤ v)))
@@ -148,6 +157,7 @@ module _ (c : Bool) (C : Callee) (P : PureProgram) (slots : ℕ) (called : (p : 
     exec_placed : (l : Bool) (a : Statement) (s : State) → IsTrue (runs_well_scoped P slots l a) → IsPlaced n (Exec c C a s)
     exec_placed l (block ss) s h = counted_placed n c _ (execs_placed l ss s h)
     exec_placed l (set x e) s h = counted_placed n c _ (then_placed n _ _ (eval_placed e s) (λ v. gives_placed n _))
+    exec_placed l (set_global y e) s h = counted_placed n c _ (then_placed n _ _ (eval_placed e s) (λ v. sets_placed n y v s))
     exec_placed l (ignore e) s h = counted_placed n c _ (then_placed n _ _ (eval_placed e s) (λ v. gives_placed n _))
     exec_placed l (assume e) s h = counted_placed n c _
         (then_placed n _ _ (eval_placed e s) (λ v. unless_placed n stopped s v (stops_placed n)))

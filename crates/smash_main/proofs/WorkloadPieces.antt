@@ -1,12 +1,12 @@
 -- Texts made of blanks and lexemes: their tokens, and where these stand.
-use Rattle.std.specs.Prelude.{◌≡◌, ℕ, suc, zero, ◌+◌, ◌-◌, List, [], ◌∷◌, ◌++◌, length, map, Ok, true, refl, slice_range}
+use Rattle.std.specs.Prelude.{◌≡◌, ℕ, suc, zero, ◌+◌, ◌-◌, List, [], ◌∷◌, ◌++◌, length, map, Ok, true, false, refl, slice_range}
 use Rattle.std.proofs.Common.{sym, ◌∙◌, ap, subst, arith, append_assoc, length-append, drop, take}
 use Rattle.std.proofs.Math.Seq.{take-append_seam, drop-append_seam}
 use Rattle.c_tree.specs.declared.tree.Pos.{Pos}
 use Rattle.c_lexer.specs.declared.token.TokenKind.{TokenKind}
 use Rattle.c_lexer.specs.declared.token.Token.{Token}
 use Rattle.c_lexer.specs.declared.token.Place.{Place}
-use Rattle.c_lexer.specs.Lexing.{after_byte, after, first_place, is_blank, IsLongest, IsToken, Parts, token_at, IsLexed, end, blank, token, IsTokens}
+use Rattle.c_lexer.specs.Lexing.{after_byte, after, first_place, is_blank, begins_comment, IsLongest, IsToken, Parts, token_at, IsLexed, end, blank, token, IsTokens}
 use Rattle.c_lexer.specs.Pure.{PureToken, pure_token, pure_tokens}
 use Rattle.c_lexer.proofs.Loop.{after-offset}
 
@@ -21,11 +21,12 @@ spelled [] = []
 spelled (gap b ∷ ps) = b ∷ spelled ps
 spelled (lexeme k text ∷ ps) = text ++ spelled ps
 
--- each gap is a blank, and each lexeme the longest at its place and of its kind
+-- each gap is a blank, and each lexeme the longest at its place and of its kind; no comment begins with it
 abbrev pub AllStand : List Piece → Type 0
 AllStand [] = Unit {0}
 AllStand (gap b ∷ ps) = (is_blank b ≡ true) × AllStand ps
-AllStand (lexeme k text ∷ ps) = IsToken k text × IsLongest text (spelled ps) × Parts k (spelled ps) × AllStand ps
+AllStand (lexeme k text ∷ ps) = IsToken k text × IsLongest text (spelled ps) × Parts k (spelled ps)
+    × (begins_comment (text ++ spelled ps) ≡ false) × AllStand ps
 
 abbrev tokens_from : Place → List Piece → List Token
 tokens_from p [] = []
@@ -35,7 +36,7 @@ tokens_from p (lexeme k text ∷ ps) = token_at p k text ∷ tokens_from (after 
 lexed_from : (p : Place) (ps : List Piece) → AllStand ps → IsLexed p (spelled ps) (Ok (tokens_from p ps))
 lexed_from p [] h = end
 lexed_from p (gap b ∷ ps) h = blank h.0 (lexed_from (after_byte p b) ps h.1)
-lexed_from p (lexeme k text ∷ ps) h = token k text (spelled ps) h.0 h.1 h.2 (lexed_from (after p text) ps h.3)
+lexed_from p (lexeme k text ∷ ps) h = token k text (spelled ps) h.0 h.1 h.2 h.3 (lexed_from (after p text) ps h.4)
 
 -- Places: that of each lexeme, by its number
 

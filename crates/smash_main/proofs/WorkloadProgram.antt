@@ -6,12 +6,12 @@ use Rattle.std.proofs.lemmas.Bool.{cases_lt, false≢true}
 use Rattle.std.proofs.lemmas.Option.{slice_get_past}
 use Rattle.std.proofs.lemmas.Slice.Eq.{bytes_eq-Decides}
 use Rattle.std.proofs.lemmas.Fmt.{decimal_injective}
-use Rattle.c_tree.specs.SourceTree.{StatementTrees, no_statements, statement, ProcedureTree, procedure}
+use Rattle.c_tree.specs.SourceTree.{StatementTrees, no_statements, statement, ProcedureTree, Global, FileItem, procedure}
 use Rattle.c_typing.specs.declared.fault.Which.TheVariants.{Variables, Procedures, Assertions}
 use Rattle.c_typing.specs.declared.fault.TypeFault.TheVariants.{Duplicate}
-use Rattle.c_typing.proofs.Formed.{length-lowered, length-places}
-use Rattle.c_typing.specs.Scope.{declared_in, procedures_of, number_from, number_of, defined, defined_from, callee_of, Scope, variables_of, asserts_in, asserts_in_file}
-use Rattle.c_typing.specs.Faults.{Fault, fault_if, callee_faults, statement_faults, place_of, statements_faults, limit_fault, heading_faults, procedure_faults, procedures_faults, prototypes_faults, all_faults, procedure_place}
+use Rattle.c_typing.proofs.Formed.{length-places}
+use Rattle.c_typing.specs.Scope.{declared_in, procedures_of, globals_of, FileScope, ScopedProcedure, scoped_procedures, number_from, number_of, defined, defined_from, callee_of, Scope, variables_of, asserts_in, asserts_in_file}
+use Rattle.c_typing.specs.Faults.{Fault, fault_if, callee_faults, statement_faults, place_of, statements_faults, limit_fault, heading_faults, procedure_faults, procedures_faults, globals_faults, prototypes_faults, all_faults, procedure_place, global_place}
 use Rattle.c_typing.specs.Lowering.{lowered_file, lowered_procedures, assert_places}
 use Rattle.c_typing.specs.Answer.{IsProgram}
 use Rattle.smash_main.proofs.WorkloadPieces.{Places}
@@ -64,19 +64,30 @@ known_from k a (at ∷ ats) ps i le lt =
           absurd (false≢true (sym e ∙ ap (λ j. bytes_eq (name_of a) (name_of j)) (sym same) ∙ own_name a))
     ]
 
+-- a file without globals
+abbrev bare : List ProcedureTree → FileScope
+bare all = record { procedures = all; globals = [] }
+
+-- procedures before which no globals are declared
+abbrev scoped : List ProcedureTree → List ScopedProcedure
+scoped [] = []
+scoped (p ∷ ps) = record { tree = p; globals = [] } ∷ scoped ps
+
 -- the scopes behind the declarations of `main`
 abbrev main_scopes : List Scope
 main_scopes = (record { name = codes "v"; slot = 0 } ∷ record { name = codes "k"; slot = 0 } ∷ []) ∷ []
 
 module _ (all : List ProcedureTree) where
-  call_faults : (i : ℕ) (at : Places) → IsKnown all i → statement_faults all false false main_scopes (call_tree i at) ≡ []
+  call_faults : (i : ℕ) (at : Places) → IsKnown all i → statement_faults (bare all) false false main_scopes (call_tree i at) ≡ []
   call_faults i at known = ap (λ c. (callee_faults c (named (name_of i) (at 7)) 1 false ++ []) ++ []) known.1
 
   calls_faults : (a : ℕ) (calls : List Places) (rest : StatementTrees) → ((i : ℕ) → a ≤ i → i < a + length calls → IsKnown all i) →
-      statements_faults all false false main_scopes rest ≡ [] → statements_faults all false false main_scopes (call_trees a calls rest) ≡ []
+      statements_faults (bare all) false false main_scopes rest ≡ [] →
+      statements_faults (bare all) false false main_scopes (call_trees a calls rest) ≡ []
   calls_faults a [] rest known h = h
   calls_faults a (at ∷ ats) rest known h =
-      none_both (statement_faults all false false main_scopes (call_tree a at)) _ (call_faults a at (known a (omega arith) (omega arith)))
+      none_both (statement_faults (bare all) false false main_scopes (call_tree a at)) _
+      (call_faults a at (known a (omega arith) (omega arith)))
       (calls_faults (a + 1) ats rest (λ i le lt. known i (omega arith) (omega arith)) h)
 
   calls_declare : (a : ℕ) (calls : List Places) (rest : StatementTrees) → declared_in (call_trees a calls rest) ≡ declared_in rest
@@ -86,7 +97,7 @@ module _ (all : List ProcedureTree) where
   -- `main` has no fault, if none has its name before
   main_faults : (earlier : List ProcedureTree) (head : Places) (calls : List Places) (tail : Places) →
       is_some (number_of earlier (codes "main")) ≡ false → ((i : ℕ) → 1 ≤ i → i < 1 + length calls → IsKnown all i) →
-      procedure_faults all earlier (main_tree head calls tail) ≡ []
+      procedure_faults (bare all) earlier (main_tree head calls tail) ≡ []
   main_faults earlier head calls tail first known =
       let p = main_tree head calls tail in
       let heading : heading_faults earlier p ≡ [] = ap (λ b. fault_if b Duplicate (head 1) ++ []) first in
@@ -124,18 +135,18 @@ fresh_more earlier a b at h = record {
 
 -- the line of a procedure has no fault, if none has its name before
 line_faults : (all earlier : List ProcedureTree) (b : Bool) (i : ℕ) (at : Places) → is_some (number_of earlier (name_of i)) ≡ false →
-    procedure_faults all earlier (line_tree b i at) ≡ []
+    procedure_faults (bare all) earlier (line_tree b i at) ≡ []
 line_faults all earlier true i at first = ap (λ c. (fault_if c Duplicate (at 1) ++ []) ++ []) first
 line_faults all earlier false i at first = ap (λ c. (fault_if c Duplicate (at 1) ++ []) ++ []) first
 
 lines_faults : (all : List ProcedureTree) (a : ℕ) (lines : List Places) (earlier : List ProcedureTree) (p : ProcedureTree) →
     a + length lines ≤ 2 ^ 64 → IsFresh earlier a →
-    ((before : List ProcedureTree) → is_some (number_of before (codes "main")) ≡ false → procedure_faults all before p ≡ []) →
-    procedures_faults all earlier (line_trees a lines ++ p ∷ []) ≡ []
+    ((before : List ProcedureTree) → is_some (number_of before (codes "main")) ≡ false → procedure_faults (bare all) before p ≡ []) →
+    procedures_faults all earlier (scoped (line_trees a lines ++ p ∷ [])) ≡ []
 lines_faults all a [] earlier p few fresh last = none_both _ [] (last earlier fresh.main) refl
 lines_faults all a (at ∷ ats) earlier p few fresh last =
     let line = line_tree (a % 3 == 0) a at in
-    none_both (procedure_faults all earlier line) _
+    none_both (procedure_faults (bare all) earlier line) _
     (line_faults all earlier (a % 3 == 0) a at (fresh.line a (omega arith) (omega arith)))
     (lines_faults all (a + 1) ats (earlier ++ line ∷ []) p (omega arith) (fresh_more earlier a (a % 3 == 0) at fresh) last)
 
@@ -176,6 +187,18 @@ procedures_back : (ps : List ProcedureTree) → procedures_of (map procedure ps)
 procedures_back [] = refl
 procedures_back (p ∷ ps) = ap (λ qs. p ∷ qs) (procedures_back ps)
 
+scoped_back : (ps : List ProcedureTree) → scoped_procedures [] (map procedure ps) ≡ scoped ps
+scoped_back [] = refl
+scoped_back (p ∷ ps) = ap (λ qs. record { tree = p; globals = [] } ∷ qs) (scoped_back ps)
+
+no_globals : (ps : List ProcedureTree) → globals_of (map procedure ps) ≡ []
+no_globals [] = refl
+no_globals (p ∷ ps) = no_globals ps
+
+lowered_size : (all : List ProcedureTree) (id : ℕ) (ps : List ProcedureTree) → length (lowered_procedures all id (scoped ps)) ≡ length ps
+lowered_size all id [] = refl
+lowered_size all id (p ∷ ps) = ap (λ k. suc k) (lowered_size all (id + length (asserts_in p.body)) ps)
+
 no_prototypes : (all ps : List ProcedureTree) → prototypes_faults all (map procedure ps) ≡ []
 no_prototypes all [] = refl
 no_prototypes all (p ∷ ps) = no_prototypes all ps
@@ -189,6 +212,16 @@ pub record IsWorkloadProgram (n : ℕ) (s : Spots) : Type 0 where
 module _ (n : ℕ) (few : n ≤ 60) (s : Spots) (lines : length s.lines ≡ n) (calls : length s.calls ≡ n) where
   abbrev all : List ProcedureTree
   all = workload_trees s
+
+  abbrev items : List FileItem
+  items = workload_items s
+
+  -- the faults of a file of these procedures and globals
+  abbrev faults_of : List ProcedureTree → List ScopedProcedure → List Global → List Fault
+  faults_of ps qs gs =
+      prototypes_faults ps items ++ (globals_faults [] gs ++ (procedures_faults ps [] qs
+      ++ (limit_fault Procedures (procedure_place (slice_get ps 64)) ++ (limit_fault Variables (global_place (slice_get gs 16))
+      ++ limit_fault Assertions (slice_get (asserts_in_file ps) 64)))))
 
   main_asserts : asserts_in (main_tree s.head s.calls s.tail).body ≡ []
   main_asserts = calls_assert 1 s.calls (statement (returning (s.tail 0) 0) no_statements)
@@ -208,9 +241,9 @@ module _ (n : ℕ) (few : n ≤ 60) (s : Spots) (lines : length s.lines ≡ n) (
       (λ before first. main_faults all before s.head s.calls s.tail first known) in
       let procedures = ap (λ o. limit_fault Procedures (procedure_place o)) (slice_get_past all 64 (omega (arith, procedures_are))) in
       let assertions = ap (limit_fault Assertions) (slice_get_past (asserts_in_file all) 64 (omega (arith, asserts_are))) in
-      ap (λ ps. prototypes_faults ps (workload_items s) ++ (procedures_faults ps [] ps
-      ++ (limit_fault Procedures (procedure_place (slice_get ps 64)) ++ limit_fault Assertions (slice_get (asserts_in_file ps) 64))))
-      (procedures_back all) ∙ none_both _ _ (no_prototypes all all) (none_both _ _ each (none_both _ _ procedures assertions))
+      ap (λ ps. faults_of ps (scoped_procedures [] items) (globals_of items)) (procedures_back all)
+      ∙ ap (λ qs. faults_of all qs (globals_of items)) (scoped_back all) ∙ ap (λ gs. faults_of all (scoped all) gs) (no_globals all)
+      ∙ none_both _ _ (no_prototypes all all) (none_both _ _ each (none_both _ _ procedures assertions))
 
   pub workload_program : IsWorkloadProgram n s
   workload_program =
@@ -222,5 +255,6 @@ module _ (n : ℕ) (few : n ≤ 60) (s : Spots) (lines : length s.lines ≡ n) (
           lowered = refl;
         };
         asserts = ap (λ ps. length (assert_places 0 ps)) back ∙ length-places 0 all ∙ asserts_are;
-        procedures = ap (λ ps. length (lowered_procedures ps 0 ps)) back ∙ length-lowered all 0 all ∙ procedures_are;
+        procedures = ap (λ ps. length (lowered_procedures ps 0 (scoped_procedures [] items))) back
+            ∙ ap (λ qs. length (lowered_procedures all 0 qs)) (scoped_back all) ∙ lowered_size all 0 all ∙ procedures_are;
       }

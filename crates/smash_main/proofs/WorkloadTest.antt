@@ -13,7 +13,7 @@ use Rattle.c_lexer.specs.declared.token.TokenKind.{TokenKind}
 use Rattle.c_lexer.specs.declared.token.TokenKind.TheVariants.{Name, Literal, Word, Mark}
 use Rattle.c_lexer.specs.declared.run.Base.{Base}
 use Rattle.c_lexer.specs.declared.run.Base.TheVariants.{Decimal, Octal, Hexadecimal}
-use Rattle.c_lexer.specs.Lexing.{is_blank, is_digit, is_digit_in, is_letter, is_name_byte, is_suffix, value_in, Each, IsWord, IsNumeral, IsLiteral, keyword_text, mark_text, IsLongest, IsToken, Parts}
+use Rattle.c_lexer.specs.Lexing.{is_blank, is_digit, is_digit_in, is_letter, is_name_byte, is_suffix, begins_comment, value_in, Each, IsWord, IsNumeral, IsLiteral, keyword_text, mark_text, IsLongest, IsToken, Parts}
 use Rattle.c_lexer.proofs.Words.{keywords, keyword_word}
 use Rattle.c_lexer.proofs.Literals.{literal_digit, numeral_each}
 use Rattle.c_lexer.proofs.Lexemes.{mark_some, word_longest, literal_longest, mark_longest}
@@ -60,11 +60,15 @@ abbrev first_or : ℕ → List ℕ → ℕ
 first_or b [] = b
 first_or b (c ∷ cs) = c
 
+-- it begins with another byte than a comment does
+abbrev is_plain : List ℕ → Bool
+is_plain text = not (first_or 47 text == 47)
+
 -- the test of pieces behind which this byte stands
 abbrev pub fits : ℕ → List Piece → Bool
 fits b [] = true
 fits b (gap c ∷ ps) = is_blank c && fits b ps
-fits b (lexeme k text ∷ ps) = is_token k text && (is_apart k (first_or b (spelled ps)) && fits b ps)
+fits b (lexeme k text ∷ ps) = is_token k text && (is_plain text && (is_apart k (first_or b (spelled ps)) && fits b ps))
 
 -- What the test means
 
@@ -123,6 +127,12 @@ token_of (Literal (pos n)) text h =
 token_of (Literal (negsuc n)) text h = absurd cc
 token_of (Word w) text h = (bytes_eq-Decides text (keyword_text w)).0 h
 token_of (Mark m) text h = (bytes_eq-Decides text (mark_text m)).0 h
+
+plain_of : (text rest : List ℕ) → is_plain text ≡ true → begins_comment (text ++ rest) ≡ false
+plain_of [] rest h = absurd cc
+plain_of (b ∷ []) [] h = refl
+plain_of (b ∷ []) (c ∷ rest) h = ap (λ t. t && ((c == 47) || (c == 42))) (not-true (b == 47) h)
+plain_of (b ∷ c ∷ bs) rest h = ap (λ t. t && ((c == 47) || (c == 42))) (not-true (b == 47) h)
 
 -- Where tokens end
 
@@ -228,13 +238,15 @@ module _ (b : ℕ) (qs : List Piece) (rest : List ℕ) (follows : spelled qs ≡
   fits_stand (gap c ∷ ps) h = let k = and_parts (is_blank c) (fits b ps) h in (k.0, fits_stand ps k.1)
   fits_stand (lexeme k text ∷ ps) h =
       let c = first_or b (spelled ps) in
-      let q = and_parts (is_token k text) (is_apart k c && fits b ps) h in
-      let r = and_parts (is_apart k c) (fits b ps) q.1 in
+      let q = and_parts (is_token k text) (is_plain text && (is_apart k c && fits b ps)) h in
+      let p = and_parts (is_plain text) (is_apart k c && fits b ps) q.1 in
+      let r = and_parts (is_apart k c) (fits b ps) p.1 in
       let t = token_of k text q.0 in
       let n = next_is ps in
       let e = ends_of c n.0 k text t r.0 in (
         t,
         subst (IsLongest text) (sym n.1) e.0,
         subst (Parts k) (sym n.1) e.1,
+        plain_of text (spelled (ps ++ qs)) p.0,
         fits_stand ps r.1,
       )

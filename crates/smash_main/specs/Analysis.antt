@@ -1,22 +1,15 @@
 -- The verdicts of an analysis, and the board at which they were come to.
-use Rattle.std.specs.Prelude.{◌≡◌, ℕ, List, length, true, false, ℤ, Option, None, Some, slice_get}
-use Rattle.c_tree.specs.Meaning.{Reaches}
+use Rattle.std.specs.Prelude.{◌≡◌, ℕ, List, length, true, false, Option, None, Some, slice_get}
 use Rattle.c_tree.specs.Syntax.{PureProgram}
-use Rattle.flow_build.specs.Promises.{AreBounded, SameRuns}
+use Rattle.flow_build.specs.Promises.{AreBounded}
+use Rattle.flow_graph.specs.ProgramGraphs.{SameRuns}
 use Rattle.bolt_core.specs.Boards.{IsBoard, Shown}
 use Rattle.bolt_core.specs.Machine.{is_over}
 use Rattle.bolt_core.specs.States.{reads}
-use Rattle.bolt_core.specs.Verdicts.{HasSpent, IsFoundIn, IsGivenUpIn, IsProvedIn}
+use Rattle.bolt_core.specs.Verdicts.{HasVerdict}
 use Rattle.bolt_core.specs.declared.job.Verdict.{Verdict}
-use Rattle.bolt_core.specs.declared.job.Verdict.TheVariants as verdict
-
--- The verdict of an assertion, by the root of its number: what was found out at the board, and what
--- that says of the program. `proved`: no inputs reach the assertion. `found`: the list does.
-abbrev pub IsVerdict : PureProgram → Shown → (id : ℕ) → Verdict → Type 0
-IsVerdict P b id verdict.Proved = IsProvedIn b id × ((ins : List ℤ) → ¬ Reaches P id ins)
-IsVerdict P b id (verdict.Found list) = IsFoundIn b id list.items × Reaches P id list.items
-IsVerdict P b id (verdict.Budget n) = HasSpent b id n
-IsVerdict P b id (verdict.Limit kind) = IsGivenUpIn b id kind
+use Rattle.smash_main.specs.declared.run.Finish.{Finish}
+use Rattle.smash_main.specs.Verdict.{VerdictSays}
 
 -- The board is that of the program, with a root of this budget for each assertion. It is over, and
 -- wasn't stopped.
@@ -30,6 +23,11 @@ pub record IsBoardOf (P : PureProgram) (budget : ℕ) (b : Shown) : Type 0 where
   pub over : is_over (reads b.graphs) b.core ≡ true
   pub going : b.core.is_stopped ≡ false
 
+-- The verdict of an assertion is right of the program, and the board shows it of the root of the
+-- assertion's number.
+abbrev pub IsVerdict : PureProgram → Shown → (id : ℕ) → Verdict → Type 0
+IsVerdict P b id v = VerdictSays P id v × HasVerdict b id v
+
 -- one verdict for each assertion, in source order
 pub record IsAnalysis (P : PureProgram) (budget : ℕ) (b : Shown) (vs : List Verdict) : Type 0 where
   pub board : IsBoardOf P budget b
@@ -42,3 +40,7 @@ Witness = Option Shown
 
 abbrev pub no_witness : Witness
 no_witness = None
+
+-- what the end of a run hands back
+abbrev pub handed_by : Finish → Witness
+handed_by f = f.board

@@ -2,6 +2,7 @@
 
 ghost use Rattle.std.specs.Prelude.{◌≡◌, ◌≤◌, length, IfOk, Err};
 ghost use Rattle.c_tree.specs.Syntax.{PureProgram};
+ghost use Rattle.c_tree.specs.WellFormed.{DividesByLiterals};
 ghost use Rattle.c_tree.specs.Whole.{program_of};
 ghost use Rattle.smash_main.specs.Source.{IsAccepted, source_limit};
 ghost use Rattle.smash_main.specs.steps.Accepting.{IsRefusedFor, lex_rejection, parse_rejection, type_rejection, Gives};
@@ -66,6 +67,7 @@ impl From<TypeError> for Rejection {
 pub fn accept(alloc: Global, bytes: &[u8]) -> Result<Program, Rejection>
     requires { length bytes.now ≤ source_limit }
     ensures ok { IfOk result (λ p. IsAccepted bytes.now (program_of p)) }
+    ensures divisors { IfOk result (λ p. DividesByLiterals (program_of p)) }
     ensures only { (P : PureProgram) → IsAccepted bytes.now P → Gives result P }
     ensures refused { (why : Refusal) → result ≡ Err (Rejection.Refused why) →
         IsRefusedFor bytes.now why }

@@ -1,7 +1,9 @@
 //! The analysis of a program: a board with a root for each assertion, worked at until it is over.
 
 ghost use Rattle.std.specs.Prelude.{◌≡◌, ◌≤◌, [], IfOk, false, true};
+ghost use Rattle.c_tree.specs.WellFormed.{DividesByLiterals};
 ghost use Rattle.c_tree.specs.Whole.{program_of};
+ghost use Rattle.flow_graph.specs.Columns.{AreAllValues};
 ghost use Rattle.bolt_core.specs.Machine.{is_over};
 ghost use Rattle.bolt_core.specs.States.{reads};
 ghost use Rattle.smash_main.specs.Analysis.{IsAnalysis, IsBoardOf};
@@ -66,6 +68,15 @@ fn worked<R: Threads + Wait + Sync, G: Gate>(
     }
 }
 
+/// Looks at numbers: each is a value.
+fn are_values(numbers: &[i64])
+    ensures { AreAllValues numbers.now }
+{
+    for number in numbers {
+        let _value = *number;
+    }
+}
+
 /// The board of a program, with a root of this budget for each assertion, worked at until it is
 /// over.
 fn board_of<R: Threads + Wait + Sync, G: Gate>(
@@ -76,7 +87,8 @@ fn board_of<R: Threads + Wait + Sync, G: Gate>(
     workers: u32,
     gate: &G,
 ) -> Result<Board, OutOfMemory>
-    requires { FitsCheck budget workers }
+    requires numbers { FitsCheck budget workers }
+    requires divisors { DividesByLiterals (program_of program.now) }
     ensures { IfOk result (IsBoardOf (program_of program.now) budget) }
 {
     let graphs = Arc::new(alloc, build(alloc, program)?)?;
@@ -87,8 +99,8 @@ fn board_of<R: Threads + Wait + Sync, G: Gate>(
     Ok(board)
 }
 
-/// Analyses each assertion of a program with a budget of legal steps of its own, by so many
-/// workers.
+/// Analyses each assertion of a program, whose divisors are literals, with a budget of legal steps
+/// of its own, by so many workers.
 pub fn analyse<R: Threads + Wait + Sync, G: Gate>(
     rt: &R,
     alloc: Global,
@@ -97,11 +109,13 @@ pub fn analyse<R: Threads + Wait + Sync, G: Gate>(
     workers: u32,
     gate: &G,
 ) -> Result<Analysis, OutOfMemory>
-    requires { FitsCheck budget workers }
+    requires numbers { FitsCheck budget workers }
+    requires divisors { DividesByLiterals (program_of program.now) }
     ensures { IfOk result (λ a. IsAnalysis (program_of program.now) budget a.board
         a.verdicts.items) }
 {
     let board = board_of(rt, alloc, program, budget, workers, gate)?;
     let verdicts = verdicts_of(alloc, &board, program.asserts.len() as u32)?;
+    are_values(&program.globals);
     Ok(Analysis { board, verdicts })
 }

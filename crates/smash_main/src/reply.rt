@@ -2,6 +2,7 @@
 
 ghost use Rattle.std.specs.Prelude.{◌≡◌, ◌≤◌, ℕ, List, length, IfOk};
 ghost use Rattle.c_tree.specs.Syntax.{PureProgram};
+ghost use Rattle.c_tree.specs.WellFormed.{DividesByLiterals};
 ghost use Rattle.c_tree.specs.Whole.{program_of};
 ghost use Rattle.run_replay.specs.Outcome.{replay_outcome};
 ghost use Rattle.report_text.specs.Refused.{IsOfSource};
@@ -67,7 +68,8 @@ fn check_program<R: Threads + Wait + Sync, G: Gate>(
     workers: u32,
     gate: &G,
 ) -> Result<Reply, AllocError>
-    requires { FitsCheck budget workers }
+    requires numbers { FitsCheck budget workers }
+    requires divisors { DividesByLiterals (program_of program.now) }
     ensures { IfOk result (λ a. IsReported (program_of program.now) budget a.status
         a.text.items (handed_in a)) }
 {
@@ -116,7 +118,8 @@ fn answer<R: Threads + Wait + Sync, G: Gate>(
     program: &Program,
     gate: &G,
 ) -> Result<Reply, AllocError>
-    requires { FitsCommand (command_of command.now) }
+    requires numbers { FitsCommand (command_of command.now) }
+    requires divisors { DividesByLiterals (program_of program.now) }
     ensures { IfOk result (λ a. Answers (command_of command.now) (program_of program.now) a.status
         a.text.items (handed_in a)) }
 {

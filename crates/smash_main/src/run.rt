@@ -3,10 +3,10 @@
 ghost use Rattle.std.specs.Prelude.{◌≡◌, ◌+◌, ◌≤◌, ℕ, length, ◌⊎◌};
 ghost use Rattle.outer_io.specs.Causes.{TookAtMost};
 ghost use Rattle.report_text.specs.Refused.{too_long_text};
-ghost use Rattle.smash_main.specs.Analysis.{no_witness};
+ghost use Rattle.smash_main.specs.Analysis.{handed_by, no_witness};
 ghost use Rattle.smash_main.specs.Source.{source_limit};
 ghost use Rattle.smash_main.specs.Words.{IsCommand, IsNoCommand, Command as PureCommand, workload};
-ghost use Rattle.smash_main.specs.steps.Handing.{EndsAsked, EndsSilent, handed_by, handed_in};
+ghost use Rattle.smash_main.specs.steps.Handing.{EndsAsked, EndsSilent, handed_in};
 ghost use Rattle.smash_main.specs.steps.WordsView.{FitsCommand, command_of};
 ghost use Rattle.smash_main.specs.Run.{change, EndsWith, EndsUsage, StaysAsItWas, Obeys, ObeysSource, Completes};
 
@@ -24,9 +24,9 @@ use workload_gen::program_of;
 /// The most bytes that a source may have, `source_limit` of the clauses.
 const SOURCE_LIMIT: usize = 65_536;
 
-/// How the program ended: 0 and 1 are verdicts, 3 a refusal of the source, 4 of the words, 5 a
-/// failed read, 6 a failed write, 7 want of memory. Where an analysis came to its end, its board is
-/// handed back, which is over; the root of each assertion has its number.
+/// How the program ended: 0, 1 and 2 are verdicts, 3 is a refusal of the source, 4 of the words, 5
+/// a failed read, 6 a failed write, 7 want of memory. Where an analysis came to its end, its board
+/// is handed back, which is over; the root of each assertion has its number.
 #[derive(Drop)]
 pub struct Finish {
     pub status: u8,

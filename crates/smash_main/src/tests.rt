@@ -3,15 +3,23 @@
 mod agreement;
 mod analyses;
 mod command_lines;
+mod divisions;
+mod globals;
+mod meeting;
 mod tables;
+mod worked;
 
-use self::agreement::{tally_alone, tally_calling};
-use self::analyses::{ANALYSES, CALLS, OPEN};
+use self::agreement::{tally_alone, tally_calling, tally_dividing, tally_sharing};
+use self::analyses::{ANALYSES, CALLS, OPEN, Open};
 use self::command_lines::{CHECK_WORDS, REPLAY_WORDS, WORKLOAD_WORDS};
+use self::divisions::{DIVIDED, DIVISION_CHECKS, DIVISIONS};
+use self::globals::{GLOBAL_CHECKS, GLOBALS};
+use self::meeting::Meeting;
 use self::tables::{
     BLANKS, BODIES, CHECKS, FAULTS, Fault, LIMITS, Limit, NO_COMMANDS, REFUSALS, REPLAYS, Row, SUM,
-    WORKED, WORKLOADS,
+    WORKLOADS,
 };
+use self::worked::WORKED;
 use crate::run::run;
 use crate::words::{Command, command_from, one_command};
 use outer_io::{MemSink, MemSource, NoGate};
@@ -150,12 +158,12 @@ fn report_with(alloc: Global, told: &str, lines: &[&str]) -> Result<String, Fail
 fn agree_on_open<R: Abort + Threads + Wait + Sync>(
     rt: &R,
     alloc: Global,
-    rows: &[(&str, &[&str])],
+    rows: &[Open],
 ) -> Result<(), Fail> {
-    for (text, lines) in rows {
-        let got = told_of(rt, alloc, "check|--budget|20000", text)?;
+    for (line, text, lines) in rows {
+        let got = told_of(rt, alloc, line, text)?;
         let wanted = report_with(alloc, got.as_str(), lines)?;
-        assert_eq!(rt; got.as_str(), wanted.as_str(), "{text}");
+        assert_eq!(rt; got.as_str(), wanted.as_str(), "{line} of {text}");
     }
     Ok(())
 }
@@ -175,13 +183,40 @@ fn answers_workloads(rt: HostRuntime) -> Result<(), Fail> {
     agree(&rt, rt.alloc(), &WORKLOADS)
 }
 
-/// What the last lines of a larger one are.
+/// What the last lines of the largest one are.
 #[test]
-fn answers_a_larger_workload(rt: HostRuntime) -> Result<(), Fail> {
-    let got = told_of(&rt, rt.alloc(), "workload|12", "")?;
-    let last = "12:43: found [12, -12]\nsummary: 8 proved, 4 found, 0 unknown\n";
+fn answers_the_largest_workload(rt: HostRuntime) -> Result<(), Fail> {
+    let got = told_of(&rt, rt.alloc(), "workload|60", "")?;
+    let last = "60:44: found [60, -60]\nsummary: 40 proved, 20 found, 0 unknown\n";
     assert!(rt; got.as_str().starts_with("1 1:42: proved\n"), "{got}");
     assert!(rt; got.as_str().ends_with(last), "{got}");
+    Ok(())
+}
+
+#[test]
+fn answers_programs_with_globals(rt: HostRuntime) -> Result<(), Fail> {
+    agree(&rt, rt.alloc(), &GLOBALS)?;
+    agree(&rt, rt.alloc(), &GLOBAL_CHECKS)
+}
+
+#[test]
+fn answers_quotients(rt: HostRuntime) -> Result<(), Fail> {
+    agree(&rt, rt.alloc(), &DIVISIONS)?;
+    agree(&rt, rt.alloc(), &DIVISION_CHECKS)
+}
+
+/// Each of two workers makes its first call before the other one is let on.
+#[test]
+fn two_workers_meet(rt: HostRuntime) -> Result<(), Fail> {
+    let words = words_in(rt.alloc(), "workload|2|--workers|2")?;
+    let mut source = source_of(rt.alloc(), "", 4096, 1000)?;
+    let mut sink = MemSink::new(rt.alloc(), 4096, Vec::new(rt.alloc()), 7)?;
+    let gate = Meeting::new();
+    let status = run(&rt, rt.alloc(), &words, &mut source, &mut sink, &gate).status;
+    let wanted = "1:42: proved\n2:42: proved\nsummary: 2 proved, 0 found, 0 unknown\n";
+    assert_eq!(rt; status, 0);
+    assert_eq!(rt; std::str::from_utf8(sink.written())?, wanted);
+    assert_eq!(rt; gate.met(), 2);
     Ok(())
 }
 
@@ -281,6 +316,11 @@ fn agree_on_bodies<R: Abort + Threads + Wait + Sync>(
 #[test]
 fn values_of_bodies(rt: HostRuntime) -> Result<(), Fail> {
     agree_on_bodies(&rt, rt.alloc(), &BODIES)
+}
+
+#[test]
+fn values_of_quotients(rt: HostRuntime) -> Result<(), Fail> {
+    agree_on_bodies(&rt, rt.alloc(), &DIVIDED)
 }
 
 /// What is told of a head, a part so many times, with its number between its halves, and a tail.
@@ -393,5 +433,21 @@ fn checks_and_replays_of_calls_agree(rt: HostRuntime) -> Result<(), Fail> {
     let tally = tally_calling(&rt, rt.alloc())?;
     assert_eq!(rt; tally.wrong, 0, "{tally:?}");
     assert!(rt; tally.found > 60 && tally.proved > 20, "{tally:?}");
+    Ok(())
+}
+
+#[test]
+fn checks_and_replays_of_globals_agree(rt: HostRuntime) -> Result<(), Fail> {
+    let tally = tally_sharing(&rt, rt.alloc())?;
+    assert_eq!(rt; tally.wrong, 0, "{tally:?}");
+    assert!(rt; tally.found > 20 && tally.proved > 5, "{tally:?}");
+    Ok(())
+}
+
+#[test]
+fn checks_and_replays_of_quotients_agree(rt: HostRuntime) -> Result<(), Fail> {
+    let tally = tally_dividing(&rt, rt.alloc())?;
+    assert_eq!(rt; tally.wrong, 0, "{tally:?}");
+    assert!(rt; tally.found > 10 && tally.proved > 5, "{tally:?}");
     Ok(())
 }

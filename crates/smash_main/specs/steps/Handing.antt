@@ -1,4 +1,4 @@
--- What replies and ends hand back, and how a reply to bytes ends.
+-- What replies hand back, and how a reply to bytes ends.
 use Rattle.std.specs.Prelude.{◌≡◌, ℕ, List}
 use Rattle.c_tree.specs.Syntax.{PureProgram}
 use Rattle.smash_main.specs.Analysis.{Witness, no_witness}
@@ -7,13 +7,9 @@ use Rattle.smash_main.specs.Run.{Change, EndsWith, StaysAsItWas}
 use Rattle.smash_main.specs.Source.{IsAccepted}
 use Rattle.smash_main.specs.Words.{Command}
 use Rattle.smash_main.specs.declared.reply.Reply.{Reply}
-use Rattle.smash_main.specs.declared.run.Finish.{Finish}
 
 abbrev pub handed_in : Reply → Witness
 handed_in a = a.board
-
-abbrev pub handed_by : Finish → Witness
-handed_by f = f.board
 
 -- the end is what the bytes ask for under the command
 pub record EndsAsked (c : Command) (bytes : List ℕ) (status : ℕ) (sink : Change) (w : Witness) :

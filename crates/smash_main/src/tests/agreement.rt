@@ -1,4 +1,5 @@
-//! Checks and replays of many small programs with two inputs agree, with calls and without.
+//! Checks and replays of many small programs with two inputs agree, with calls, globals and
+//! quotients, and without.
 
 use super::told_of;
 use std::alloc::Global;
@@ -84,6 +85,47 @@ const CALLING: [Shape; 6] = [
         "int f(int x, int y) {",
         "if (x > 1) return f(x - 1, y);",
         "return y; } int main() { int x = input(); return f(x, input()); }",
+    ),
+];
+
+/// What stands before `main` shares globals with it.
+const SHARING: [Shape; 3] = [
+    // a call changes what stands on both of its sides
+    (
+        "int g = 2; int f(int a) { g = a; return g + 1; } int main() { int x = input(); int y = input();",
+        "y = g + f(x) + g;",
+        "}",
+    ),
+    // a loop in which a called procedure counts
+    (
+        "int n; void f() { n = n + 1; } int main() { int x = input(); int y = input();",
+        "while (n < 2) f(); y = y - n;",
+        "}",
+    ),
+    // an assertion of a procedure on globals that `main` sets
+    (
+        "int x, y; void f() {",
+        "y = y + x;",
+        "} int main() { x = input(); y = input(); f(); return 0; }",
+    ),
+];
+
+const DIVIDING: [Shape; 3] = [
+    (
+        "int main() { int x = input(); int y = input();",
+        "y = x / 2;",
+        "}",
+    ),
+    (
+        "int main() { int x = input(); int y = input();",
+        "x %= 3; y = y % -2;",
+        "}",
+    ),
+    // a quotient of a called procedure
+    (
+        "int f(int a) { return a / -2; } int main() { int x = input(); int y = input();",
+        "y = f(x - y) % 2;",
+        "}",
     ),
 ];
 
@@ -228,4 +270,14 @@ pub fn tally_alone<R: Threads + Wait + Sync>(rt: &R, alloc: Global) -> Result<Ta
 /// 108 programs with calls.
 pub fn tally_calling<R: Threads + Wait + Sync>(rt: &R, alloc: Global) -> Result<Tally, Fail> {
     tally_of(rt, alloc, 3, &CALLING)
+}
+
+/// 54 programs with globals.
+pub fn tally_sharing<R: Threads + Wait + Sync>(rt: &R, alloc: Global) -> Result<Tally, Fail> {
+    tally_of(rt, alloc, 3, &SHARING)
+}
+
+/// 54 programs with quotients and remainders.
+pub fn tally_dividing<R: Threads + Wait + Sync>(rt: &R, alloc: Global) -> Result<Tally, Fail> {
+    tally_of(rt, alloc, 3, &DIVIDING)
 }

@@ -175,7 +175,7 @@ int main(void) {
 }
 ";
 
-pub const CALLS: [Row; 8] = [
+pub const CALLS: [Row; 10] = [
     // a procedure without a condition
     (
         "check",
@@ -223,13 +223,28 @@ pub const CALLS: [Row; 8] = [
         TWO_FOUND,
         "1 3:62: found [1, -3]\n3:98: found [2, -2]\nsummary: 0 proved, 2 found, 0 unknown\n",
     ),
+    // a limit that lies in the called procedure
+    (
+        "check",
+        "int f(int a) { if (2199023255552 * a == 2199023255552) return 1; return 0; }\nint main() { int x = input(); assert(x != 5); assert(f(x) == 0); return 0; }\n",
+        "1 2:31: found [5]\n2:47: unknown (solver limit: wide)\nsummary: 0 proved, 1 found, 1 unknown\n",
+    ),
+    // the same two calls deep, where the assertion is
+    (
+        "check",
+        "int h(int a) { assert(2199023255552 * a != 2199023255552); return a; }\nint f(int a) { return h(a); }\nint main() { int x = input(); assert(x != 3); f(x); return 0; }\n",
+        "1 1:16: unknown (solver limit: wide)\n3:31: found [3]\nsummary: 0 proved, 1 found, 1 unknown\n",
+    ),
 ];
 
-/// Sources that are checked with a budget of 20,000, and the lines of their verdicts. A line that
-/// says `proved` may say instead that the budget was spent.
-pub const OPEN: [(&str, &[&str]); 2] = [
-    (EVEN_ODD, &["4:37: proved"]),
+/// A command with a budget of 20,000, a source, and the lines of its verdicts. A line that says
+/// `proved` may say instead that the budget was spent.
+pub type Open = (&'static str, &'static str, &'static [&'static str]);
+
+pub const OPEN: [Open; 2] = [
+    ("check|--budget|20000", EVEN_ODD, &["4:37: proved"]),
     (
+        "check|--workers|4|--budget|20000",
         REALISTIC,
         &[
             "15:3: proved",

@@ -158,7 +158,7 @@ pub const REPLAYS: [Row; 10] = [
 ];
 
 /// Workloads, whatever the source is.
-pub const WORKLOADS: [Row; 4] = [
+pub const WORKLOADS: [Row; 5] = [
     (
         "workload|1",
         SUM,
@@ -170,6 +170,11 @@ pub const WORKLOADS: [Row; 4] = [
         "0 1:42: proved\nsummary: 1 proved, 0 found, 0 unknown\n",
     ),
     (
+        "workload|3",
+        "",
+        "1 1:42: proved\n2:42: proved\n3:42: found [3, -3]\nsummary: 2 proved, 1 found, 0 unknown\n",
+    ),
+    (
         "workload|--workers|1|3",
         "",
         "1 1:42: proved\n2:42: proved\n3:42: found [3, -3]\nsummary: 2 proved, 1 found, 0 unknown\n",
@@ -178,57 +183,6 @@ pub const WORKLOADS: [Row; 4] = [
         "workload|2|--budget|1",
         "",
         "2 1:42: unknown (budget 1 spent)\n2:42: unknown (budget 1 spent)\nsummary: 0 proved, 0 found, 2 unknown\n",
-    ),
-];
-
-pub const WORKED: [Row; 10] = [
-    // an empty source
-    ("check", "", "3 refused 1:1: no main\n"),
-    // one past the greatest value
-    (
-        "check",
-        "int main(){ int x = 9223372036854775808; return 0; }",
-        "3 refused 1:21: literal too wide\n",
-    ),
-    // a product of two inputs
-    (
-        "check",
-        "int main(){ int x = input(); int y = input(); return x * y; }",
-        "3 refused 1:56: product of two non-constants\n",
-    ),
-    // a body without its end
-    (
-        "check",
-        "int main(){ return 0;",
-        "3 refused 1:22: unexpected end of file\n",
-    ),
-    // an input too few
-    ("replay|[2]", DEEP, "2 starved, inputs used 1\n"),
-    // an assertion three calls deep
-    ("replay|[2, 40]", DEEP, "1 failed 1:23, inputs used 2\n"),
-    // one more than an input
-    (
-        "replay|[41]",
-        "int main(){ int x = input(); return x + 1; }",
-        "0 returned 42, inputs used 1\n",
-    ),
-    // one more than the greatest value
-    (
-        "replay|[9223372036854775807]",
-        "int main(){ int x = input(); return x + 1; }",
-        "0 stopped, inputs used 1\n",
-    ),
-    // a loop that spends its fuel
-    (
-        "replay|--fuel|10|[]",
-        "int main(){ while (1) { } return 0; }",
-        "2 fuel 10 spent\n",
-    ),
-    // one block too deep
-    (
-        "check",
-        "int main(){{{{{{{{{{{{{{{{{{{{{{{{{{{{{{{{{{{{{{{{{{{{{{{{{{{{{{{{{{{{{{{{{",
-        "3 refused 1:75: nested too deep\n",
     ),
 ];
 
@@ -268,7 +222,7 @@ pub const REFUSALS: [Row; 44] = [
         "int main(){}\n/*/",
         "3 refused 2:1: comment not closed\n",
     ),
-    ("check", "int main(){} /", "3 refused 1:14: bad byte\n"),
+    ("check", "int main(){} ?", "3 refused 1:14: bad byte\n"),
     (
         "check",
         "/* */ #include <a>\nint main(){}",
@@ -294,7 +248,7 @@ pub const REFUSALS: [Row; 44] = [
         "int main(){ 1; }",
         "3 refused 1:13: unexpected token\n",
     ),
-    ("check", "int x;", "3 refused 1:6: unexpected token\n"),
+    ("check", "int x{", "3 refused 1:6: unexpected token\n"),
     (
         "check",
         "extern int f(){}",
@@ -571,7 +525,7 @@ pub type Limit = (
     &'static str,
 );
 
-pub const LIMITS: [Limit; 20] = [
+pub const LIMITS: [Limit; 23] = [
     (
         "int main(){\n",
         ("if (0 > ", ") ; else\n"),
@@ -711,6 +665,27 @@ pub const LIMITS: [Limit; 20] = [
         "}",
         65,
         "3 refused 66:1: too many assertions\n",
+    ),
+    (
+        "int g,\n",
+        ("g", ",\n"),
+        "h; int main(){}",
+        14,
+        "0 returned 0, inputs used 0\n",
+    ),
+    (
+        "int g,\n",
+        ("g", ",\n"),
+        "h; int main(){}",
+        15,
+        "3 refused 17:1: too many variables\n",
+    ),
+    (
+        "int g,\n",
+        ("g", ",\n"),
+        "g; int main(){}",
+        15,
+        "3 refused 17:1: duplicate name\n",
     ),
 ];
 

@@ -1,6 +1,7 @@
 use Rattle.std.proofs.Common.{◌⊎◌, ◌∙◌, subst, sym, refl, inr, rules}
 use Rattle.smash_main.specs.Run.{Change, Obeys, change}
-use Rattle.smash_main.specs.steps.Handing.{EndsAsked, EndsSilent, handed_by}
+use Rattle.smash_main.specs.Analysis.{handed_by}
+use Rattle.smash_main.specs.steps.Handing.{EndsAsked, EndsSilent}
 use Rattle.smash_main.specs.steps.WordsView.{FitsCommand, command_of}
 use Rattle.smash_main.proofs.Obeyed.{silently, workload_ends}
 use Rattle.smash_main.proofs.run.obey.Goals as goal

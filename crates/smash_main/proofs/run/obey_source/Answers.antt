@@ -1,6 +1,6 @@
 use Rattle.std.proofs.Common.{Err, ◌∙◌, ap}
 use Rattle.smash_main.specs.Run.{Change, change}
-use Rattle.smash_main.specs.steps.Handing.{handed_by}
+use Rattle.smash_main.specs.Analysis.{handed_by}
 use Rattle.smash_main.specs.steps.WordsView.{command_of}
 use Rattle.smash_main.proofs.Obeyed.{refused_long}
 use Rattle.smash_main.proofs.run.obey_source.Goals as goal

@@ -4,7 +4,8 @@ use Rattle.std.specs.Prelude.{map, string_bytes}
 use Rattle.report_text.specs.Usage.{usage_text}
 use Rattle.smash_main.specs.Run.{Change, change, EndsWith, Obeys}
 use Rattle.smash_main.specs.Words.{IsCommand, workload}
-use Rattle.smash_main.specs.steps.Handing.{EndsSilent, handed_by}
+use Rattle.smash_main.specs.Analysis.{handed_by}
+use Rattle.smash_main.specs.steps.Handing.{EndsSilent}
 use Rattle.smash_main.specs.steps.WordsView.{command_of}
 use Rattle.smash_main.proofs.Bounded.{bounded, took_none}
 use Rattle.smash_main.proofs.Completed.{completes}
