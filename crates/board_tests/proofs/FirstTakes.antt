@@ -1,5 +1,5 @@
 -- A job that is reported as if it were of the take with which the board began.
-use Rattle.std.proofs.Common.{◌≡◌, ℕ, ◌≤◌, List, [], ◌∷◌, Some, sym, ap, ◌∙◌, subst, arith}
+use Rattle.std.proofs.Common.{◌≡◌, ℕ, ◌≤◌, List, [], ◌∷◌, ◌++◌, length, Some, sym, ap, ◌∙◌, subst, arith}
 use Rattle.std.specs.Prelude.{slice_get}
 use Rattle.board_lock.specs.Views.{StartsWith}
 use Rattle.may_partition.proofs.Pieces.{get_left}
@@ -8,6 +8,7 @@ use Rattle.query_rules.specs.Seen.{Seen}
 use Rattle.query_rules.specs.declared.step.Asked.{Asked}
 use Rattle.summary_form.specs.declared.query.Query.{Query}
 use Rattle.bolt_core.specs.declared.job.Gone.{Gone as GoneJob}
+use Rattle.summary_form.specs.declared.summary.Summary.{Summary}
 use Rattle.bolt_core.specs.declared.job.Job.{Job as Given}
 use Rattle.bolt_core.specs.Boards.{IsBoard, IsGone, IsSoundFor, MayBeParked, Shown}
 use Rattle.bolt_core.specs.Histories.{Told, closed_as, table_of, took}
@@ -56,13 +57,13 @@ first_stays old new id left stored f t = record {
 }
 
 module _ (b : Shown) (h : IsBoard b) (j : Given) (s : IsSoundFor b j) (left stored spent : ℕ) (id : ℕ)
-    (t : IsFirstTake b id left stored) (p : IsSince id left stored j spent) where
+    (t : IsFirstTake b id left stored) (p : IsSince id left stored j spent) (bare : b.core.kept ≡ []) where
   abbrev pub late : Given
   late = record { id = j.id; taken = 0; left = left; spent = spent; state = j.state }
 
   asks_nothing : (q : Query) → 1 ≤ spent → (reads b.graphs).last j.state ≡ an_ask q → ⊥
   asks_nothing q _ e =
-      let a = (states_lawful b.graphs h.linked).asks_last (table_of b.core.history) j.state q s.state e in
+      let a = (states_lawful b.graphs h.linked).asks_last (b.core.kept ++ table_of b.core.history) j.state q s.state e in
       none_at j.state.asked _ a.entry p.none a.there
 
   sound_late : IsSoundFor b late
@@ -82,7 +83,7 @@ module _ (b : Shown) (h : IsBoard b) (j : Given) (s : IsSoundFor b j) (left stor
     entries = subst (λ (xs : List Asked). Matches xs [] (asks_more spent ((reads b.graphs).last j.state))) (sym p.none)
         (no_more spent ((reads b.graphs).last j.state) asks_nothing);
     news = subst (AllOf (λ (a : Asked). IsNews a.news (closed_as [] a.child))) (sym p.none) tt;
-    seen = all_more _;
+    seen = subst (λ (ks : List Summary). AllOf (λ n. length (ks ++ []) ≤ n) ((reads b.graphs).seen j.state spent)) (sym bare) (all_more _);
   }
 
   pub parks_late : MayBeParked b late rest.Ready

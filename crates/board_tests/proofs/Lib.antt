@@ -2,3 +2,4 @@ pub mod Staying
 pub mod Plays
 pub mod Published
 pub mod FirstTakes
+pub mod Informed

@@ -8,14 +8,14 @@ use Rattle.summary_form.specs.declared.summary.Summary.{Summary}
 use Rattle.summary_table.specs.Tables.{Listed, StartsWith}
 use Rattle.bolt_core.specs.declared.job.Taken.{Taken}
 use Rattle.bolt_core.specs.declared.job.Taken.TheVariants as taken
-use Rattle.bolt_core.specs.Boards.{Gives, IsBegun, IsBoard, SameProgram, Shown, Stops, most_queries}
+use Rattle.bolt_core.specs.Boards.{Gives, IsBegunWith, IsBoard, SameProgram, Shown, Stops, most_summaries}
 use Rattle.bolt_core.specs.Histories.{Told, stopped, took}
-use Rattle.bolt_core.specs.Machine.{Core, Event, Reads, empty_board, is_over, opening}
+use Rattle.bolt_core.specs.Machine.{Core, Event, Reads, first_board, is_over, opening}
 use Rattle.bolt_core.specs.States.{reads}
 use Rattle.bolt_rounds.specs.Moves.{MayMove}
 use Rattle.bolt_rounds.specs.declared.moves.Worked.{Worked}
 use Rattle.bolt_rounds.proofs.Shown.{moves_keep}
-use Rattle.bolt_rounds.proofs.Turning.{event_front, just_taken, same_most}
+use Rattle.bolt_rounds.proofs.Turning.{event_front, just_taken, same_summaries}
 use Rattle.board_tests.specs.Plays.{AreOut, IsOpened, IsPlay, MayTake}
 
 -- The jobs that are kept
@@ -51,7 +51,7 @@ pub starts_none : (ts known : List Summary) → known ≡ [] → StartsWith ts k
 starts_none ts known e = record { rest = ts; is = ap (λ (l : List Summary). l ++ ts) (sym e) }
 
 pub begun_play : (b : Shown) (asserts : ℕ) (known : Listed) (jobs : List (Option Worked)) → IsOpened b asserts →
-    known.room ≡ most_queries b → known.summaries ≡ [] → AreOut b jobs → IsPlay b asserts known jobs
+    known.room ≡ most_summaries b → known.summaries ≡ [] → AreOut b jobs → IsPlay b asserts known jobs
 begun_play b asserts known jobs o r e n = record {
   all = o.all;
   room = r;
@@ -81,7 +81,7 @@ module _ (old new : Shown) (e : Told) (h : IsBoard old) (s : SameProgram old new
       IsPlay new asserts known jobs
   play_goes asserts known jobs p = record {
     all = p.all ∙ sym s.asserts;
-    room = p.room ∙ sym (same_most old new s);
+    room = p.room ∙ sym (same_summaries old new s);
     front = front_stays known.summaries p.front;
     out = out_stays jobs p.out;
   }
@@ -113,17 +113,16 @@ module _ (old new : Shown) (w : ℕ) (h : IsBoard old) (s : SameProgram old new)
   play_stopped = stops_by _ _ refl refl
 
 -- The beginning
-opens_bare : {S : Type 0} (R : Reads S) (grant : ℕ) (ss : List S) (c : Core S) →
-    ((opening R grant ss c).history ≡ c.history) × ((opening R grant ss c).table ≡ c.table)
-opens_bare R grant [] c = (refl, refl)
+opens_bare : {S : Type 0} (R : Reads S) (grant : ℕ) (ss : List S) (c : Core S) → (opening R grant ss c).history ≡ c.history
+opens_bare R grant [] c = refl
 opens_bare R grant (s ∷ ss) c = opens_bare R grant ss _
 
-pub opened : (gs : List Graph) (main asserts budget : ℕ) (b : Shown) → IsBegun gs main asserts budget b → IsOpened b asserts
-opened gs main asserts budget b h =
+pub opened : (gs : List Graph) (main asserts budget : ℕ) (kept : List Summary) (b : Shown) → IsBegunWith gs main asserts budget kept b →
+    IsOpened b asserts
+opened gs main asserts budget kept b h =
     let o = h.opening in
-    let bare = opens_bare (reads b.graphs) b.budget o.roots (empty_board (reads b.graphs)) in
     record {
       all = sym h.all;
-      history = ap (λ (c : Core Seen). c.history) o.is ∙ bare.0;
-      table = ap (λ (c : Core Seen). c.table) o.is ∙ bare.1;
+      history = ap (λ (c : Core Seen). c.history) o.is
+          ∙ opens_bare (reads b.graphs) b.budget o.roots (first_board (reads b.graphs) b.core.kept);
     }

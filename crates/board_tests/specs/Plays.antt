@@ -2,7 +2,7 @@
 use Rattle.std.specs.Prelude.{◌≡◌, ℕ, ◌+◌, ◌<◌, ◌≤◌, List, [], ◌∷◌, length, Bool, Option, Some, IfSome, slice_get}
 use Rattle.summary_form.specs.declared.summary.Summary.{Summary}
 use Rattle.summary_table.specs.Tables.{Listed, StartsWith}
-use Rattle.bolt_core.specs.Boards.{Shown, most_queries}
+use Rattle.bolt_core.specs.Boards.{Shown, most_summaries}
 use Rattle.bolt_core.specs.Histories.{took}
 use Rattle.bolt_core.specs.declared.job.Job.{Job as Given}
 use Rattle.bolt_core.specs.declared.job.Taken.{Taken}
@@ -14,7 +14,6 @@ use Rattle.bolt_rounds.specs.declared.moves.Worked.{Worked}
 pub record IsOpened (b : Shown) (asserts : ℕ) : Type 0 where
   pub all : asserts ≡ b.asserts
   pub history : b.core.history ≡ []
-  pub table : b.core.table ≡ []
 
 -- each job that is kept may be given back as it says
 abbrev pub AreOut : Shown → List (Option Worked) → Type 0
@@ -25,7 +24,7 @@ AreOut b (o ∷ jobs) = IfSome o (λ w. MayMove b w.job w.next) × AreOut b jobs
 pub record IsPlay (b : Shown) (asserts : ℕ) (known : Listed) (jobs : List (Option Worked)) : Type
     0 where
   pub all : asserts ≡ b.asserts
-  pub room : known.room ≡ most_queries b
+  pub room : known.room ≡ most_summaries b
   pub front : StartsWith b.core.table known.summaries
   pub out : AreOut b jobs
 

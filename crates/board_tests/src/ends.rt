@@ -12,7 +12,7 @@ use std::test::Fail;
 use summary_table::table::Table;
 
 /// What a verdict says.
-#[derive(Clone, Copy, Debug, PartialEq, Eq)]
+#[derive(Clone, Copy, PartialEq, Eq)]
 pub enum Says {
     Proved,
     /// The first two inputs, and how many there are.
@@ -44,14 +44,14 @@ pub fn verdict_of(alloc: Global, board: &Board, asserts: u32, root: u32) -> Resu
 }
 
 /// How many summaries a table has that is brought up to the board's.
-fn brought(alloc: Global, board: &Board) -> Result<u32, Fail> {
+pub fn brought(alloc: Global, board: &Board) -> Result<u32, Fail> {
     let mut known = Table::with_room(alloc, board.room())?;
     board.bring(&mut known)?;
     Ok(known.all().len() as u32)
 }
 
 /// The verdict of the first root, the queries, the summaries, and the most that there may be.
-type End = (Says, u32, u32, u32);
+pub type End = (Says, u32, u32, u32);
 
 fn end_of(alloc: Global, text: &str, budget: u32) -> Result<End, Fail> {
     let (board, asserts) = board_of(alloc, text, budget)?;
@@ -62,41 +62,35 @@ fn end_of(alloc: Global, text: &str, budget: u32) -> Result<End, Fail> {
 }
 
 /// A procedure that calls itself, and returns 0.
-const DESCENDS: &str = "int f(int n) { if (n <= 0) return 0; return f(n - 1); } \
+pub const DESCENDS: &str = "int f(int n) { if (n <= 0) return 0; return f(n - 1); } \
      int main() { assert(f(input()) == 0); return 0; }";
 
 /// A coefficient of 2^41 in a procedure that is called.
-const WIDE: &str = "int f(int x) { assert(2199023255552 * x != 2199023255552); return 0; } \
+pub const WIDE: &str = "int f(int x) { assert(2199023255552 * x != 2199023255552); return 0; } \
      int main() { return f(input()); }";
 
 #[test]
 fn calls_three_deep_fail(rt: HostRuntime) -> Result<(), Fail> {
     let found = Says::Found(2, Some(2), Some(40));
-    assert_eq!(rt; end_of(rt.alloc(), THREE_DEEP, 2000)?, (found, 4, 4, 2001));
+    assert!(rt; end_of(rt.alloc(), THREE_DEEP, 2000)? == (found, 4, 4, 2001));
     Ok(())
 }
 
 #[test]
 fn a_recursion_is_proved(rt: HostRuntime) -> Result<(), Fail> {
-    assert_eq!(rt;
-        end_of(rt.alloc(), DESCENDS, 2000)?,
-        (Says::Proved, 5, 5, 2001)
-    );
+    assert!(rt; end_of(rt.alloc(), DESCENDS, 2000)? == (Says::Proved, 5, 5, 2001));
     Ok(())
 }
 
 #[test]
 fn a_wide_sum_of_a_callee_is_a_limit(rt: HostRuntime) -> Result<(), Fail> {
     let limit = Says::Limit(LimitKind::Wide);
-    assert_eq!(rt; end_of(rt.alloc(), WIDE, 2000)?, (limit, 2, 0, 2001));
+    assert!(rt; end_of(rt.alloc(), WIDE, 2000)? == (limit, 2, 0, 2001));
     Ok(())
 }
 
 #[test]
 fn a_budget_is_spent(rt: HostRuntime) -> Result<(), Fail> {
-    assert_eq!(rt;
-        end_of(rt.alloc(), THREE_DEEP, 5)?,
-        (Says::Budget(5), 1, 0, 6)
-    );
+    assert!(rt; end_of(rt.alloc(), THREE_DEEP, 5)? == (Says::Budget(5), 1, 0, 6));
     Ok(())
 }

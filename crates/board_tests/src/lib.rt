@@ -6,6 +6,10 @@ mod beginnings;
 #[cfg(test)]
 mod ends;
 #[cfg(test)]
+mod kept;
+#[cfg(test)]
+mod musts;
+#[cfg(test)]
 mod orders;
 #[cfg(test)]
 mod play;

@@ -5,7 +5,7 @@ ghost use Rattle.std.specs.Prelude.{◌≡◌, IfOk, IfSome, OnOk};
 ghost use Rattle.board_lock.specs.Views.{StartsWith};
 ghost use Rattle.bolt_core.specs.Boards.{Shown};
 ghost use Rattle.bolt_rounds.specs.Moves.{IsJustTaken, MayBeShown, MayMove};
-ghost use Rattle.board_tests.specs.Plays.{IsPlay, MayTake};
+ghost use Rattle.board_tests.specs.Plays.{IsOpened, IsPlay, MayTake};
 
 use crate::programs::board_of;
 use bolt_core::board::Board;
@@ -21,7 +21,7 @@ use summary_form::summary::Summary;
 use summary_table::table::Table;
 
 /// How a job is to be given back.
-#[derive(Clone, Copy, Debug, PartialEq, Eq)]
+#[derive(Clone, Copy, PartialEq, Eq)]
 pub enum How {
     Ask,
     Feed(u32),
@@ -34,7 +34,7 @@ pub enum How {
 }
 
 /// What a take gave, and what the slice of the job came to.
-#[derive(Clone, Copy, Debug, PartialEq, Eq)]
+#[derive(Clone, Copy, PartialEq, Eq)]
 pub enum Took {
     Job {
         id: u32,
@@ -47,7 +47,7 @@ pub enum Took {
 }
 
 /// What became of a job that was given back.
-#[derive(Clone, Copy, Debug, PartialEq, Eq)]
+#[derive(Clone, Copy, PartialEq, Eq)]
 pub enum Back {
     Done,
     /// The place of the event that ended it.
@@ -127,11 +127,11 @@ fn kind_at(table: &Table, place: usize) -> Option<How> {
 }
 
 impl Play {
-    /// The board of a program with this budget, and four workers without a job.
-    pub fn begin(alloc: Global, text: &str, budget: u32) -> Result<Play, Fail>
+    /// A board that just opened, and four workers without a job.
+    pub fn at(alloc: Global, board: Board, asserts: u32) -> Result<Play, Fail>
+        requires { IsOpened board asserts }
         ensures { IfOk result (λ p. IsPlay p.board p.asserts p.known p.jobs.items) }
     {
-        let (board, asserts) = board_of(alloc, text, budget)?;
         let known = Table::with_room(alloc, board.room())?;
         let memos = Memos::new(alloc)?;
         let jobs = vec![in alloc; None, None, None, None]?;
@@ -142,6 +142,14 @@ impl Play {
             memos,
             jobs,
         })
+    }
+
+    /// The board of a program with this budget, and four workers without a job.
+    pub fn begin(alloc: Global, text: &str, budget: u32) -> Result<Play, Fail>
+        ensures { IfOk result (λ p. IsPlay p.board p.asserts p.known p.jobs.items) }
+    {
+        let (board, asserts) = board_of(alloc, text, budget)?;
+        Play::at(alloc, board, asserts)
     }
 
     /// Keeps a job that is out.

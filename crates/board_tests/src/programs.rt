@@ -1,6 +1,8 @@
 //! Boards of programs.
 
 ghost use Rattle.std.specs.Prelude.{◌≤◌, length, IfOk};
+ghost use Rattle.c_tree.specs.WellFormed.{DividesByLiterals};
+ghost use Rattle.c_tree.specs.Whole.{program_of as whole};
 ghost use Rattle.board_tests.specs.Plays.{IsOpened};
 
 use bolt_core::board::Board;
@@ -33,7 +35,9 @@ fn tree_of(alloc: Global, bytes: &[u8]) -> Result<Tree, Fail>
     Ok(parse(alloc, bytes, &tokens)?)
 }
 
-fn program_of(alloc: Global, text: &str) -> Result<Program, Fail> {
+pub fn program_of(alloc: Global, text: &str) -> Result<Program, Fail>
+    ensures { IfOk result (λ p. DividesByLiterals (whole p)) }
+{
     let bytes = text.as_bytes();
     if bytes.len() > 65_536 {
         return Err(Fail::new("the text is too long"));

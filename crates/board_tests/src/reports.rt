@@ -1,6 +1,6 @@
 //! Jobs that are reported a second time.
 
-ghost use Rattle.std.specs.Prelude.{IfSome, OnOk};
+ghost use Rattle.std.specs.Prelude.{◌≡◌, [], IfSome, OnOk};
 ghost use Rattle.bolt_rounds.specs.Moves.{MayMove};
 ghost use Rattle.board_tests.specs.Plays.{IsFirstTake, IsOfTake, IsPlay, IsSince};
 
@@ -73,6 +73,7 @@ impl Play {
         requires first { IsFirstTake self.old.board first.id first.left first.stored }
         requires since { IsSince first.id first.left first.stored worked.job spent }
         requires may { MayMove self.old.board worked.job worked.next }
+        requires bare { self.old.board.core.kept ≡ [] }
         requires stands { IsPlay self.old.board self.old.asserts self.old.known
             self.old.jobs.items }
         ensures { IsPlay self.new.board self.new.asserts self.new.known self.new.jobs.items }
@@ -121,6 +122,10 @@ impl Play {
         };
         let back = self.hand_in(worker);
         self.take(alloc, worker, 1)?;
+        self.board.reached();
+        if !self.board.table().all().is_empty() {
+            return Err(Fail::new("something is known already"));
+        }
         let Some(worked) = self.fetch(worker) else {
             return Err(Fail::new("nothing was taken"));
         };

@@ -6,17 +6,35 @@ ghost use Rattle.board_tests.specs.Plays.{IsPlay};
 use crate::play::{Back, Play, Took};
 use crate::programs::THREE_DEEP;
 use std::alloc::Global;
-use std::test::Fail;
+use std::process::Abort;
+use std::test::*;
 
 /// How many workers there are.
 #[derive(Clone, Copy)]
-enum Crew {
+pub enum Crew {
     One,
     Two,
 }
 
+/// The budgets of the boards.
+const BUDGETS: [u32; 13] = [1, 2, 3, 4, 5, 6, 7, 8, 9, 10, 11, 12, 2000];
+
+/// No board of these budgets makes so many calls.
+const MOST: u32 = 200;
+
+/// What a stop after some calls finds. A job was sliced before.
+#[derive(Clone, Copy)]
+struct Stopped {
+    was_over: bool,
+    /// Whether the first worker had a job, and whether the second had one.
+    had: [bool; 2],
+    took: Took,
+    /// What became of their jobs behind the stop.
+    back: [Back; 2],
+}
+
 /// The call of this number: each worker takes, and then each gives his job back.
-fn call(alloc: Global, play: &mut Play, crew: Crew, number: u32) -> Result<(), Fail>
+pub fn call(alloc: Global, play: &mut Play, crew: Crew, number: u32) -> Result<(), Fail>
     requires { IsPlay play.old.board play.old.asserts play.old.known play.old.jobs.items }
     ensures { OnOk result
         (IsPlay play.new.board play.new.asserts play.new.known play.new.jobs.items) }
@@ -33,133 +51,95 @@ fn call(alloc: Global, play: &mut Play, crew: Crew, number: u32) -> Result<(), F
     Ok(())
 }
 
+/// Whether the first worker has a job after so many calls of a board that wasn't over before them.
+fn has_first(crew: Crew, count: u32) -> bool {
+    match crew {
+        Crew::One => count % 2 == 1,
+        Crew::Two => count % 4 == 1 || count % 4 == 2,
+    }
+}
+
+fn has_job(play: &Play, worker: usize) -> bool {
+    match play.jobs.get(worker) {
+        Some(job) => job.is_some(),
+        None => false,
+    }
+}
+
+/// Stops the board, takes, and gives each job back by the call that fits the end of its slice.
+fn stop(alloc: Global, play: &mut Play) -> Result<Stopped, Fail>
+    requires { IsPlay play.old.board play.old.asserts play.old.known play.old.jobs.items }
+{
+    let was_over = play.board.over();
+    let had = [has_job(play, 0), has_job(play, 1)];
+    play.stop(2);
+    let took = play.take(alloc, 2, 1)?;
+    let back = [play.hand_in(0), play.hand_in(1)];
+    Ok(Stopped {
+        was_over,
+        had,
+        took,
+        back,
+    })
+}
+
 /// After so many calls the board is stopped.
-fn stopped_after(
-    alloc: Global,
-    crew: Crew,
-    budget: u32,
-    count: u32,
-) -> Result<(Took, Back, Back), Fail> {
+fn stopped_after(alloc: Global, crew: Crew, budget: u32, count: u32) -> Result<Stopped, Fail> {
     let mut play = Play::begin(alloc, THREE_DEEP, budget)?;
     for number in 0..count {
         call(alloc, &mut play, crew, number)?;
     }
-    play.stop(2);
-    let took = play.take(alloc, 2, 1)?;
-    Ok((took, play.hand_in(0), play.hand_in(1)))
+    stop(alloc, &mut play)
 }
 
-/// How many jobs are given back to stopped boards, and how many are gone.
-#[derive(Clone, Copy, Debug, PartialEq, Eq)]
-struct Tally {
-    done: u32,
-    gone: u32,
-    /// Takes of a stopped board that aren't answered with `Over`.
-    taken: u32,
-}
-
-fn counted(tally: Tally, back: Back) -> Tally {
+/// Whether the job of a worker who had one is taken back, and there was none of one who had none.
+fn is_back(had: bool, back: Back) -> bool {
     match back {
-        Back::Done => Tally {
-            done: tally.done.wrapping_add(1),
-            ..tally
-        },
-        Back::Gone(_) => Tally {
-            gone: tally.gone.wrapping_add(1),
-            ..tally
-        },
-        Back::None => tally,
+        Back::Done => had,
+        Back::None => !had,
+        Back::Gone(_) => false,
     }
 }
 
-/// What a stop after each number of calls comes to.
-fn stops(alloc: Global, crew: Crew, budget: u32) -> Result<Tally, Fail> {
-    let mut tally = Tally {
-        done: 0,
-        gone: 0,
-        taken: 0,
-    };
-    for count in 0..40 {
-        let (took, first, second) = stopped_after(alloc, crew, budget, count)?;
-        if took != Took::Over {
-            tally.taken = tally.taken.wrapping_add(1);
+/// Whether nothing is taken, and each job that is out is taken back.
+fn is_right(crew: Crew, count: u32, stopped: &Stopped) -> bool {
+    let [first, second] = stopped.back;
+    stopped.took == Took::Over
+        && stopped.had[0] == has_first(crew, count)
+        && is_back(stopped.had[0], first)
+        && is_back(stopped.had[1], second)
+}
+
+/// The first number of calls, up to that with which the board is over, after which a stop finds
+/// something else than is wanted.
+fn first_wrong(alloc: Global, crew: Crew, budget: u32) -> Result<Option<u32>, Fail> {
+    for count in 0..MOST {
+        let stopped = stopped_after(alloc, crew, budget, count)?;
+        if !is_right(crew, count, &stopped) {
+            return Ok(Some(count));
         }
-        tally = counted(counted(tally, first), second);
+        if stopped.was_over {
+            return Ok(None);
+        }
     }
-    Ok(tally)
+    Ok(Some(MOST))
 }
 
-/// The same of each of these budgets.
-fn all_stops(alloc: Global, crew: Crew) -> Result<[Tally; 12], Fail> {
-    let none = Tally {
-        done: 0,
-        gone: 0,
-        taken: 0,
-    };
-    let mut all = [none; 12];
-    for place in 0..12 {
-        all[place] = stops(alloc, crew, place as u32 + 1)?;
+/// Boards of each of the budgets, stopped after each number of calls.
+fn are_stopped(rt: &impl Abort, alloc: Global, crew: Crew) -> Result<(), Fail> {
+    for budget in BUDGETS {
+        let wrong = first_wrong(alloc, crew, budget)?;
+        assert_eq!(rt; wrong, None, "so many calls, with the budget {budget}");
     }
-    Ok(all)
-}
-
-/// So many jobs are given back, and nothing else.
-const fn back(done: u32) -> Tally {
-    Tally {
-        done,
-        gone: 0,
-        taken: 0,
-    }
+    Ok(())
 }
 
 #[test]
 fn a_stopped_board_takes_jobs_back(rt: HostRuntime) -> Result<(), Fail> {
-    assert_eq!(rt; stops(rt.alloc(), Crew::One, 2000)?, back(7));
-    Ok(())
+    are_stopped(&rt, rt.alloc(), Crew::One)
 }
 
 #[test]
 fn it_does_so_of_two_workers(rt: HostRuntime) -> Result<(), Fail> {
-    assert_eq!(rt; stops(rt.alloc(), Crew::Two, 2000)?, back(20));
-    Ok(())
-}
-
-#[test]
-fn boards_of_small_budgets_are_stopped(rt: HostRuntime) -> Result<(), Fail> {
-    let wanted = [
-        back(1),
-        back(1),
-        back(1),
-        back(1),
-        back(1),
-        back(1),
-        back(1),
-        back(2),
-        back(3),
-        back(4),
-        back(4),
-        back(5),
-    ];
-    assert_eq!(rt; all_stops(rt.alloc(), Crew::One)?, wanted);
-    Ok(())
-}
-
-#[test]
-fn they_are_so_beside_two_workers(rt: HostRuntime) -> Result<(), Fail> {
-    let wanted = [
-        back(2),
-        back(2),
-        back(2),
-        back(2),
-        back(2),
-        back(2),
-        back(2),
-        back(4),
-        back(8),
-        back(10),
-        back(10),
-        back(14),
-    ];
-    assert_eq!(rt; all_stops(rt.alloc(), Crew::Two)?, wanted);
-    Ok(())
+    are_stopped(&rt, rt.alloc(), Crew::Two)
 }

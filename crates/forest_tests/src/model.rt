@@ -196,13 +196,14 @@ impl Model {
         self.add(added(None, grant, Status::Ready, grant))
     }
 
-    /// The forest took this query: whether it was Ready.
-    fn took(&mut self, id: u32) -> bool {
+    /// The forest took this query and said what is left of it: whether it was Ready, and so much is
+    /// left.
+    fn took(&mut self, id: u32, left: u32) -> bool {
         let waits = self.waits(id);
         let Some(mut own) = self.at(id) else {
             return false;
         };
-        if own.status != Status::Ready {
+        if own.status != Status::Ready || own.left != left {
             return false;
         }
         own.status = Status::Running;
@@ -329,7 +330,7 @@ impl Model {
         let wanted = match step {
             Move::Root(grant) => self.root(grant),
             Move::Take => match answer {
-                Answer::Took(id) => return self.took(id),
+                Answer::Took { id, left } => return self.took(id, left),
                 _ => return answer == Answer::Empty && !self.has_ready(),
             },
             Move::Park(id, steps, rest) => self.park(id, steps, rest),
@@ -342,10 +343,10 @@ impl Model {
 }
 
 /// The payload of a query, unless it is lent or was when the query was dropped.
-pub fn payload_of(id: u32, query: Query) -> Option<u64> {
+pub fn payload_of(id: u32, query: Query) -> Option<u32> {
     if query.is_lent {
         None
     } else {
-        Some(first_payload(id).wrapping_add(u64::from(query.spent)))
+        Some(first_payload(id).wrapping_add(query.spent))
     }
 }

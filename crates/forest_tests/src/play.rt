@@ -18,12 +18,12 @@ pub enum Move {
     Close(u32, u32, u64),
 }
 
-/// What became of a move. `Illegal` says that a condition of the call did not hold, so that it was
-/// not made.
+/// What became of a move. `left` is what the job says is left of its query. `Illegal` says that a
+/// condition of the call did not hold, so that it was not made.
 #[derive(Clone, Copy, Debug, PartialEq, Eq)]
 pub enum Answer {
     Added(u32),
-    Took(u32),
+    Took { id: u32, left: u32 },
     Empty,
     Done,
     Gone(u64),
@@ -31,22 +31,22 @@ pub enum Answer {
 }
 
 /// The payload with which a query begins.
-pub fn first_payload(id: u32) -> u64 {
-    1000 * u64::from(id)
+pub fn first_payload(id: u32) -> u32 {
+    id.wrapping_mul(1000)
 }
 
 /// What is out of the query of number i stands at place i of `jobs`.
 #[derive(Drop)]
 pub struct Play {
-    pub forest: Forest<u64>,
+    pub forest: Forest<u32>,
     pub room: u32,
-    pub jobs: Vec<Option<Lent<u64>>>,
+    pub jobs: Vec<Option<Lent<u32>>>,
     ghost has_room: { forest.room ≡ room },
     ghost well_formed: { AreOut forest.entries jobs.items },
 }
 
 /// Whether a job may be given back so.
-fn may_park(lent: &Lent<u64>, steps: u32, rest: Rest) -> bool
+fn may_park(lent: &Lent<u32>, steps: u32, rest: Rest) -> bool
     ensures steps { result ≡ true → steps ≤ lent.now.left }
     ensures rest { result ≡ true → MayGive rest steps lent.now.left lent.now.waiting }
 {
@@ -82,7 +82,7 @@ impl Play {
     }
 
     /// Keeps a job that is out.
-    fn keep(&mut self, lent: Lent<u64>)
+    fn keep(&mut self, lent: Lent<u32>)
         requires { IsLent self.old.forest.entries lent.id lent.left lent.waiting }
     {
         let place = lent.id as usize;
@@ -92,7 +92,7 @@ impl Play {
     }
 
     /// The job of this query, if it is out, which is kept no longer.
-    fn fetch(&mut self, id: u32) -> Option<Lent<u64>>
+    fn fetch(&mut self, id: u32) -> Option<Lent<u32>>
         ensures forest { self.new.forest ≡ self.old.forest }
         ensures free { IsFree self.new.jobs.items id }
         ensures number { IfSome result (λ lent. lent.id ≡ id) }
@@ -132,8 +132,9 @@ impl Play {
             None => Answer::Empty,
             Some(lent) => {
                 let id = lent.id;
+                let left = lent.left;
                 self.keep(lent);
-                Answer::Took(id)
+                Answer::Took { id, left }
             }
         }
     }
@@ -146,7 +147,7 @@ impl Play {
             self.keep(lent);
             return Answer::Illegal;
         }
-        lent.payload = lent.payload.wrapping_add(u64::from(steps));
+        lent.payload = lent.payload.wrapping_add(steps);
         match self.forest.give_back(lent, steps, rest) {
             Ok(()) => Answer::Done,
             Err(gone) => Answer::Gone(gone.stamp),
@@ -162,7 +163,7 @@ impl Play {
             self.keep(lent);
             return Answer::Illegal;
         }
-        lent.payload = lent.payload.wrapping_add(u64::from(steps));
+        lent.payload = lent.payload.wrapping_add(steps);
         match self.forest.ask(lent, steps, first_payload(number)) {
             Ok(child) => Answer::Added(child),
             Err(gone) => Answer::Gone(gone.stamp),
@@ -177,7 +178,7 @@ impl Play {
             self.keep(lent);
             return Answer::Illegal;
         }
-        lent.payload = lent.payload.wrapping_add(u64::from(steps));
+        lent.payload = lent.payload.wrapping_add(steps);
         match self.forest.feed(lent, steps, child) {
             Ok(()) => Answer::Done,
             Err(gone) => Answer::Gone(gone.stamp),
@@ -192,7 +193,7 @@ impl Play {
             self.keep(lent);
             return Answer::Illegal;
         }
-        lent.payload = lent.payload.wrapping_add(u64::from(steps));
+        lent.payload = lent.payload.wrapping_add(steps);
         match self.forest.close(lent, steps, stamp) {
             Ok(()) => Answer::Done,
             Err(gone) => Answer::Gone(gone.stamp),

@@ -48,7 +48,7 @@ impl Seen {
     fn count(&mut self, answer: Answer) {
         let place = match answer {
             Answer::Added(_) => &mut self.added,
-            Answer::Took(_) => &mut self.took,
+            Answer::Took { .. } => &mut self.took,
             Answer::Empty => &mut self.empty,
             Answer::Done => &mut self.done,
             Answer::Gone(_) => &mut self.gone,

@@ -24,7 +24,7 @@ fn spelled(alloc: Global, text: &[u8]) -> Result<String, Fail>
 #[test]
 fn tokens_of_texts(rt: HostRuntime) -> Result<(), Fail> {
     one_answer();
-    let table: [(&[u8], &str); 16] = [
+    let table: [(&[u8], &str); 24] = [
         (b"", ""),
         (b" \t\x0b\x0c\r\n", ""),
         (
@@ -58,6 +58,29 @@ fn tokens_of_texts(rt: HostRuntime) -> Result<(), Fail> {
         (
             b"int\n  # include\"a\" //\n#include<b>\n;",
             "1:1 0-3 Word(Int); 4:1 34-35 Mark(Semicolon); ",
+        ),
+        (b"a //b", "1:1 0-1 Name; "),
+        (
+            b"a /*b*/ / c",
+            "1:1 0-1 Name; 1:9 8-9 Mark(Slash); 1:11 10-11 Name; ",
+        ),
+        (
+            b"/* /* */ */",
+            "1:10 9-10 Mark(Star); 1:11 10-11 Mark(Slash); ",
+        ),
+        (
+            b"x /=2",
+            "1:1 0-1 Name; 1:3 2-4 Mark(SlashAssign); 1:5 4-5 Literal(2); ",
+        ),
+        (b"a//=b\n%=", "1:1 0-1 Name; 2:1 6-8 Mark(PercentAssign); "),
+        (b"/**/=", "1:5 4-5 Mark(Assign); "),
+        (
+            b"7/ /2",
+            "1:1 0-1 Literal(7); 1:2 1-2 Mark(Slash); 1:4 3-4 Mark(Slash); 1:5 4-5 Literal(2); ",
+        ),
+        (
+            b"a%%=b",
+            "1:1 0-1 Name; 1:2 1-2 Mark(Percent); 1:3 2-4 Mark(PercentAssign); 1:5 4-5 Name; ",
         ),
     ];
     for (text, wanted) in table {
@@ -136,7 +159,7 @@ fn words(rt: HostRuntime) -> Result<(), Fail> {
 
 #[test]
 fn marks(rt: HostRuntime) -> Result<(), Fail> {
-    let table: [(&[u8], Punct); 24] = [
+    let table: [(&[u8], Punct); 28] = [
         (b"(", Punct::OpenParenthesis),
         (b")", Punct::CloseParenthesis),
         (b"{", Punct::OpenBrace),
@@ -147,6 +170,8 @@ fn marks(rt: HostRuntime) -> Result<(), Fail> {
         (b"+", Punct::Plus),
         (b"-", Punct::Minus),
         (b"*", Punct::Star),
+        (b"/", Punct::Slash),
+        (b"%", Punct::Percent),
         (b"!", Punct::Not),
         (b"<", Punct::Less),
         (b"<=", Punct::LessEqual),
@@ -159,6 +184,8 @@ fn marks(rt: HostRuntime) -> Result<(), Fail> {
         (b"+=", Punct::PlusAssign),
         (b"-=", Punct::MinusAssign),
         (b"*=", Punct::StarAssign),
+        (b"/=", Punct::SlashAssign),
+        (b"%=", Punct::PercentAssign),
         (b"++", Punct::Increment),
         (b"--", Punct::Decrement),
     ];
@@ -207,7 +234,7 @@ fn fault_of(alloc: Global, text: &[u8]) -> Option<LexError>
 
 #[test]
 fn bad_bytes(rt: HostRuntime) -> Result<(), Fail> {
-    let table: [(&[u8], u32, u32); 26] = [
+    let table: [(&[u8], u32, u32); 25] = [
         (b"x=08;", 1, 4),
         (b"019", 1, 3),
         (b"0x;", 1, 2),
@@ -219,9 +246,8 @@ fn bad_bytes(rt: HostRuntime) -> Result<(), Fail> {
         (b"1u", 1, 2),
         (b"1_", 1, 2),
         (b"9223372036854775808x", 1, 20),
-        (b"/* /* */ */", 1, 11),
-        (b"a / b", 1, 3),
-        (b"\n a % b", 2, 4),
+        (b"a / \\ b", 1, 5),
+        (b"\n a %@ b", 2, 5),
         (b"a & b", 1, 3),
         (b"a | b", 1, 3),
         (b"#includex", 1, 1),
@@ -247,7 +273,7 @@ fn bad_bytes(rt: HostRuntime) -> Result<(), Fail> {
 fn other_faults(rt: HostRuntime) -> Result<(), Fail> {
     let first = Pos { line: 1, column: 1 };
     let third = Pos { line: 1, column: 3 };
-    let table: [(&[u8], LexError); 8] = [
+    let table: [(&[u8], LexError); 9] = [
         (b"9223372036854775808", LexError::TooWide(first)),
         (b"0x8000000000000000", LexError::TooWide(first)),
         (b"01000000000000000000000", LexError::TooWide(first)),
@@ -256,6 +282,7 @@ fn other_faults(rt: HostRuntime) -> Result<(), Fail> {
         (b"/*", LexError::OpenComment(first)),
         (b"x /* \n * / //", LexError::OpenComment(third)),
         (b"+ /* %", LexError::OpenComment(third)),
+        (b"a /*= 2", LexError::OpenComment(third)),
     ];
     for (text, fault) in table {
         assert!(rt; text.len() <= 65536);
@@ -267,7 +294,7 @@ fn other_faults(rt: HostRuntime) -> Result<(), Fail> {
 /// Each byte alone is white space, a token, or refused.
 #[test]
 fn single_bytes(rt: HostRuntime) -> Result<(), Fail> {
-    let taken = b" \t\n\x0b\x0c\r_(){};,=+-*!<>";
+    let taken = b" \t\n\x0b\x0c\r_(){};,=+-*/%!<>";
     let first = Pos { line: 1, column: 1 };
     for byte in 0..=255u8 {
         let wanted = if taken.contains(&byte) || byte.is_ascii_alphanumeric() {

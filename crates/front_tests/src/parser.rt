@@ -3,6 +3,7 @@
 use c_lexer::scan::lex;
 use c_parser::fault::ParseError;
 use c_parser::parse::{one_tree, parse};
+use c_tree::syntax_tree::{GlobalTree, Item};
 use c_tree::tree::Pos;
 use std::alloc::Global;
 use std::fmt::Write;
@@ -85,8 +86,125 @@ fn texts(rt: HostRuntime) -> Result<(), Fail> {
     ];
     for (text, answer, number) in cases {
         let got = told(rt.alloc(), text)?;
-        assert_eq!(rt; got.0, answer, "{text}");
-        assert_eq!(rt; got.1, number, "{text}");
+        assert_eq!(rt; got, (answer, number), "{text}");
+    }
+    Ok(())
+}
+
+#[test]
+fn divisions(rt: HostRuntime) -> Result<(), Fail> {
+    let cases = [
+        ("int f() { x = a / b % 2 * c; }", "items", 1usize),
+        ("int f() { x /= 2; x %= -y; }", "items", 1),
+        ("int f() { x / 2; }", "unexpected", 13),
+        ("int f() { x = / 2; }", "unexpected", 15),
+        ("int f() { x = 1 / / 2; }", "unexpected", 19),
+        ("int f() { x = 1 /", "end", 18),
+        ("int f() { x %=", "end", 15),
+    ];
+    for (text, answer, number) in cases {
+        let got = told(rt.alloc(), text)?;
+        assert_eq!(rt; got, (answer, number), "{text}");
+    }
+    Ok(())
+}
+
+#[test]
+fn declarations_of_globals(rt: HostRuntime) -> Result<(), Fail> {
+    let cases = [
+        ("int g = -5, h, k = +0x10; long long m;", "items", 2usize),
+        ("int g; int main() { g = 1; } long h = 3;", "items", 3),
+        ("int g,", "end", 7),
+        ("int g =", "end", 8),
+        ("int g = -", "end", 10),
+        ("int g = 1", "end", 10),
+        ("void g;", "unexpected", 7),
+        ("void g, h;", "unexpected", 7),
+        ("extern int g;", "unexpected", 13),
+        ("extern int g = 1;", "unexpected", 14),
+        ("int g = x;", "unexpected", 9),
+        ("int g = 1 + 1;", "unexpected", 11),
+        ("int g = - - 1;", "unexpected", 11),
+        ("int g = (1);", "unexpected", 9),
+        ("int g = !1;", "unexpected", 9),
+        ("int g = ;", "unexpected", 9),
+        ("int g = 1 h;", "unexpected", 11),
+        ("int g h;", "unexpected", 7),
+        ("int g, int h;", "unexpected", 8),
+        ("int g,;", "unexpected", 7),
+        ("int;", "unexpected", 4),
+        ("int g() = 1;", "unexpected", 9),
+        ("int f(), g;", "unexpected", 8),
+        ("int g; { }", "unexpected", 8),
+    ];
+    for (text, answer, number) in cases {
+        let got = told(rt.alloc(), text)?;
+        assert_eq!(rt; got, (answer, number), "{text}");
+    }
+    Ok(())
+}
+
+/// Globals with their opening values.
+fn push_globals(out: &mut String, globals: &[GlobalTree]) -> Result<(), Fail> {
+    for global in globals {
+        out.push_str(global.named.name.as_str())?;
+        if let Some(value) = global.value {
+            write!(out, "={value}")?;
+        }
+        out.push_str(" ")?;
+    }
+    Ok(())
+}
+
+/// Globals with their values, or the name of another item.
+fn push_item(out: &mut String, item: &Item) -> Result<(), Fail> {
+    match item {
+        Item::Globals(globals) => push_globals(out, globals)?,
+        Item::Proto(named) => write!(out, "{}() ", named.name)?,
+        Item::Proc(procedure) => write!(out, "{}{{}} ", procedure.named.name)?,
+    }
+    out.push_str("; ")?;
+    Ok(())
+}
+
+/// All items of a tree.
+fn push_items(out: &mut String, items: &[Item]) -> Result<(), Fail> {
+    for item in items {
+        push_item(out, item)?;
+    }
+    Ok(())
+}
+
+/// The items of a text.
+fn items_of(alloc: Global, text: &str) -> Result<String, Fail> {
+    let mut out = String::new(alloc);
+    let bytes = text.as_bytes();
+    if bytes.len() > 65_536 {
+        return Ok(out);
+    }
+    let tokens = lex(alloc, bytes)?;
+    let tree = parse(alloc, bytes, &tokens)?;
+    push_items(&mut out, &tree.items)?;
+    Ok(out)
+}
+
+#[test]
+fn values_of_globals(rt: HostRuntime) -> Result<(), Fail> {
+    let cases = [
+        ("int g = -5, h, k = +0x10;", "g=-5 h k=16 ; "),
+        ("int a = - 0, b = 017, c = 5LL;", "a=0 b=15 c=5 ; "),
+        (
+            "long j = - 0x7fffffffffffffff; int i;",
+            "j=-9223372036854775807 ; i ; ",
+        ),
+        (
+            "int g; int f(); long h = 7, i; int main() { } int k;",
+            "g ; f() ; h=7 i ; main{} ; k ; ",
+        ),
+    ];
+    for (text, wanted) in cases {
+        let items = items_of(rt.alloc(), text)?;
+        assert_eq!(rt; items.as_str(), wanted, "{text}");
     }
     Ok(())
 }
@@ -102,11 +220,13 @@ fn limits(rt: HostRuntime) -> Result<(), Fail> {
         ("int f() { ", "if (1) ", 63, "; }", "items", 1),
         ("int f() { ", "if (1) ; else ", 63, "; }", "items", 1),
         ("int f() { ", "if (1) ; else ", 64, "; }", "deep", 900),
+        ("int f() { x = a", " / b", 256, "; }", "items", 1),
+        ("int f() { x = a", " % b", 257, "; }", "deep", 1041),
+        ("int g = -1", ", h = -1", 300, ";", "items", 1),
     ];
     for (head, part, count, tail, answer, number) in cases {
         let got = told_of(rt.alloc(), head, part, count, tail)?;
-        assert_eq!(rt; got.0, answer, "{head}");
-        assert_eq!(rt; got.1, number, "{head}");
+        assert_eq!(rt; got, (answer, number), "{head}{part}");
     }
     Ok(())
 }

@@ -1,2 +1,1 @@
 pub mod SameMeaning
-pub mod ByTest

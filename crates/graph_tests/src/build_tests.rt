@@ -17,7 +17,7 @@ const EDGES: &[&str] = &[
     "to 4: entry of 0",
     "4 to 5: guard",
     "2 to 3: 1 = [] + 0",
-    "3 to 0: return of 1",
+    "3 to 0: return of [1]",
     // int x = 3;
     "5 to 6: 0 = [] + 3",
     // x = x + 4;
@@ -29,7 +29,7 @@ const EDGES: &[&str] = &[
     "7 to 1: failure of 0 [(0, 1)] + -6 <= 0",
     // return 0;
     "9 to 10: 1 = [] + 0",
-    "10 to 0: return of 1",
+    "10 to 0: return of [1]",
 ];
 
 /// Writes the rows of an edge.
@@ -69,8 +69,31 @@ fn edge_text(alloc: Global, edge: &Edge) -> Result<String, AllocError> {
             write!(text, "{from} to {to}: failure of {id}")?;
             write_rows(&mut text, rows)?;
         }
-        Edge::Return { from, to, slot } => write!(text, "{from} to {to}: return of {slot}")?,
-        Edge::Input { .. } | Edge::Pick { .. } | Edge::Call { .. } => write!(text, "{edge:?}")?,
+        Edge::Return { from, to, slots } => {
+            write!(text, "{from} to {to}: return of {:?}", slots.as_slice())?;
+        }
+        Edge::Input { from, to, slot } => write!(text, "{from} to {to}: input to {slot}")?,
+        Edge::Pick {
+            from,
+            to,
+            slot,
+            rows,
+        } => {
+            write!(text, "{from} to {to}: pick of {slot}")?;
+            write_rows(&mut text, rows)?;
+        }
+        Edge::Call {
+            from,
+            to,
+            proc,
+            args,
+            results,
+        } => write!(
+            text,
+            "{from} to {to}: {:?} = call of {proc} with {:?}",
+            results.as_slice(),
+            args.as_slice()
+        )?,
     }
     Ok(text)
 }

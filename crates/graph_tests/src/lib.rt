@@ -6,6 +6,8 @@
 mod build_tests;
 #[cfg(test)]
 mod copy_tests;
+#[cfg(test)]
+mod globals;
 pub mod laws;
 #[cfg(test)]
 mod loop_tests;
@@ -13,6 +15,8 @@ mod loop_tests;
 mod preimage_tests;
 #[cfg(test)]
 mod programs;
+#[cfg(test)]
+mod quotients;
 #[cfg(test)]
 mod sample_tests;
 #[cfg(test)]

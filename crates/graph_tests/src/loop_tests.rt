@@ -5,13 +5,12 @@ use crate::programs::{hold, lin_value, program_of};
 use flow_build::build::build;
 use flow_graph::graph::Edge;
 use flow_graph::graphs::Graphs;
-use linear_formula::formula::{Atom, Atoms, Cube};
-use linear_formula::reading::column_term;
-use linear_formula::term::Term;
+use linear_formula::formula::Cube;
 use shadow_elim::shadow::Pre;
 use std::alloc::Global;
 use std::process::Abort;
 use std::test::Fail;
+use test_forms::rows::{Row, cube_of};
 use weakest_pre::preimage::pre;
 
 /// A lock is taken and given back; `n` changes where it is given back. The slots are those of
@@ -33,32 +32,20 @@ const SLOTS: u32 = 4;
 /// The values of the slots that are tried.
 const VALUES: &[i64] = &[i64::MIN, -1, 0, 1, i64::MAX];
 
-/// The coefficients of the slots, and a constant: their sum is at most 0.
-type Row = (&'static [i64], i64);
-
 const TARGETS: &[&[Row]] = &[
     &[],
-    &[(&[-1], 1)],
-    &[(&[1], 0), (&[-1], 0)],
-    &[(&[0, 1, -1], 1)],
-    &[(&[0, 1, -1], 0), (&[0, -1, 1], 0), (&[1], -1), (&[-1], 1)],
-    &[(&[0, -1, 1], 1), (&[0, 0, -1], 0)],
-    &[(&[0, 1, 0, -1], 0), (&[0, 0, 0, 1], -1)],
+    &[(&[(-1, 0)], 1)],
+    &[(&[(1, 0)], 0), (&[(-1, 0)], 0)],
+    &[(&[(1, 1), (-1, 2)], 1)],
+    &[
+        (&[(1, 1), (-1, 2)], 0),
+        (&[(-1, 1), (1, 2)], 0),
+        (&[(1, 0)], -1),
+        (&[(-1, 0)], 1),
+    ],
+    &[(&[(-1, 1), (1, 2)], 1), (&[(-1, 2)], 0)],
+    &[(&[(1, 1), (-1, 3)], 0), (&[(1, 3)], -1)],
 ];
-
-fn cube_of(alloc: Global, rows: &[Row]) -> Result<Cube, Fail> {
-    let mut atoms = Atoms::new(alloc);
-    for (coefficients, constant) in rows {
-        let mut parts = Vec::new(alloc);
-        for (slot, coefficient) in (0..).zip(*coefficients) {
-            parts.push((*coefficient, column_term(alloc, slot)?))?;
-        }
-        atoms.push(Atom {
-            term: Term::combine(alloc, &parts, *constant)?,
-        })?;
-    }
-    Ok(Cube { atoms })
-}
 
 /// The preimage over an edge that isn't a call.
 fn preimage(alloc: Global, edge: &Edge, target: &Cube) -> Result<Pre, Fail> {
@@ -114,13 +101,13 @@ fn slots_of(alloc: Global, number: usize) -> Result<Vec<i64>, Fail> {
     Ok(slots)
 }
 
-/// The first slots that meet the preimage of the target and don't lead into it, or the other way
-/// round.
-fn first_other(alloc: Global, edge: &Edge, target: &Cube) -> Result<Option<usize>, Fail> {
-    let before = preimage(alloc, edge, target)?;
-    if before.inexact.is_some() {
-        return Err(Fail::new("not exact"));
-    }
+/// The first slots that meet the preimage and don't lead into the target, or the other way round.
+fn first_other(
+    alloc: Global,
+    edge: &Edge,
+    before: &Pre,
+    target: &Cube,
+) -> Result<Option<usize>, Fail> {
     for number in 0..625 {
         let slots = slots_of(alloc, number)?;
         if hold(&slots, &before.cube) != leads(alloc, edge, &slots, target)? {
@@ -130,28 +117,41 @@ fn first_other(alloc: Global, edge: &Edge, target: &Cube) -> Result<Option<usize
     Ok(None)
 }
 
+/// Whether the preimage is exact, and of the slots that are tried those that lead into the target
+/// meet it.
+fn is_exact(alloc: Global, edge: &Edge, target: &Cube) -> Result<bool, Fail> {
+    let before = preimage(alloc, edge, target)?;
+    Ok(before.inexact.is_none() && first_other(alloc, edge, &before, target)?.is_none())
+}
+
+/// How many of the targets have such a preimage.
+fn right_of(alloc: Global, edge: &Edge) -> Result<usize, Fail> {
+    let mut right: usize = 0;
+    for rows in TARGETS {
+        if is_exact(alloc, edge, &cube_of(alloc, rows)?)? {
+            right = right.wrapping_add(1);
+        }
+    }
+    Ok(right)
+}
+
 fn graphs_of(rt: &impl Abort, alloc: Global, text: &str) -> Result<Graphs, Fail> {
     let program = program_of(rt, alloc, text)?;
     Ok(build(alloc, &program)?)
 }
 
-fn is_exact(rt: &impl Abort, alloc: Global, edge: &Edge, rows: &[Row]) -> Result<(), Fail> {
-    let other = first_other(alloc, edge, &cube_of(alloc, rows)?)?;
-    assert_eq!(rt; other, None, "{edge:?} {rows:?}");
-    Ok(())
+fn is_inner(edge: &Edge) -> bool {
+    !matches!(edge, Edge::Entry { .. } | Edge::Return { .. })
 }
 
 #[test]
 fn preimages_of_a_loop(rt: HostRuntime) -> Result<(), Fail> {
     let graphs = graphs_of(&rt, rt.alloc(), LOCK_LOOP)?;
     let graph = graphs.graphs.as_slice().first().ok_or("no graph")?;
-    assert_eq!(rt; graph.slots, SLOTS);
+    assert!(rt; graph.slots == SLOTS);
     for edge in graph.edges.as_slice() {
-        if matches!(edge, Edge::Entry { .. } | Edge::Return { .. }) {
-            continue;
-        }
-        for rows in TARGETS {
-            is_exact(&rt, rt.alloc(), edge, rows)?;
+        if is_inner(edge) {
+            assert!(rt; right_of(rt.alloc(), edge)? == TARGETS.len(), "{edge:?}");
         }
     }
     Ok(())

@@ -1,174 +1,230 @@
 // Preimages over each kind of edge.
 
-ghost use Rattle.std.specs.Prelude.{◌≡◌, false, IfOk};
-ghost use Rattle.flow_graph.specs.Shapes.{is_call};
-
-use flow_graph::graph::{Edge, Lin, LinParts};
-use linear_formula::error::LinError;
-use linear_formula::formula::{Atom, Atoms, Cube};
+use flow_graph::graph::Edge;
+use linear_formula::formula::Cube;
 use linear_formula::question::Question;
-use linear_formula::term::{Parts, Term};
-use shadow_elim::limit::Limit;
+use shadow_elim::limit::{Kept, LimitKind};
 use shadow_elim::projection::ProjectionError;
+use shadow_elim::shadow::{Pair, Pre};
 use std::alloc::Global;
 use std::test::Fail;
+use test_forms::edges::{Does, edge_of};
+use test_forms::rows::{Plain, Row, are_rows, cube_of, is_term};
 use weakest_pre::preimage::pre;
 
-/// Multiples of columns and a constant, at most 0.
-type Row<'a> = (&'a [(i64, u32)], i64);
+/// An edge from node 1 to node 2, a target, and the rows of the preimage, which has no inexact
+/// pair.
+type Case<'a> = (Does<'a>, &'a [Row<'a>], &'a [Plain<'a>]);
 
-/// The parts and the constant of a row.
-type Found<'a> = (&'a [(u32, i128)], i128);
+/// Slot 1 becomes slot 0 and 1.
+const NEXT: Does = Does::Assign(1, (&[(1, 0)], 1));
 
-fn cube_of(alloc: Global, rows: &[Row]) -> Result<Cube, LinError> {
-    let mut atoms = Atoms::new(alloc);
-    for (parts, constant) in rows {
-        let mut summands = Vec::new(alloc);
-        for (multiplier, column) in *parts {
-            let part = vec![in alloc; (*column, 1)]?;
-            summands.push((*multiplier, Term::new(Parts::from_vec(part), 0)))?;
-        }
-        atoms.push(Atom {
-            term: Term::combine(alloc, &summands, *constant)?,
-        })?;
+/// Slot 0 and 1 is a value of 64 bits.
+const HIGH: Plain = (&[(0, 1)], -9_223_372_036_854_775_806);
+
+const LOW: Plain = (&[(0, -1)], -9_223_372_036_854_775_809);
+
+/// The half of slot 0, rounded down from 0 on.
+const HALF: Does = Does::Pick(1, &[(&[(2, 1), (-1, 0)], 0), (&[(1, 0), (-2, 1)], -1)]);
+
+const CASES: [Case; 12] = [
+    // sums
+    (NEXT, &[(&[(1, 1)], -5)], &[(&[(0, 1)], -4), HIGH, LOW]),
+    (NEXT, &[(&[(1, 1), (-1, 0)], 0)], &[(&[], 1), HIGH, LOW]),
+    // rows
+    (
+        Does::Guard(&[(&[(1, 0)], -1)]),
+        &[(&[(1, 1)], -2)],
+        &[(&[(1, 1)], -2), (&[(0, 1)], -1)],
+    ),
+    (
+        Does::Assert(7, &[(&[(-1, 0)], 3)]),
+        &[(&[(1, 1)], -2)],
+        &[(&[(1, 1)], -2), (&[(0, -1)], 3)],
+    ),
+    // a slot is forgotten
+    (Does::Input(0), &[(&[(1, 0)], -5), (&[(-1, 0)], 5)], &[]),
+    (
+        Does::Pick(0, &[(&[(1, 0), (-1, 1)], 0), (&[(1, 1), (-1, 0)], 0)]),
+        &[(&[(1, 0)], -5)],
+        &[(&[(1, 1)], -5), (&[(1, -1)], -9_223_372_036_854_775_808)],
+    ),
+    // one value, in the place of the exit value
+    (
+        Does::Return(&[3]),
+        &[(&[(1, 20_000), (-1, 10_000)], -1)],
+        &[(&[(3, 1), (10_000, -1)], -1)],
+    ),
+    // two values, in their places
+    (
+        Does::Return(&[3, 1]),
+        &[(&[(1, 20_000), (-2, 20_001)], -1)],
+        &[(&[(1, -2), (3, 1)], -1)],
+    ),
+    // the same slot at two places
+    (
+        Does::Return(&[3, 3]),
+        &[
+            (&[(1, 20_000), (-2, 20_001)], -1),
+            (&[(1, 20_000), (-1, 20_001)], 0),
+        ],
+        &[(&[(3, -1)], -1), (&[], 0)],
+    ),
+    // no value
+    (
+        Does::Return(&[]),
+        &[(&[(1, 10_000)], -7)],
+        &[(&[(10_000, 1)], -7)],
+    ),
+    // values and entry values in one row
+    (
+        Does::Return(&[0, 2]),
+        &[(&[(1, 20_001), (1, 10_001)], 0)],
+        &[(&[(2, 1), (10_001, 1)], 0)],
+    ),
+    // slots that an edge doesn't name stay
+    (
+        Does::Input(0),
+        &[(&[(3, 1), (1, 10_000)], -7)],
+        &[(&[(1, 3), (10_000, 1)], -7)],
+    ),
+];
+
+/// The preimage over an edge that isn't a call.
+fn preimage(
+    alloc: Global,
+    edge: &Edge,
+    target: &Cube,
+) -> Result<Result<Pre, ProjectionError>, Fail> {
+    if edge.is_call() {
+        return Err(Fail::new("a call"));
     }
-    Ok(Cube { atoms })
+    Ok(pre(alloc, edge, target))
 }
 
-fn is_row(atom: &Atom, row: &Found) -> bool {
-    atom.term.parts() == row.0 && atom.term.constant() == row.1
+/// The preimage of a target over what the edge does.
+fn preimage_over(
+    alloc: Global,
+    does: Does,
+    target: &[Row],
+) -> Result<Result<Pre, ProjectionError>, Fail> {
+    let edge = edge_of(alloc, &(1, 2, does))?;
+    let target = cube_of(alloc, target)?;
+    preimage(alloc, &edge, &target)
 }
 
-/// Whether the preimage has these rows and no inexact pair.
-fn gives(alloc: Global, edge: &Edge, target: &[Row], rows: &[Found]) -> Result<bool, Fail>
-    requires { is_call edge.now ≡ false }
-{
-    let pre = pre(alloc, edge, &cube_of(alloc, target)?)?;
-    let atoms = pre.cube.atoms.as_slice();
-    for (atom, row) in atoms.iter().zip(rows) {
-        if !is_row(atom, row) {
-            return Ok(false);
-        }
+fn is_exactly(pre: &Pre, rows: &[Plain]) -> bool {
+    are_rows(&pre.cube, rows) && pre.inexact.is_none()
+}
+
+fn gives(alloc: Global, case: &Case) -> Result<bool, Fail> {
+    let pre = preimage_over(alloc, case.0, case.1)??;
+    Ok(is_exactly(&pre, case.2))
+}
+
+#[test]
+fn goes_back_over_edges(rt: HostRuntime) -> Result<(), Fail> {
+    for (place, case) in CASES.iter().enumerate() {
+        assert!(rt; gives(rt.alloc(), case)?, "{place}");
     }
-    Ok(atoms.len() == rows.len() && pre.inexact.is_none())
+    Ok(())
 }
 
-/// Slot 1 becomes a multiple of slot 0 and a constant.
-fn assign(alloc: Global, coefficient: i64, constant: i64) -> Result<Edge, Fail>
-    ensures { IfOk result (λ edge. is_call edge ≡ false) }
-{
-    let parts = LinParts::from_vec(vec![in alloc; (coefficient, 0)]?);
-    Ok(Edge::Assign {
-        from: 1,
-        to: 2,
-        slot: 1,
-        value: Lin { parts, constant },
+/// The entry with one parameter.
+fn entered(alloc: Global) -> Result<Pre, Fail> {
+    let entry = Edge::Entry { to: 1, params: 1 };
+    let target: [Row; 1] = [(&[(2, 0), (3, 1), (1, 10_000)], -7)];
+    let target = cube_of(alloc, &target)?;
+    Ok(preimage(alloc, &entry, &target)??)
+}
+
+#[test]
+fn enters(rt: HostRuntime) -> Result<(), Fail> {
+    let pre = entered(rt.alloc())?;
+    assert!(rt; is_exactly(&pre, &[(&[(10_000, 3)], -7)]));
+    Ok(())
+}
+
+/// What is told of the first pair of an elimination: its column, its upper and its lower row.
+type Told<'a> = (u32, Plain<'a>, Plain<'a>);
+
+/// An edge and a target whose preimage isn't exact, the rows, and the pair.
+type Inexact<'a> = (Does<'a>, &'a [Row<'a>], &'a [Plain<'a>], Told<'a>);
+
+const INEXACT: [Inexact; 2] = [
+    (
+        Does::Input(0),
+        &[(&[(2, 0), (-1, 1)], 0), (&[(1, 2), (-2, 0)], 0)],
+        &[(&[(1, -1), (2, 1)], 0)],
+        (0, (&[(0, 2), (1, -1)], 0), (&[(0, -2), (2, 1)], 0)),
+    ),
+    // the half of slot 0 is at most 5
+    (
+        HALF,
+        &[(&[(1, 1)], -5)],
+        &[(&[(0, 1)], -11)],
+        (1, (&[(0, -1), (1, 2)], 0), (&[(0, 1), (1, -2)], -1)),
+    ),
+];
+
+fn is_pair(pair: &Pair, told: &Told) -> bool {
+    pair.column == told.0
+        && is_term(&pair.upper.term, &told.1)
+        && is_term(&pair.lower.term, &told.2)
+}
+
+fn tells(pre: &Pre, told: &Told) -> bool {
+    match &pre.inexact {
+        Some(pair) => is_pair(pair, told),
+        None => false,
+    }
+}
+
+/// Whether each of the rows is one of the preimage's.
+fn has_each(pre: &Pre, rows: &[Plain]) -> bool {
+    rows.iter().all(|row| {
+        pre.cube
+            .atoms
+            .as_slice()
+            .iter()
+            .any(|atom| is_term(&atom.term, row))
     })
 }
 
-const INPUT: Edge = Edge::Input {
-    from: 1,
-    to: 2,
-    slot: 0,
-};
-
-#[test]
-fn assigns(rt: HostRuntime) -> Result<(), Fail> {
-    let alloc = rt.alloc();
-    let edge = assign(alloc, 1, 1)?;
-    let upper: Found = (&[(0, 1)], -9_223_372_036_854_775_806);
-    let lower: Found = (&[(0, -1)], -9_223_372_036_854_775_809);
-    let rows: [Found; 3] = [(&[(0, 1)], -4), upper, lower];
-    assert!(rt; gives(alloc, &edge, &[(&[(1, 1)], -5)], &rows)?);
-    let rows: [Found; 3] = [(&[], 1), upper, lower];
-    assert!(rt; gives(alloc, &edge, &[(&[(1, 1), (-1, 0)], 0)], &rows)?);
-    Ok(())
-}
-
-#[test]
-fn enters_and_returns(rt: HostRuntime) -> Result<(), Fail> {
-    let alloc = rt.alloc();
-    let entry = Edge::Entry { to: 1, params: 1 };
-    let rows: [Found; 1] = [(&[(10_000, 3)], -7)];
-    let target: [Row; 1] = [(&[(2, 0), (3, 1), (1, 10_000)], -7)];
-    assert!(rt; gives(alloc, &entry, &target, &rows)?);
-    let leave = Edge::Return {
-        from: 1,
-        to: 2,
-        slot: 3,
-    };
-    let rows: [Found; 1] = [(&[(3, 1), (10_000, -1)], -1)];
-    assert!(rt; gives(alloc, &leave, &[(&[(1, 20_000), (-1, 10_000)], -1)], &rows)?);
-    Ok(())
-}
-
-#[test]
-fn adds_the_rows_of_tests(rt: HostRuntime) -> Result<(), Fail> {
-    let alloc = rt.alloc();
-    let guard = Edge::Guard {
-        from: 1,
-        to: 2,
-        rows: cube_of(alloc, &[(&[(1, 0)], -1)])?,
-    };
-    let rows: [Found; 2] = [(&[(1, 1)], -2), (&[(0, 1)], -1)];
-    assert!(rt; gives(alloc, &guard, &[(&[(1, 1)], -2)], &rows)?);
-    let check = Edge::Assert {
-        from: 1,
-        to: 2,
-        id: 7,
-        rows: cube_of(alloc, &[(&[(-1, 0)], 3)])?,
-    };
-    let rows: [Found; 2] = [(&[(1, 1)], -2), (&[(0, -1)], 3)];
-    assert!(rt; gives(alloc, &check, &[(&[(1, 1)], -2)], &rows)?);
-    Ok(())
-}
-
-#[test]
-fn forgets_a_slot(rt: HostRuntime) -> Result<(), Fail> {
-    let alloc = rt.alloc();
-    assert!(rt; gives(alloc, &INPUT, &[(&[(1, 0)], -5), (&[(-1, 0)], 5)], &[])?);
-    let pick = Edge::Pick {
-        from: 1,
-        to: 2,
-        slot: 0,
-        rows: cube_of(alloc, &[(&[(1, 0), (-1, 1)], 0), (&[(1, 1), (-1, 0)], 0)])?,
-    };
-    let rows: [Found; 2] = [(&[(1, 1)], -5), (&[(1, -1)], -9_223_372_036_854_775_808)];
-    assert!(rt; gives(alloc, &pick, &[(&[(1, 0)], -5)], &rows)?);
-    Ok(())
+fn is_inexact(alloc: Global, case: &Inexact) -> Result<bool, Fail> {
+    let pre = preimage_over(alloc, case.0, case.1)??;
+    Ok(tells(&pre, &case.3) && has_each(&pre, case.2))
 }
 
 #[test]
 fn tells_the_inexact_pair(rt: HostRuntime) -> Result<(), Fail> {
-    let alloc = rt.alloc();
-    let target = cube_of(alloc, &[(&[(2, 0), (-1, 1)], 0), (&[(1, 2), (-2, 0)], 0)])?;
-    let pre = pre(alloc, &INPUT, &target)?;
-    let Some(pair) = &pre.inexact else {
-        return Err(Fail::from("no pair"));
-    };
-    assert_eq!(rt; pair.column, 0);
-    assert!(rt; is_row(&pair.upper, &(&[(0, 2), (1, -1)], 0)));
-    assert!(rt; is_row(&pair.lower, &(&[(0, -2), (2, 1)], 0)));
+    for (place, case) in INEXACT.iter().enumerate() {
+        assert!(rt; is_inexact(rt.alloc(), case)?, "{place}");
+    }
     Ok(())
+}
+
+/// The kind of a limit, if it was met at one summand.
+fn at_one_summand(kept: &Kept) -> Option<LimitKind> {
+    match &kept.question {
+        Question::Combine(summands, 0) if summands.as_slice().len() == 1 => {
+            Some(kept.limit.kind())
+        }
+        _ => None,
+    }
+}
+
+fn limit_of(pre: &Result<Pre, ProjectionError>) -> Option<LimitKind> {
+    match pre {
+        Err(ProjectionError::Limit(kept)) => at_one_summand(kept),
+        _ => None,
+    }
 }
 
 #[test]
 fn keeps_a_wide_sum(rt: HostRuntime) -> Result<(), Fail> {
-    let alloc = rt.alloc();
-    let edge = assign(alloc, 1 << 41, 0)?;
-    let Err(ProjectionError::Limit(kept)) = pre(alloc, &edge, &cube_of(alloc, &[])?) else {
-        return Err(Fail::from("no limit"));
-    };
-    assert!(rt;
-        matches!(&kept.question, Question::Combine(summands, 0) if summands.as_slice().len() == 1)
-    );
-    assert!(rt;
-        matches!(
-            &kept.limit,
-            Limit::Wide {
-                branch: Question::Combine(..)
-            }
-        )
-    );
+    let wide = Does::Assign(1, (&[(2_199_023_255_552, 0)], 0));
+    let pre = preimage_over(rt.alloc(), wide, &[])?;
+    assert!(rt; limit_of(&pre) == Some(LimitKind::Wide));
     Ok(())
 }

@@ -1,6 +1,8 @@
 //! Programs of texts, and what sums and rows are at slots.
 
-ghost use Rattle.std.specs.Prelude.{◌≤◌, length};
+ghost use Rattle.std.specs.Prelude.{◌≤◌, length, IfOk};
+ghost use Rattle.c_tree.specs.WellFormed.{DividesByLiterals};
+ghost use Rattle.c_tree.specs.Whole.{program_of as whole};
 
 use c_lexer::scan::lex;
 use c_parser::parse::parse;
@@ -20,7 +22,9 @@ fn tree_of(alloc: Global, bytes: &[u8]) -> Result<Tree, Fail>
     Ok(parse(alloc, bytes, &tokens)?)
 }
 
-pub fn program_of(rt: &impl Abort, alloc: Global, text: &str) -> Result<Program, Fail> {
+pub fn program_of(rt: &impl Abort, alloc: Global, text: &str) -> Result<Program, Fail>
+    ensures { IfOk result (λ p. DividesByLiterals (whole p)) }
+{
     let bytes = text.as_bytes();
     assert!(rt; bytes.len() <= 65_536);
     let tree = tree_of(alloc, bytes)?;
@@ -58,4 +62,61 @@ pub fn hold(slots: &[i64], rows: &Cube) -> bool {
         }
     }
     true
+}
+
+/// The values that a slot may have.
+#[derive(Clone, Copy)]
+pub struct Bounds {
+    pub low: i64,
+    pub high: i64,
+}
+
+/// A quotient by a number above 0, rounded down.
+fn floor_of(number: i128, by: i128) -> Option<i128> {
+    let quotient = number.checked_div(by)?;
+    if number.checked_rem(by)? < 0 {
+        quotient.checked_sub(1)
+    } else {
+        Some(quotient)
+    }
+}
+
+/// The values at most, or at least, where a multiple of them and the rest are at most 0.
+fn narrowed(bounds: Bounds, coefficient: i128, rest: i128) -> Option<Bounds> {
+    let negated = rest.checked_neg()?;
+    let mut bounds = bounds;
+    if coefficient > 0 {
+        let high = floor_of(negated, coefficient)?;
+        bounds.high = i64::try_from(high.min(i128::from(bounds.high))).ok()?;
+    } else if coefficient < 0 {
+        let low = floor_of(negated, coefficient.checked_neg()?)?.checked_neg()?;
+        bounds.low = i64::try_from(low.max(i128::from(bounds.low))).ok()?;
+    } else if rest > 0 {
+        return None;
+    }
+    Some(bounds)
+}
+
+/// What a row has beside the slot.
+fn rest_of(slots: &[i64], slot: Slot, row: &Atom) -> Option<i128> {
+    let mut sum = row.term.constant();
+    for (other, coefficient) in row.term.parts() {
+        if *other != slot {
+            sum = plus(sum, *coefficient, slots, *other)?;
+        }
+    }
+    Some(sum)
+}
+
+/// The values of a slot with which the rows hold, where the other slots have these values.
+pub fn bounds_of(slots: &[i64], slot: Slot, rows: &Cube) -> Option<Bounds> {
+    let mut bounds = Bounds {
+        low: i64::MIN,
+        high: i64::MAX,
+    };
+    for row in rows.atoms.as_slice() {
+        let rest = rest_of(slots, slot, row)?;
+        bounds = narrowed(bounds, row.term.coefficient(slot), rest)?;
+    }
+    Some(bounds)
 }

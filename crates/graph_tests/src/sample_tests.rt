@@ -1,256 +1,270 @@
-// A procedure that calls another one.
+// Two procedures, of which one calls the other, built by hand and read back.
 
-ghost use Rattle.std.specs.Prelude.{◌≡◌, IfOk};
-ghost use Rattle.graph_tests.specs.steps.Sample.{rows_of, value_of_slots, caller_of, callee_of};
-
-use c_tree::tree::Slot;
-use flow_graph::graph::{Edge, Edges, Graph, Lin, LinParts, Slots};
-use flow_graph::graphs::{GraphList, Graphs};
-use linear_formula::formula::{Atom, Atoms, Cube};
-use linear_formula::term::{Parts, Term};
-use std::alloc::{AllocError, Global};
+use flow_graph::graph::{Edge, Graph, Lin};
+use flow_graph::graphs::Graphs;
+use linear_formula::formula::{Atom, Cube};
+use std::alloc::Global;
 use std::test::Fail;
+use test_forms::edges::{Does, Step};
+use test_forms::error::FormError;
+use test_forms::graphs::{Shape, graph_of, graphs_of};
+use test_forms::kept::Counts;
+use test_forms::rows::Row;
 
-fn rows(alloc: Global, slot: Slot) -> Result<Cube, AllocError>
-    ensures { IfOk result (λ c. c ≡ rows_of slot) }
-{
-    let parts = vec![in alloc; (slot, 1)]?;
-    let term = Term::new(Parts::from_vec(parts), -7);
-    let mut atoms = Atoms::new(alloc);
-    atoms.push(Atom { term })?;
-    Ok(Cube { atoms })
-}
+/// Slot 0 is at most 7.
+const ROWS: &[Row] = &[(&[(1, 0)], -7)];
 
-fn value(alloc: Global) -> Result<Lin, AllocError>
-    ensures { IfOk result (λ v. v ≡ value_of_slots) }
-{
-    let parts = LinParts::from_vec(vec![in alloc; (2, 0), (-1, 1)]?);
-    Ok(Lin { parts, constant: 9 })
-}
-
-fn caller_edges(alloc: Global) -> Result<Edges, AllocError>
-    ensures { IfOk result (λ edges. edges ≡ caller_of) }
-{
-    let entry = Edge::Entry { to: 2, params: 1 };
-    let rows_hold = Edge::Guard {
-        from: 2,
-        to: 3,
-        rows: rows(alloc, 0)?,
-    };
-    let fails = Edge::Assert {
-        from: 2,
-        to: 1,
-        id: 0,
-        rows: rows(alloc, 0)?,
-    };
-    let calls = Edge::Call {
-        from: 3,
-        to: 4,
-        proc: 1,
-        args: Slots::from_vec(vec![in alloc; 0]?),
-        slot: 1,
-    };
-    let assigns = Edge::Assign {
-        from: 4,
-        to: 5,
-        slot: 2,
-        value: value(alloc)?,
-    };
-    let returns = Edge::Return {
-        from: 5,
-        to: 0,
-        slot: 2,
-    };
-    let edges = vec![in alloc; entry, rows_hold, fails, calls, assigns, returns]?;
-    Ok(Edges::from_vec(edges))
-}
-
-fn callee_edges(alloc: Global) -> Result<Edges, AllocError>
-    ensures { IfOk result (λ edges. edges ≡ callee_of) }
-{
-    let entry = Edge::Entry { to: 2, params: 1 };
-    let reads = Edge::Input {
-        from: 2,
-        to: 3,
-        slot: 1,
-    };
-    let picks = Edge::Pick {
-        from: 2,
-        to: 3,
-        slot: 1,
-        rows: rows(alloc, 1)?,
-    };
-    let returns = Edge::Return {
-        from: 3,
-        to: 0,
-        slot: 1,
-    };
-    let edges = vec![in alloc; entry, reads, picks, returns]?;
-    Ok(Edges::from_vec(edges))
-}
-
-fn caller(alloc: Global) -> Result<Graph, AllocError>
-    ensures { IfOk result (λ g. g.edges ≡ caller_of) }
-{
-    let edges = caller_edges(alloc)?;
-    Ok(Graph::new(6, 0, 1, 1, 3, edges))
-}
-
-fn callee(alloc: Global) -> Result<Graph, AllocError>
-    ensures params { IfOk result (λ g. g.params ≡ 1) }
-    ensures edges { IfOk result (λ g. g.edges ≡ callee_of) }
-{
-    let edges = callee_edges(alloc)?;
-    Ok(Graph::new(4, 0, 1, 1, 2, edges))
-}
-
-fn are_rows(rows: &Cube, slot: Slot) -> bool {
-    match rows.atoms.as_slice() {
-        [row] => row.term.parts() == [(slot, 1)].as_slice() && row.term.constant() == -7,
-        _ => false,
-    }
-}
-
-fn is_value(value: &Lin) -> bool {
-    value.parts.as_slice() == [(2, 0), (-1, 1)].as_slice() && value.constant == 9
-}
-
-/// Whether the caller has this edge there.
-fn is_caller_edge(place: usize, edge: &Edge) -> bool {
-    match (place, edge) {
-        (0, Edge::Entry { to: 2, params: 1 }) => true,
-        (
-            1,
-            Edge::Guard {
-                from: 2,
-                to: 3,
-                rows,
-            },
-        ) => are_rows(rows, 0),
-        (
-            2,
-            Edge::Assert {
-                from: 2,
-                to: 1,
-                id: 0,
-                rows,
-            },
-        ) => are_rows(rows, 0),
+const CALLER: Shape = Shape {
+    counts: Counts {
+        nodes: 6,
+        params: 1,
+        exits: 1,
+        slots: 3,
+    },
+    steps: &[
+        (2, 3, Does::Guard(ROWS)),
+        (2, 1, Does::Assert(0, ROWS)),
         (
             3,
-            Edge::Call {
-                from: 3,
-                to: 4,
-                proc: 1,
-                args,
-                slot: 1,
-            },
-        ) => args.as_slice() == [0].as_slice(),
-        (
             4,
-            Edge::Assign {
-                from: 4,
-                to: 5,
-                slot: 2,
-                value,
+            Does::Call {
+                proc: 1,
+                args: &[0],
+                results: &[1, 0],
             },
-        ) => is_value(value),
+        ),
+        (4, 5, Does::Assign(2, (&[(2, 0), (-1, 1)], 9))),
+        (5, 0, Does::Return(&[2])),
+    ],
+};
+
+const CALLEE: Shape = Shape {
+    counts: Counts {
+        nodes: 4,
+        params: 1,
+        exits: 2,
+        slots: 2,
+    },
+    steps: &[
+        (2, 3, Does::Input(1)),
+        (2, 3, Does::Pick(1, ROWS)),
+        (3, 0, Does::Return(&[1, 1])),
+    ],
+};
+
+fn is_row(atom: &Atom, row: &Row) -> bool {
+    let parts = atom.term.parts();
+    for (part, (multiple, column)) in parts.iter().zip(row.0) {
+        if *part != (*column, i128::from(*multiple)) {
+            return false;
+        }
+    }
+    parts.len() == row.0.len() && atom.term.constant() == i128::from(row.1)
+}
+
+fn are_these(cube: &Cube, rows: &[Row]) -> bool {
+    let atoms = cube.atoms.as_slice();
+    for (atom, row) in atoms.iter().zip(rows) {
+        if !is_row(atom, row) {
+            return false;
+        }
+    }
+    atoms.len() == rows.len()
+}
+
+fn is_sum(value: &Lin, row: &Row) -> bool {
+    value.parts.as_slice() == row.0 && value.constant == row.1
+}
+
+/// Whether the edge does this.
+fn does_it(edge: &Edge, does: &Does) -> bool {
+    match (edge, does) {
+        (Edge::Assign { slot, value, .. }, Does::Assign(x, row)) => slot == x && is_sum(value, row),
+        (Edge::Guard { rows, .. }, Does::Guard(wanted)) => are_these(rows, wanted),
+        (Edge::Input { slot, .. }, Does::Input(x)) => slot == x,
+        (Edge::Pick { slot, rows, .. }, Does::Pick(x, wanted)) => {
+            slot == x && are_these(rows, wanted)
+        }
         (
-            5,
-            Edge::Return {
-                from: 5,
-                to: 0,
-                slot: 2,
+            Edge::Call {
+                proc,
+                args,
+                results,
+                ..
             },
-        ) => true,
+            Does::Call {
+                proc: other,
+                args: passed,
+                results: stored,
+            },
+        ) => proc == other && args.as_slice() == *passed && results.as_slice() == *stored,
+        (Edge::Assert { id, rows, .. }, Does::Assert(number, wanted)) => {
+            id == number && are_these(rows, wanted)
+        }
+        (Edge::Return { slots, .. }, Does::Return(returned)) => slots.as_slice() == *returned,
         _ => false,
     }
 }
 
-/// Whether the callee has this edge there.
-fn is_callee_edge(place: usize, edge: &Edge) -> bool {
-    match (place, edge) {
-        (0, Edge::Entry { to: 2, params: 1 }) => true,
-        (
-            1,
-            Edge::Input {
-                from: 2,
-                to: 3,
-                slot: 1,
-            },
-        ) => true,
-        (
-            2,
-            Edge::Pick {
-                from: 2,
-                to: 3,
-                slot: 1,
-                rows,
-            },
-        ) => are_rows(rows, 1),
-        (
-            3,
-            Edge::Return {
-                from: 3,
-                to: 0,
-                slot: 1,
-            },
-        ) => true,
+fn is_step(edge: &Edge, step: &Step) -> bool {
+    edge.source() == Some(step.0) && edge.target() == step.1 && does_it(edge, &step.2)
+}
+
+fn are_steps(edges: &[Edge], steps: &[Step]) -> bool {
+    for (edge, step) in edges.iter().zip(steps) {
+        if !is_step(edge, step) {
+            return false;
+        }
+    }
+    edges.len() == steps.len()
+}
+
+/// Whether edge 0 is the entry, and the steps stand behind it.
+fn has_edges(edges: &[Edge], shape: &Shape) -> bool {
+    match edges {
+        [Edge::Entry { to: 2, params }, rest @ ..] => {
+            *params == shape.counts.params && are_steps(rest, shape.steps)
+        }
         _ => false,
     }
 }
 
-fn sample(alloc: Global) -> Result<Graphs, AllocError> {
-    let graphs = vec![in alloc; caller(alloc)?, callee(alloc)?]?;
-    Ok(Graphs::new(GraphList::from_vec(graphs)))
+fn is_shaped(graph: &Graph, shape: &Shape) -> bool {
+    let counts = shape.counts;
+    (graph.nodes, graph.exit, graph.fail) == (counts.nodes, 0, 1)
+        && (graph.params, graph.exits, graph.slots) == (counts.params, counts.exits, counts.slots)
+        && has_edges(graph.edges.as_slice(), shape)
 }
 
-/// The nodes, the exit, the failure, the parameters, the slots and the edges.
-fn numbers(graph: &Graph) -> [usize; 6] {
-    [
-        graph.nodes as usize,
-        graph.exit as usize,
-        graph.fail as usize,
-        graph.params as usize,
-        graph.slots as usize,
-        graph.edges.as_slice().len(),
-    ]
-}
-
-/// The first edge that isn't the caller's.
-fn other_in_caller(edges: &[Edge]) -> Option<usize> {
-    for (place, edge) in edges.iter().enumerate() {
-        if !is_caller_edge(place, edge) {
-            return Some(place);
-        }
+fn are_both(graphs: &Graphs) -> bool {
+    match graphs.graphs.as_slice() {
+        [caller, callee] => is_shaped(caller, &CALLER) && is_shaped(callee, &CALLEE),
+        _ => false,
     }
-    None
-}
-
-/// The first edge that isn't the callee's.
-fn other_in_callee(edges: &[Edge]) -> Option<usize> {
-    for (place, edge) in edges.iter().enumerate() {
-        if !is_callee_edge(place, edge) {
-            return Some(place);
-        }
-    }
-    None
 }
 
 #[test]
-fn reads_the_caller_back(rt: HostRuntime) -> Result<(), Fail> {
-    let graphs = sample(rt.alloc())?;
-    let graph = graphs.graphs.as_slice().first().ok_or("no graph")?;
-    assert_eq!(rt; numbers(graph), [6, 0, 1, 1, 3, 6]);
-    assert_eq!(rt; other_in_caller(graph.edges.as_slice()), None);
+fn reads_graphs_back(rt: HostRuntime) -> Result<(), Fail> {
+    let graphs = graphs_of(rt.alloc(), &[CALLER, CALLEE])?;
+    assert!(rt; are_both(&graphs));
     Ok(())
 }
 
+const COUNTS: Counts = Counts {
+    nodes: 4,
+    params: 1,
+    exits: 1,
+    slots: 2,
+};
+
+/// One edge, or two, that are no graph's.
+const NO_GRAPHS: [&[Step]; 8] = [
+    // a node that isn't there
+    &[(2, 4, Does::Input(0))],
+    // from the exit, and back to the node behind the entry
+    &[(0, 3, Does::Input(0))],
+    &[(3, 2, Does::Input(0))],
+    // a slot that isn't there
+    &[(2, 3, Does::Guard(&[(&[(1, 2)], 0)]))],
+    // a return that leads elsewhere, and what isn't one to the exit
+    &[(2, 3, Does::Return(&[0]))],
+    &[(2, 0, Does::Input(0))],
+    // a return of two values
+    &[(2, 0, Does::Return(&[0, 1]))],
+    // a result twice
+    &[(
+        2,
+        3,
+        Does::Call {
+            proc: 0,
+            args: &[0],
+            results: &[1, 1],
+        },
+    )],
+];
+
+fn fault_of(alloc: Global, steps: &[Step]) -> Option<FormError> {
+    let shape = Shape {
+        counts: COUNTS,
+        steps,
+    };
+    match graph_of(alloc, &shape) {
+        Ok(_) => None,
+        Err(error) => Some(error),
+    }
+}
+
 #[test]
-fn reads_the_callee_back(rt: HostRuntime) -> Result<(), Fail> {
-    let graphs = sample(rt.alloc())?;
-    let graph = graphs.graphs.as_slice().get(1).ok_or("no second graph")?;
-    assert_eq!(rt; numbers(graph), [4, 0, 1, 1, 2, 4]);
-    assert_eq!(rt; other_in_callee(graph.edges.as_slice()), None);
+fn other_edges_are_no_graph(rt: HostRuntime) -> Result<(), Fail> {
+    for (place, steps) in NO_GRAPHS.iter().enumerate() {
+        assert!(rt;
+            fault_of(rt.alloc(), steps) == Some(FormError::NoGraph),
+            "{place}"
+        );
+    }
+    Ok(())
+}
+
+/// Calls of procedure 1 with other numbers of arguments or results than it has.
+const WRONG_CALLS: [[Shape; 2]; 3] = [
+    [
+        Shape {
+            counts: COUNTS,
+            steps: &[(
+                2,
+                3,
+                Does::Call {
+                    proc: 1,
+                    args: &[0],
+                    results: &[1],
+                },
+            )],
+        },
+        CALLEE,
+    ],
+    [
+        Shape {
+            counts: COUNTS,
+            steps: &[(
+                2,
+                3,
+                Does::Call {
+                    proc: 1,
+                    args: &[0, 0],
+                    results: &[0, 1],
+                },
+            )],
+        },
+        CALLEE,
+    ],
+    [
+        Shape {
+            counts: COUNTS,
+            steps: &[(
+                2,
+                3,
+                Does::Call {
+                    proc: 1,
+                    args: &[],
+                    results: &[0, 1],
+                },
+            )],
+        },
+        CALLEE,
+    ],
+];
+
+fn calls_wrongly(alloc: Global, shapes: &[Shape]) -> bool {
+    match graphs_of(alloc, shapes) {
+        Err(FormError::NoSuchCall) => true,
+        _ => false,
+    }
+}
+
+#[test]
+fn calls_with_other_lists_are_no_program(rt: HostRuntime) -> Result<(), Fail> {
+    for (place, shapes) in WRONG_CALLS.iter().enumerate() {
+        assert!(rt; calls_wrongly(rt.alloc(), shapes), "{place}");
+    }
     Ok(())
 }

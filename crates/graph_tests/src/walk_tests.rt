@@ -1,11 +1,15 @@
 //! The graphs of programs, walked edge by edge: each walk ends as the replay of the program does,
 //! with as many inputs used.
 
-use crate::programs::{hold, lin_value, program_of};
+use crate::globals::GLOBALS;
+use crate::programs::{Bounds, bounds_of, hold, lin_value, program_of};
+use crate::quotients::{DIVIDENDS, DIVIDING, DIVISIONS};
 use crate::sources::{CONTEXTS, EXPRESSIONS, HEAD, PROGRAMS, SHARED};
 use c_tree::tree::{ProcId, Program, Slot};
 use flow_build::build::build;
 use flow_graph::graph::{Edge, Graph};
+use flow_graph::graphs::Graphs;
+use linear_formula::formula::Cube;
 use run_replay::{Outcome, replay};
 use std::alloc::Global;
 use std::process::Abort;
@@ -14,13 +18,13 @@ use std::test::Fail;
 /// The most steps of a walk, and of a replay.
 const STEPS: u32 = 10_000;
 
-/// A frame at a node. While it waits for a call, `takes` is the slot for what that returns.
-#[derive(Debug, Drop)]
-struct Frame {
+/// A frame at a node. While it waits for a call, `takes` are the slots for what that returns.
+#[derive(Drop)]
+struct Frame<'a> {
     procedure: ProcId,
     node: u32,
     slots: Vec<i64>,
-    takes: Slot,
+    takes: &'a [Slot],
 }
 
 /// A walk over graphs.
@@ -29,9 +33,19 @@ struct Walk<'a> {
     graphs: &'a [Graph],
     inputs: &'a [i64],
     used: usize,
-    frames: Vec<Frame>,
-    /// At each node so far at most one edge was possible.
+    frames: Vec<Frame<'a>>,
+    /// At each node so far at most one edge was possible, and one value where one was picked.
     clear: bool,
+}
+
+/// The values with which the rows hold, if there are any.
+fn picked(slots: &[i64], slot: Slot, rows: &Cube) -> Option<Bounds> {
+    let bounds = bounds_of(slots, slot, rows)?;
+    if bounds.low <= bounds.high {
+        Some(bounds)
+    } else {
+        None
+    }
 }
 
 /// Whether there is a step over the edge from a node at these slots.
@@ -42,11 +56,25 @@ fn is_possible(edge: &Edge, node: u32, slots: &[i64]) -> bool {
         Edge::Guard { from, rows, .. } | Edge::Assert { from, rows, .. } => {
             *from == node && hold(slots, rows)
         }
-        Edge::Input { from, .. }
-        | Edge::Pick { from, .. }
-        | Edge::Call { from, .. }
-        | Edge::Return { from, .. } => *from == node,
+        Edge::Pick {
+            from,
+            slot,
+            rows,
+            ..
+        } => *from == node && picked(slots, *slot, rows).is_some(),
+        Edge::Input { from, .. } | Edge::Call { from, .. } | Edge::Return { from, .. } => {
+            *from == node
+        }
     }
+}
+
+/// The values of these slots.
+fn values_of(alloc: Global, all: &[i64], slots: &[Slot]) -> Result<Vec<i64>, Fail> {
+    let mut values = Vec::new(alloc);
+    for slot in slots {
+        values.push(*all.get(*slot as usize).ok_or("no slot")?)?;
+    }
+    Ok(values)
 }
 
 impl<'a> Walk<'a> {
@@ -62,13 +90,13 @@ impl<'a> Walk<'a> {
             procedure,
             node: *to,
             slots,
-            takes: 0,
+            takes: &[],
         })?;
         Ok(())
     }
 
     /// The frame goes on at a node, where a slot has a value.
-    fn resume(&mut self, frame: Frame, node: u32, slot: Slot, value: i64) -> Result<(), Fail> {
+    fn resume(&mut self, frame: Frame<'a>, node: u32, slot: Slot, value: i64) -> Result<(), Fail> {
         let mut frame = frame;
         *frame.slots.get_mut(slot as usize).ok_or("no slot")? = value;
         frame.node = node;
@@ -77,7 +105,7 @@ impl<'a> Walk<'a> {
     }
 
     /// The one possible edge at the node, if there is one.
-    fn way(&mut self, frame: &Frame) -> Result<Option<&'a Edge>, Fail> {
+    fn way(&mut self, frame: &Frame<'a>) -> Result<Option<&'a Edge>, Fail> {
         let graphs = self.graphs;
         let graph = graphs.get(frame.procedure as usize).ok_or("no graph")?;
         let mut way = None;
@@ -90,14 +118,19 @@ impl<'a> Walk<'a> {
         Ok(way)
     }
 
-    /// What a frame returns goes to the one that waits for it.
-    fn give_back(&mut self, value: i64) -> Result<Option<Outcome>, Fail> {
+    /// What a frame returns goes to the one that waits for it, all at once.
+    fn give_back(&mut self, values: &[i64]) -> Result<Option<Outcome>, Fail> {
         let Some(frame) = self.frames.pop() else {
-            return Ok(Some(Outcome::Returned(value)));
+            return Ok(Some(Outcome::Returned(*values.first().ok_or("no value")?)));
         };
-        let node = frame.node;
-        let slot = frame.takes;
-        self.resume(frame, node, slot, value)?;
+        let mut frame = frame;
+        if frame.takes.len() != values.len() {
+            return Err(Fail::new("another number of values"));
+        }
+        for (slot, value) in frame.takes.iter().zip(values) {
+            *frame.slots.get_mut(*slot as usize).ok_or("no slot")? = *value;
+        }
+        self.frames.push(frame)?;
         Ok(None)
     }
 
@@ -105,17 +138,14 @@ impl<'a> Walk<'a> {
     fn call(
         &mut self,
         alloc: Global,
-        frame: Frame,
+        frame: Frame<'a>,
         node: u32,
         procedure: ProcId,
         arguments: &[Slot],
-        takes: Slot,
+        takes: &'a [Slot],
     ) -> Result<Option<Outcome>, Fail> {
         let mut frame = frame;
-        let mut values = Vec::new(alloc);
-        for slot in arguments {
-            values.push(*frame.slots.get(*slot as usize).ok_or("no slot")?)?;
-        }
+        let values = values_of(alloc, &frame.slots, arguments)?;
         frame.node = node;
         frame.takes = takes;
         self.frames.push(frame)?;
@@ -124,7 +154,12 @@ impl<'a> Walk<'a> {
     }
 
     /// Over an edge.
-    fn go(&mut self, alloc: Global, frame: Frame, edge: &Edge) -> Result<Option<Outcome>, Fail> {
+    fn go(
+        &mut self,
+        alloc: Global,
+        frame: Frame<'a>,
+        edge: &'a Edge,
+    ) -> Result<Option<Outcome>, Fail> {
         let mut frame = frame;
         match edge {
             Edge::Assign {
@@ -151,15 +186,29 @@ impl<'a> Walk<'a> {
                 to,
                 proc,
                 args,
-                slot,
+                results,
                 ..
-            } => return self.call(alloc, frame, *to, *proc, args.as_slice(), *slot),
-            Edge::Assert { id, .. } => return Ok(Some(Outcome::Failed(*id))),
-            Edge::Return { slot, .. } => {
-                let value = *frame.slots.get(*slot as usize).ok_or("no slot")?;
-                return self.give_back(value);
+            } => {
+                return self.call(
+                    alloc,
+                    frame,
+                    *to,
+                    *proc,
+                    args.as_slice(),
+                    results.as_slice(),
+                );
             }
-            Edge::Entry { .. } | Edge::Pick { .. } => return Err(Fail::new("no such edge")),
+            Edge::Assert { id, .. } => return Ok(Some(Outcome::Failed(*id))),
+            Edge::Return { slots, .. } => {
+                let values = values_of(alloc, &frame.slots, slots.as_slice())?;
+                return self.give_back(&values);
+            }
+            Edge::Pick { to, slot, rows, .. } => {
+                let bounds = picked(&frame.slots, *slot, rows).ok_or("no value")?;
+                self.clear = self.clear && bounds.low == bounds.high;
+                self.resume(frame, *to, *slot, bounds.low)?;
+            }
+            Edge::Entry { .. } => return Err(Fail::new("no such edge")),
         }
         Ok(None)
     }
@@ -178,9 +227,9 @@ impl<'a> Walk<'a> {
     }
 }
 
-/// How a walk ended.
-#[derive(Clone, Copy)]
-struct Walked {
+/// How a walk ended, or a replay.
+#[derive(Clone, Copy, PartialEq)]
+struct Ended {
     outcome: Outcome,
     used: usize,
     clear: bool,
@@ -191,7 +240,7 @@ fn end_of_walk(
     graphs: &[Graph],
     main: ProcId,
     inputs: &[i64],
-) -> Result<Walked, Fail> {
+) -> Result<Ended, Fail> {
     let mut walk = Walk {
         graphs,
         inputs,
@@ -201,57 +250,67 @@ fn end_of_walk(
     };
     walk.enter(main, Vec::new(alloc))?;
     let outcome = walk.outcome(alloc)?;
-    Ok(Walked {
+    Ok(Ended {
         outcome,
         used: walk.used,
         clear: walk.clear,
     })
 }
 
-/// The walk and the replay end alike.
-fn agree(
-    rt: &impl Abort,
-    alloc: Global,
-    text: &str,
-    program: &Program,
-    graphs: &[Graph],
-    inputs: &[i64],
-) -> Result<(), Fail> {
-    let walked = end_of_walk(alloc, graphs, program.main, inputs)?;
+fn end_of_replay(alloc: Global, program: &Program, inputs: &[i64]) -> Result<Ended, Fail> {
     let replayed = replay(alloc, program, inputs, u64::from(STEPS))?;
-    assert_eq!(rt; walked.outcome, replayed.outcome, "{text} on {inputs:?}");
-    assert_eq!(rt;
-        (walked.used, walked.clear),
-        (replayed.used, true),
-        "{text} on {inputs:?}"
-    );
-    Ok(())
+    Ok(Ended {
+        outcome: replayed.outcome,
+        used: replayed.used,
+        clear: true,
+    })
 }
 
-fn all_agree(
-    rt: &impl Abort,
-    alloc: Global,
-    text: &str,
-    program: &Program,
-    graphs: &[Graph],
-    lists: &[&[i64]],
-) -> Result<(), Fail> {
-    for inputs in lists {
-        agree(rt, alloc, text, program, graphs, inputs)?;
+/// A program and its graphs.
+#[derive(Drop)]
+struct Built {
+    program: Program,
+    graphs: Graphs,
+}
+
+fn built_of(rt: &impl Abort, alloc: Global, text: &str) -> Result<Built, Fail> {
+    let program = program_of(rt, alloc, text)?;
+    let graphs = build(alloc, &program)?;
+    Ok(Built { program, graphs })
+}
+
+/// The first of the lists on which the walk and the replay end otherwise.
+fn first_other(alloc: Global, built: &Built, lists: &[&[i64]]) -> Result<Option<usize>, Fail> {
+    let graphs = built.graphs.graphs.as_slice();
+    for (place, inputs) in lists.iter().enumerate() {
+        let walked = end_of_walk(alloc, graphs, built.program.main, inputs)?;
+        if walked != end_of_replay(alloc, &built.program, inputs)? {
+            return Ok(Some(place));
+        }
     }
-    Ok(())
+    Ok(None)
 }
 
 /// Walks and replays a program on inputs.
 fn compare(rt: &impl Abort, alloc: Global, text: &str, lists: &[&[i64]]) -> Result<(), Fail> {
-    let program = program_of(rt, alloc, text)?;
-    let graphs = build(alloc, &program)?;
-    all_agree(rt, alloc, text, &program, graphs.graphs.as_slice(), lists)
+    let built = built_of(rt, alloc, text)?;
+    let other = first_other(alloc, &built, lists)?;
+    assert!(rt; other.is_none(), "{text} on {other:?}");
+    Ok(())
 }
 
 #[test]
 fn programs_and_graphs_agree(rt: HostRuntime) -> Result<(), Fail> {
     for (text, lists) in PROGRAMS {
+        compare(&rt, rt.alloc(), text, lists)?;
+        compare(&rt, rt.alloc(), text, SHARED)?;
+    }
+    Ok(())
+}
+
+#[test]
+fn globals_and_graphs_agree(rt: HostRuntime) -> Result<(), Fail> {
+    for (text, lists) in GLOBALS {
         compare(&rt, rt.alloc(), text, lists)?;
         compare(&rt, rt.alloc(), text, SHARED)?;
     }
@@ -265,6 +324,67 @@ fn expressions_and_graphs_agree(rt: HostRuntime) -> Result<(), Fail> {
             let text = format!(in rt.alloc(); "{}{before}{expression}{behind} }}", HEAD)?;
             compare(&rt, rt.alloc(), text.as_str(), SHARED)?;
         }
+    }
+    Ok(())
+}
+
+#[test]
+fn divisions_and_graphs_agree(rt: HostRuntime) -> Result<(), Fail> {
+    for expression in DIVIDING {
+        for (before, behind) in CONTEXTS {
+            let text = format!(in rt.alloc(); "{}{before}{expression}{behind} }}", HEAD)?;
+            compare(&rt, rt.alloc(), text.as_str(), SHARED)?;
+        }
+    }
+    Ok(())
+}
+
+// Quotients
+
+/// How the replay of a program ends on this input.
+fn comes_to(alloc: Global, built: &Built, input: i64) -> Result<Outcome, Fail> {
+    Ok(end_of_replay(alloc, &built.program, &[input])?.outcome)
+}
+
+/// What the machine's own division gives.
+fn machine_gives(input: i64, divisor: i64, remainder: bool) -> Outcome {
+    let Some(quotient) = input.checked_div(divisor) else {
+        return Outcome::Stopped;
+    };
+    if remainder {
+        Outcome::Returned(input.wrapping_sub(quotient.wrapping_mul(divisor)))
+    } else {
+        Outcome::Returned(quotient)
+    }
+}
+
+/// The first dividend at which the walk, the replay or the machine's division end otherwise.
+fn other_quotient(
+    alloc: Global,
+    built: &Built,
+    divisor: i64,
+    remainder: bool,
+) -> Result<Option<i64>, Fail> {
+    for input in DIVIDENDS {
+        let wanted = machine_gives(*input, divisor, remainder);
+        let same = first_other(alloc, built, &[&[*input]])?.is_none();
+        if !same || comes_to(alloc, built, *input)? != wanted {
+            return Ok(Some(*input));
+        }
+    }
+    Ok(None)
+}
+
+/// Each sign of both sides, and the extreme values.
+#[test]
+fn quotients_are_those_of_the_machine(rt: HostRuntime) -> Result<(), Fail> {
+    for (divisor, mark, remainder) in DIVISIONS {
+        let text = format!(in rt.alloc();
+            "int main(){{ int x = input(); return x {mark} {divisor}; }}"
+        )?;
+        let built = built_of(&rt, rt.alloc(), text.as_str())?;
+        let other = other_quotient(rt.alloc(), &built, *divisor, *remainder)?;
+        assert!(rt; other.is_none(), "{other:?} {mark} {divisor}");
     }
     Ok(())
 }

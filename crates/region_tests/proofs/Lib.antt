@@ -1,3 +1,1 @@
-mod SmallGraph
-mod EntryGraph
 mod ReturningGraph

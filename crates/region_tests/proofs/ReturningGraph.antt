@@ -32,44 +32,47 @@ use Rattle.region_tests.specs.Returning.{AreReturning, IsEntryKill, barred_model
 none_later : (i : ℕ) (e : Edge) → slice_get returning_edges (suc (suc i)) ≡ Some e → ⊥
 none_later i e h = none-some e h
 
-return_edge : IsEdge 3 0 1 1 (Return 2 0 0)
+return_edge : IsEdge 3 0 1 1 1 (Return 2 0 (0 ∷ []))
 return_edge = record {
   leaves = λ n e. let same : 2 ≡ n = same_Some 2 n e in (omega arith, (λ x. omega arith), (λ x. omega arith));
   in_range = omega arith;
   slots_named = refl;
+  lists = refl;
   terms = refl;
   to_exit = refl;
   to_fail = refl;
 }
 
-each : (i : ℕ) (e : Edge) → slice_get returning_edges i ≡ Some e → IsEdge 3 0 1 1 e
-each zero e h = subst (IsEdge 3 0 1 1) (same_Some (Entry 2 1) e h) (record {
+each : (i : ℕ) (e : Edge) → slice_get returning_edges i ≡ Some e → IsEdge 3 0 1 1 1 e
+each zero e h = subst (IsEdge 3 0 1 1 1) (same_Some (Entry 2 1) e h) (record {
   leaves = λ n o. absurd (none-some n o);
   in_range = omega arith;
   slots_named = refl;
+  lists = refl;
   terms = refl;
   to_exit = refl;
   to_fail = refl;
 })
-each (suc zero) e h = subst (IsEdge 3 0 1 1) (same_Some (Return 2 0 0) e h) return_edge
+each (suc zero) e h = subst (IsEdge 3 0 1 1 1) (same_Some (Return 2 0 (0 ∷ [])) e h) return_edge
 each (suc (suc i)) e h = absurd (none_later i e h)
 
 no_entry : (i : ℕ) (e : Edge) → 0 < i → slice_get returning_edges i ≡ Some e → is_entry e ≡ false
 no_entry zero e low h = absurd (omega (arith, low))
-no_entry (suc zero) e low h = subst (λ x. is_entry x ≡ false) (same_Some (Return 2 0 0) e h) refl
+no_entry (suc zero) e low h = subst (λ x. is_entry x ≡ false) (same_Some (Return 2 0 (0 ∷ [])) e h) refl
 no_entry (suc (suc i)) e low h = absurd (none_later i e h)
 
 not_back : (i : ℕ) (e : Edge) → 0 < i → slice_get returning_edges i ≡ Some e → leads 1 e 2 ≡ false
 not_back zero e low h = absurd (omega (arith, low))
-not_back (suc zero) e low h = subst (λ x. leads 1 x 2 ≡ false) (same_Some (Return 2 0 0) e h) refl
+not_back (suc zero) e low h = subst (λ x. leads 1 x 2 ≡ false) (same_Some (Return 2 0 (0 ∷ [])) e h) refl
 not_back (suc (suc i)) e low h = absurd (none_later i e h)
 
-pub returning_graph : IsGraph 3 0 1 1 1 returning_edges
+pub returning_graph : IsGraph 3 0 1 1 1 1 returning_edges
 returning_graph = record {
   exit_named = omega arith;
   fail_named = omega arith;
   two_ends = λ e. omega (arith, e);
   params_in_slots = omega arith;
+  few_exits = omega arith;
   few_slots = omega arith;
   are_edges = each;
   begins = refl;
@@ -77,43 +80,45 @@ returning_graph = record {
   alone = not_back;
 }
 
-no_call : (i from to proc : ℕ) (args : List ℕ) (slot : ℕ) → slice_get returning_edges i ≡ Some (Call from to proc args slot) → ⊥
-no_call zero from to proc args slot h = let e : Entry 2 1 ≡ Call from to proc args slot = same_Some (Entry 2 1)
-    (Call from to proc args slot)
+no_call : (i from to proc : ℕ) (args results : List ℕ) → slice_get returning_edges i ≡ Some (Call from to proc args results) → ⊥
+no_call zero from to proc args results h = let e : Entry 2 1 ≡ Call from to proc args results = same_Some (Entry 2 1)
+    (Call from to proc args results)
     h in cc
-no_call (suc zero) from to proc args slot h = let e : Return 2 0 0 ≡ Call from to proc args slot = same_Some (Return 2 0 0)
-    (Call from to proc args slot) h in cc
-no_call (suc (suc i)) from to proc args slot h = none_later i (Call from to proc args slot) h
+no_call (suc zero) from to proc args results h =
+    let e : Return 2 0 (0 ∷ []) ≡ Call from to proc args results = same_Some (Return 2 0 (0 ∷ [])) (Call from to proc args results) h in
+    cc
+no_call (suc (suc i)) from to proc args results h = none_later i (Call from to proc args results) h
 
 -- no graph of the list calls
 pub one_graph : (gs : List Graph) → AreReturning gs → AreGraphs gs
 one_graph gs h = subst AreGraphs (sym h.1) single where
   single : AreGraphs (h.0 ∷ [])
-  single zero g at i from to proc args slot call =
+  single zero g at i from to proc args results call =
       let same : h.0 ≡ g = same_Some h.0 g at in
-      absurd (no_call i from to proc args slot (ap (λ es. slice_get es i) (sym h.2.edges) ∙ ap (λ (x : Graph). slice_get x.edges i) same
+      absurd (no_call i from to proc args results (ap (λ es. slice_get es i) (sym h.2.edges) ∙ ap (λ (x : Graph). slice_get x.edges i) same
       ∙ call))
-  single (suc p) g at i from to proc args slot call = absurd (none-some g at)
+  single (suc p) g at i from to proc args results call = absurd (none-some g at)
 
 -- The graph by its parts
 
-abbrev pub the_graph : IsGraph 3 0 1 1 1 returning_edges → Graph
-the_graph w = record { nodes = 3; exit = 0; fail = 1; params = 1; slots = 1; edges = returning_edges; well_formed = w }
+abbrev pub the_graph : IsGraph 3 0 1 1 1 1 returning_edges → Graph
+the_graph w = record { nodes = 3; exit = 0; fail = 1; params = 1; exits = 1; slots = 1; edges = returning_edges; well_formed = w }
 
-pub by_shape : (P : Graph → Type 0) → ((w : IsGraph 3 0 1 1 1 returning_edges) → P (the_graph w)) → (g : Graph) → IsReturning g → P g
+pub by_shape : (P : Graph → Type 0) → ((w : IsGraph 3 0 1 1 1 1 returning_edges) → P (the_graph w)) → (g : Graph) → IsReturning g → P g
 by_shape P h g s =
-    let Q : ℕ → ℕ → ℕ → ℕ → ℕ → List Edge → Type 0 = λ n e f p sl es. (w : IsGraph n e f p sl es) →
-    P (record { nodes = n; exit = e; fail = f; params = p; slots = sl; edges = es; well_formed = w }) in
-    subst (λ n. Q n g.exit g.fail g.params g.slots g.edges) (sym s.nodes)
-    (subst (λ n. Q 3 n g.fail g.params g.slots g.edges) (sym s.exit)
-    (subst (λ n. Q 3 0 n g.params g.slots g.edges) (sym s.fail)
-    (subst (λ n. Q 3 0 1 n g.slots g.edges) (sym s.params)
-    (subst (λ n. Q 3 0 1 1 n g.edges) (sym s.slots)
-    (subst (λ es. Q 3 0 1 1 1 es) (sym s.edges) h))))) g.well_formed
+    let Q : ℕ → ℕ → ℕ → ℕ → ℕ → ℕ → List Edge → Type 0 = λ n e f p x sl es. (w : IsGraph n e f p x sl es) →
+    P (record { nodes = n; exit = e; fail = f; params = p; exits = x; slots = sl; edges = es; well_formed = w }) in
+    subst (λ n. Q n g.exit g.fail g.params g.exits g.slots g.edges) (sym s.nodes)
+    (subst (λ n. Q 3 n g.fail g.params g.exits g.slots g.edges) (sym s.exit)
+    (subst (λ n. Q 3 0 n g.params g.exits g.slots g.edges) (sym s.fail)
+    (subst (λ n. Q 3 0 1 n g.exits g.slots g.edges) (sym s.params)
+    (subst (λ n. Q 3 0 1 1 n g.slots g.edges) (sym s.exits)
+    (subst (λ n. Q 3 0 1 1 1 n g.edges) (sym s.slots)
+    (subst (λ es. Q 3 0 1 1 1 1 es) (sym s.edges) h)))))) g.well_formed
 
 -- Steps
 
-module _ (w : IsGraph 3 0 1 1 1 returning_edges) where
+module _ (w : IsGraph 3 0 1 1 1 1 returning_edges) where
   abbrev enters : RegionEdge
   enters = record { edge = 0; from = 0; to = 3 }
 
@@ -181,7 +186,7 @@ module _ (w : IsGraph 3 0 1 1 1 returning_edges) where
     record {
       at = record {
         between = record {
-          edge = Return 2 0 0;
+          edge = Return 2 0 (0 ∷ []);
           source = region 2 [];
           target = region 0 [];
           at_edge = refl;
@@ -244,7 +249,7 @@ first_graph gs h = ap (λ l. slice_get l 0) h.1
 
 -- A kill
 
-module _ (w : IsGraph 3 0 1 1 1 returning_edges) where
+module _ (w : IsGraph 3 0 1 1 1 1 returning_edges) where
   by_row : IsRightStep ((record { parts = []; constant = pos 1 }) ∷ []) by_itself
   by_row = record {
     named = (omega arith, omega (arith, ints), tt);

@@ -17,13 +17,14 @@ use Rattle.query_rules.specs.Steps.{Model, begin_model, stepped}
 
 -- the entry, and a return from the node behind it
 abbrev pub returning_edges : List Edge
-returning_edges = Entry 2 1 ∷ Return 2 0 0 ∷ []
+returning_edges = Entry 2 1 ∷ Return 2 0 (0 ∷ []) ∷ []
 
 pub record IsReturning (g : Graph) : Type 0 where
   pub nodes : g.nodes ≡ 3
   pub exit : g.exit ≡ 0
   pub fail : g.fail ≡ 1
   pub params : g.params ≡ 1
+  pub exits : g.exits ≡ 1
   pub slots : g.slots ≡ 1
   pub edges : g.edges ≡ returning_edges
 

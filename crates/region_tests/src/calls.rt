@@ -1,345 +1,386 @@
 //! The queries that calls ask, and preimages over calls by a must.
 
-ghost use Rattle.std.specs.Prelude.{◌≡◌, ◌∷◌, [], pos, negsuc, true, IfOk, IsTrue};
-ghost use Rattle.flow_graph.specs.Shapes.{is_call};
-ghost use Rattle.summary_form.specs.Symbols.{is_symbol_column};
-
+use call_bridge::asking::Asking;
 use call_bridge::{ask_of, preimage_of};
-use flow_graph::graph::{Edge, Slots};
 use linear_formula::error::LinError;
 use linear_formula::formula::{Atom, Atoms, Cube};
 use linear_formula::question::Question;
-use linear_formula::term::{Parts, Term};
-use shadow_elim::limit::Limit;
+use shadow_elim::limit::{Kept, LimitKind};
 use shadow_elim::projection::ProjectionError;
-use std::alloc::{AllocError, Global};
+use shadow_elim::shadow::{Pair, Pre};
+use std::alloc::Global;
 use std::test::Fail;
-use summary_form::path::{Path, Terms};
+use summary_form::path::Path;
 use summary_form::query::ExitKind;
+use test_forms::edges::call_of;
+use test_forms::paths::{Says, path_of};
+use test_forms::rows::{Plain, Row, are_rows, cube_of, is_term, term_of};
 
-/// Multiples of columns and a constant, at most 0.
-type Row<'a> = (&'a [(i64, u32)], i64);
-
-/// The parts and the constant of a row.
-type Found<'a> = (&'a [(u32, i128)], i128);
-
-fn push_row(atoms: &mut Atoms, alloc: Global, row: &Row) -> Result<(), LinError> {
-    let mut summands = Vec::new(alloc);
-    for (multiplier, column) in row.0 {
-        let part = vec![in alloc; (*column, 1)]?;
-        summands.push((*multiplier, Term::new(Parts::from_vec(part), 0)))?;
-    }
-    let term = Term::combine(alloc, &summands, row.1)?;
-    atoms.push(Atom { term })?;
-    Ok(())
-}
-
-fn cube_of(alloc: Global, rows: &[Row]) -> Result<Cube, LinError> {
-    let mut atoms = Atoms::new(alloc);
-    for row in rows {
-        push_row(&mut atoms, alloc, row)?;
-    }
-    Ok(Cube { atoms })
-}
-
-fn is_row(atom: &Atom, row: &Found) -> bool {
-    atom.term.parts() == row.0 && atom.term.constant() == row.1
-}
-
-fn has_rows(cube: &Cube, rows: &[Found]) -> bool {
-    let atoms = cube.atoms.as_slice();
-    for (atom, row) in atoms.iter().zip(rows) {
-        if !is_row(atom, row) {
-            return false;
-        }
-    }
-    atoms.len() == rows.len()
-}
-
-/// A call of procedure 3.
-fn call_of(alloc: Global, args: &[u32], slot: u32) -> Result<Edge, AllocError>
-    ensures { IfOk result (λ edge. is_call edge ≡ true) }
-{
-    let args = Slots::from_vec(Vec::from_slice(alloc, args)?);
-    Ok(Edge::Call {
-        from: 1,
-        to: 2,
-        proc: 3,
-        args,
-        slot,
-    })
-}
-
-/// Whether a call with slot 1 asks for these rows, without an inexact pair.
-fn asks(
-    alloc: Global,
-    args: &[u32],
+/// A call of procedure 3, the rows before it and behind it, and what it asks.
+#[derive(Clone, Copy)]
+struct Asks<'a> {
+    args: &'a [u32],
+    results: &'a [u32],
     exit: ExitKind,
-    regions: (&[Row], &[Row]),
-    cubes: (&[Found], &[Found]),
-) -> Result<bool, Fail> {
-    let source = cube_of(alloc, regions.0)?;
-    let target = cube_of(alloc, regions.1)?;
-    let call = call_of(alloc, args, 1)?;
-    let asking = ask_of(alloc, &source, &call, &target, exit)?;
-    Ok(
-        asking.query.proc == 3
-            && asking.query.exit == exit
-            && has_rows(&asking.query.start, cubes.0)
-            && has_rows(&asking.query.end, cubes.1)
-            && asking.inexact.is_none(),
-    )
+    source: &'a [Row<'a>],
+    target: &'a [Row<'a>],
+    start: &'a [Plain<'a>],
+    end: &'a [Plain<'a>],
 }
 
+/// A call that passes slot 0, and puts what is returned into slot 1.
+const ASKS: Asks = Asks {
+    args: &[0],
+    results: &[1],
+    exit: ExitKind::Return,
+    source: &[],
+    target: &[],
+    start: &[],
+    end: &[],
+};
+
+/// Whether the query asks this, without an inexact pair.
+fn is_asked(asking: &Asking, asks: &Asks) -> bool {
+    asking.query.proc == 3
+        && asking.query.exit == asks.exit
+        && are_rows(&asking.query.start, asks.start)
+        && are_rows(&asking.query.end, asks.end)
+        && asking.inexact.is_none()
+}
+
+/// What the call asks between two cubes.
+fn asked(
+    alloc: Global,
+    asks: &Asks,
+    source: &Cube,
+    target: &Cube,
+) -> Result<Result<Asking, ProjectionError>, Fail> {
+    let call = call_of(alloc, (1, 2), 3, asks.args, asks.results)?;
+    Ok(ask_of(alloc, source, &call, target, asks.exit))
+}
+
+fn is_right(alloc: Global, asks: &Asks) -> Result<bool, Fail> {
+    let source = cube_of(alloc, asks.source)?;
+    let target = cube_of(alloc, asks.target)?;
+    let asking = asked(alloc, asks, &source, &target)??;
+    Ok(is_asked(&asking, asks))
+}
+
+/// Slot 1 exceeds slot 0 by at most 7.
+const BEHIND: Row = (&[(1, 1), (-1, 0)], -7);
+
+const QUERIES: [Asks; 7] = [
+    // the caller's own slots are forgotten
+    Asks {
+        source: &[(&[(1, 3), (-1, 0)], 0), (&[(-1, 3)], 5)],
+        start: &[(&[(10_000, -1)], 5)],
+        ..ASKS
+    },
+    // the exit value
+    Asks {
+        source: &[(&[(1, 0)], -3)],
+        target: &[BEHIND],
+        start: &[(&[(10_000, 1)], -3)],
+        end: &[(&[(10_000, -1), (20_000, 1)], -7)],
+        ..ASKS
+    },
+    // a failure, whose target is one of the caller's
+    Asks {
+        exit: ExitKind::Fail(7),
+        source: &[(&[(1, 0)], -3)],
+        target: &[BEHIND],
+        start: &[
+            (&[(10_000, 1)], -3),
+            (&[(10_000, -1)], -9_223_372_036_854_775_815),
+        ],
+        ..ASKS
+    },
+    // a slot at two places
+    Asks {
+        args: &[0, 2, 0],
+        source: &[(&[(1, 0), (2, 2)], -3)],
+        start: &[
+            (&[(10_000, 1), (10_001, 2)], -3),
+            (&[(10_000, -1), (10_002, 1)], 0),
+            (&[(10_000, 1), (10_002, -1)], 0),
+        ],
+        ..ASKS
+    },
+    // the result in the slot of the argument
+    Asks {
+        args: &[1],
+        source: &[(&[(1, 1)], -3), (&[(1, 0)], -4)],
+        target: &[(&[(1, 1), (-1, 0)], 0)],
+        start: &[(&[(10_000, 1)], -3)],
+        end: &[(&[(20_000, 1)], -4)],
+        ..ASKS
+    },
+    // two results, exchanged
+    Asks {
+        args: &[0, 1],
+        results: &[1, 0],
+        source: &[(&[(1, 0)], -3)],
+        target: &[(&[(1, 0)], -2), (&[(-1, 1)], 5)],
+        start: &[(&[(10_000, 1)], -3)],
+        end: &[(&[(20_001, 1)], -2), (&[(20_000, -1)], 5)],
+        ..ASKS
+    },
+    // no result
+    Asks {
+        results: &[],
+        source: &[(&[(1, 0)], -3)],
+        target: &[(&[(1, 0)], -4)],
+        start: &[(&[(10_000, 1)], -3), (&[(10_000, 1)], -4)],
+        ..ASKS
+    },
+];
+
 #[test]
-fn forgets_the_caller(rt: HostRuntime) -> Result<(), Fail> {
-    let source: [Row; 2] = [(&[(1, 3), (-1, 0)], 0), (&[(-1, 3)], 5)];
-    let start: [Found; 1] = [(&[(10_000, -1)], 5)];
-    assert!(rt;
-        asks(
-            rt.alloc(),
-            &[0],
-            ExitKind::Return,
-            (&source, &[]),
-            (&start, &[])
-        )?
-    );
+fn asks_of_the_callee(rt: HostRuntime) -> Result<(), Fail> {
+    for (place, asks) in QUERIES.iter().enumerate() {
+        assert!(rt; is_right(rt.alloc(), asks)?, "{place}");
+    }
     Ok(())
 }
 
-#[test]
-fn asks_for_the_exit_value(rt: HostRuntime) -> Result<(), Fail> {
-    let source: [Row; 1] = [(&[(1, 0)], -3)];
-    let target: [Row; 1] = [(&[(1, 1), (-1, 0)], -7)];
-    let start: [Found; 1] = [(&[(10_000, 1)], -3)];
-    let end: [Found; 1] = [(&[(10_000, -1), (20_000, 1)], -7)];
-    assert!(rt;
-        asks(
-            rt.alloc(),
-            &[0],
-            ExitKind::Return,
-            (&source, &target),
-            (&start, &end)
-        )?
-    );
-    Ok(())
+fn is_pair(pair: &Pair, column: u32, upper: &Plain, lower: &Plain) -> bool {
+    pair.column == column && is_term(&pair.upper.term, upper) && is_term(&pair.lower.term, lower)
 }
 
-#[test]
-fn asks_for_a_failure(rt: HostRuntime) -> Result<(), Fail> {
-    let source: [Row; 1] = [(&[(1, 0)], -3)];
-    let target: [Row; 1] = [(&[(1, 1), (-1, 0)], -7)];
-    let start: [Found; 2] = [
-        (&[(10_000, 1)], -3),
-        (&[(10_000, -1)], -9_223_372_036_854_775_815),
-    ];
-    assert!(rt;
-        asks(
-            rt.alloc(),
-            &[0],
-            ExitKind::Fail(7),
-            (&source, &target),
-            (&start, &[])
-        )?
-    );
-    Ok(())
+/// Whether this is the inexact pair of twice and three times the column 3.
+fn tells_of_three(inexact: Option<&Pair>) -> bool {
+    match inexact {
+        Some(pair) => is_pair(
+            pair,
+            3,
+            &(&[(3, 2), (40_000, -1)], 0),
+            &(&[(3, -3), (40_000, 1)], 0),
+        ),
+        None => false,
+    }
 }
 
-#[test]
-fn equates_the_places_of_a_slot(rt: HostRuntime) -> Result<(), Fail> {
-    let source: [Row; 1] = [(&[(1, 0), (2, 2)], -3)];
-    let start: [Found; 3] = [
-        (&[(10_000, 1), (10_001, 2)], -3),
-        (&[(10_000, -1), (10_002, 1)], 0),
-        (&[(10_000, 1), (10_002, -1)], 0),
-    ];
-    let regions: (&[Row], &[Row]) = (&source, &[]);
-    assert!(rt;
-        asks(
-            rt.alloc(),
-            &[0, 2, 0],
-            ExitKind::Return,
-            regions,
-            (&start, &[])
-        )?
-    );
-    Ok(())
+fn tells_a_pair(alloc: Global) -> Result<bool, Fail> {
+    let source = cube_of(alloc, &[(&[(2, 3), (-1, 0)], 0), (&[(1, 0), (-3, 3)], 0)])?;
+    let target = cube_of(alloc, &[])?;
+    let asking = asked(alloc, &ASKS, &source, &target)??;
+    Ok(tells_of_three(asking.inexact.as_ref()))
 }
 
 #[test]
 fn tells_the_inexact_pair(rt: HostRuntime) -> Result<(), Fail> {
-    let alloc = rt.alloc();
-    let source = cube_of(alloc, &[(&[(2, 3), (-1, 0)], 0), (&[(1, 0), (-3, 3)], 0)])?;
-    let call = call_of(alloc, &[0], 1)?;
-    let asking = ask_of(
-        alloc,
-        &source,
-        &call,
-        &cube_of(alloc, &[])?,
-        ExitKind::Return,
-    )?;
-    let Some(pair) = &asking.inexact else {
-        return Err(Fail::from("no pair"));
-    };
-    assert_eq!(rt; pair.column, 3);
-    assert!(rt; is_row(&pair.upper, &(&[(3, 2), (40_000, -1)], 0)));
-    assert!(rt; is_row(&pair.lower, &(&[(3, -3), (40_000, 1)], 0)));
+    assert!(rt; tells_a_pair(rt.alloc())?);
     Ok(())
 }
 
-/// A call that passes slot 0 and a source; whether the rows become too wide, or too many.
-fn is_refused(alloc: Global, source: &Cube) -> Result<(bool, bool), Fail> {
-    let call = call_of(alloc, &[0], 1)?;
+/// The kind of a limit that an elimination met.
+fn in_elimination(kept: &Kept) -> Option<LimitKind> {
+    match &kept.question {
+        Question::Eliminate(..) => Some(kept.limit.kind()),
+        _ => None,
+    }
+}
+
+fn limit_of(asking: &Result<Asking, ProjectionError>) -> Option<LimitKind> {
+    match asking {
+        Err(ProjectionError::Limit(kept)) => in_elimination(kept),
+        _ => None,
+    }
+}
+
+/// The limit of the elimination for a call that passes slot 0.
+fn limit_at(alloc: Global, source: &Cube) -> Result<Option<LimitKind>, Fail> {
     let target = cube_of(alloc, &[])?;
-    let Err(ProjectionError::Limit(kept)) = ask_of(alloc, source, &call, &target, ExitKind::Return)
-    else {
-        return Err(Fail::from("no limit"));
-    };
-    let asked = matches!(&kept.question, Question::Eliminate(..));
-    let wide = matches!(&kept.limit, Limit::Wide { .. });
-    let many = matches!(&kept.limit, Limit::Rows { .. });
-    Ok((asked && wide, asked && many))
+    Ok(limit_of(&asked(alloc, &ASKS, source, &target)?))
 }
 
 #[test]
 fn keeps_a_wide_elimination(rt: HostRuntime) -> Result<(), Fail> {
-    let alloc = rt.alloc();
     let rows: [Row; 2] = [(&[(1 << 40, 3), (-1, 0)], 0), (&[(2, 5), (-3, 3)], 0)];
-    let source = cube_of(alloc, &rows)?;
-    assert_eq!(rt; is_refused(alloc, &source)?, (true, false));
+    let source = cube_of(rt.alloc(), &rows)?;
+    assert!(rt; limit_at(rt.alloc(), &source)? == Some(LimitKind::Wide));
     Ok(())
 }
 
-/// Upper and lower rows of slot 3, each with a slot of its own.
+/// Adds so many rows of a multiple of slot 3, each with a slot of its own.
+fn push_rows(
+    atoms: &mut Atoms,
+    alloc: Global,
+    multiple: i64,
+    first: u32,
+    each: u8,
+) -> Result<(), LinError> {
+    for i in 0..each {
+        let slot = first.wrapping_add(u32::from(i));
+        let term = term_of(alloc, &(&[(multiple, 3), (1, slot)], 0))?;
+        atoms.push(Atom { term })?;
+    }
+    Ok(())
+}
+
+/// Upper and lower rows of slot 3.
 fn fan(alloc: Global, each: u8) -> Result<Cube, LinError> {
     let mut atoms = Atoms::new(alloc);
-    for i in 0..each {
-        push_row(&mut atoms, alloc, &(&[(1, 3), (1, 100 + u32::from(i))], 0))?;
-    }
-    for i in 0..each {
-        push_row(
-            &mut atoms,
-            alloc,
-            &(&[(-1, 3), (1, 1000 + u32::from(i))], 0),
-        )?;
-    }
+    push_rows(&mut atoms, alloc, 1, 100, each)?;
+    push_rows(&mut atoms, alloc, -1, 1000, each)?;
     Ok(Cube { atoms })
 }
 
 #[test]
 fn keeps_an_elimination_of_many_rows(rt: HostRuntime) -> Result<(), Fail> {
-    let alloc = rt.alloc();
-    let source = fan(alloc, 64)?;
-    assert_eq!(rt; is_refused(alloc, &source)?, (false, true));
+    let source = fan(rt.alloc(), 64)?;
+    assert!(rt; limit_at(rt.alloc(), &source)? == Some(LimitKind::Rows));
     Ok(())
 }
 
 // Musts
 
-/// A symbol and a constant.
-fn symbol(alloc: Global, column: u32, constant: i8) -> Result<Term, AllocError>
-    ensures { IfOk result
-        (λ t. t ≡ record { parts = (column, pos 1) ∷ []; constant = constant }) }
-{
-    let parts = vec![in alloc; (column, 1)]?;
-    Ok(Term::new(Parts::from_vec(parts), i128::from(constant)))
+/// Runs with an argument of at most 2 and the next number, which return any number.
+const ANY: Says = Says {
+    proc: 3,
+    exit: ExitKind::Return,
+    symbols: 2,
+    guard: &[(&[(1, 30_000)], -2)],
+    entry: &[(&[(1, 30_000)], 0), (&[(1, 30_000)], 1)],
+    inputs: &[],
+    outcome: &[(&[(1, 30_001)], 0)],
+};
+
+/// The same, which return their arguments.
+const SAME: Says = Says {
+    outcome: &[(&[(1, 30_000)], 0), (&[(1, 30_000)], 1)],
+    ..ANY
+};
+
+/// A call that passes slots 0 and 1, by a must, and the preimage of a target.
+#[derive(Clone, Copy)]
+struct Leads<'a> {
+    must: Says<'a>,
+    results: &'a [u32],
+    target: &'a [Row<'a>],
+    rows: &'a [Plain<'a>],
 }
 
-/// The first symbol is at most 2.
-fn guard(alloc: Global) -> Result<Cube, AllocError>
-    ensures { IfOk result
-        (λ c. c.atoms ≡ record {
-          term = record { parts = (30000, pos 1) ∷ []; constant = negsuc 1 };
-        } ∷ []) }
-{
-    let term = symbol(alloc, 30_000, -2)?;
-    let mut atoms = Atoms::new(alloc);
-    atoms.push(Atom { term })?;
-    Ok(Cube { atoms })
+/// The first argument is at most 2.
+const FIRST: Plain = (&[(0, 1)], -2);
+
+/// The second argument is the next number.
+const AT_MOST_NEXT: Plain = (&[(0, -1), (1, 1)], -1);
+
+const AT_LEAST_NEXT: Plain = (&[(0, 1), (1, -1)], 1);
+
+const LEADS: [Leads; 5] = [
+    Leads {
+        must: ANY,
+        results: &[2],
+        target: &[(&[(1, 2)], -5), (&[(1, 4), (-1, 2)], 0)],
+        rows: &[FIRST, AT_MOST_NEXT, AT_LEAST_NEXT, (&[(4, 1)], -5)],
+    },
+    // a failure, whose target is one of the caller's
+    Leads {
+        must: Says {
+            exit: ExitKind::Fail(7),
+            ..ANY
+        },
+        results: &[2],
+        target: &[(&[(1, 2), (3, 10_000)], -5)],
+        rows: &[
+            FIRST,
+            AT_MOST_NEXT,
+            AT_LEAST_NEXT,
+            (&[(2, 1), (10_000, 3)], -5),
+        ],
+    },
+    // the result in the slot of an argument
+    Leads {
+        must: ANY,
+        results: &[0],
+        target: &[(&[(1, 0)], -5), (&[(1, 4), (-1, 0)], 0)],
+        rows: &[FIRST, AT_MOST_NEXT, AT_LEAST_NEXT, (&[(4, 1)], -5)],
+    },
+    // two results, exchanged: the arguments change places
+    Leads {
+        must: SAME,
+        results: &[1, 0],
+        target: &[(&[(1, 0)], -3), (&[(-1, 1)], 0)],
+        rows: &[
+            FIRST,
+            AT_MOST_NEXT,
+            AT_LEAST_NEXT,
+            (&[(0, 1)], -2),
+            (&[(0, -1)], 0),
+        ],
+    },
+    // no result
+    Leads {
+        must: Says {
+            outcome: &[],
+            ..ANY
+        },
+        results: &[],
+        target: &[(&[(1, 0)], -1)],
+        rows: &[FIRST, AT_MOST_NEXT, AT_LEAST_NEXT, (&[(0, 1)], -1)],
+    },
+];
+
+/// The preimage of a target over a call, by a must.
+fn preimage(
+    alloc: Global,
+    must: &Path,
+    results: &[u32],
+    target: &Cube,
+) -> Result<Result<Pre, ProjectionError>, Fail> {
+    let call = call_of(alloc, (1, 2), 3, &[0, 1], results)?;
+    Ok(preimage_of(alloc, must, &call, target))
 }
 
-/// The first symbol, and one more than it.
-fn entry(alloc: Global) -> Result<Terms, AllocError>
-    ensures { IfOk result
-        (λ ts. ts ≡ record { parts = (30000, pos 1) ∷ []; constant = pos 0 }
-        ∷ record { parts = (30000, pos 1) ∷ []; constant = pos 1 } ∷ []) }
-{
-    let terms = vec![in alloc; symbol(alloc, 30_000, 0)?, symbol(alloc, 30_000, 1)?]?;
-    Ok(Terms::from_vec(terms))
+fn is_preimage(pre: &Pre, rows: &[Plain]) -> bool {
+    are_rows(&pre.cube, rows) && pre.inexact.is_none()
 }
 
-fn outcome(alloc: Global, column: u32) -> Result<Terms, AllocError>
-    ensures { IfOk result
-        (λ ts. ts ≡ record { parts = (column, pos 1) ∷ []; constant = pos 0 } ∷ []) }
-{
-    Ok(Terms::from_vec(vec![in alloc; symbol(alloc, column, 0)?]?))
-}
-
-/// Runs with an argument of at most 2 and the next number, which end so with one of two symbols.
-fn must_of(alloc: Global, exit: ExitKind, column: u32) -> Result<Path, AllocError>
-    requires { IsTrue (is_symbol_column 2 column) }
-{
-    let guard = guard(alloc)?;
-    let entry = entry(alloc)?;
-    let outcome = outcome(alloc, column)?;
-    Ok(Path {
-        proc: 3,
-        exit,
-        symbols: 2,
-        guard,
-        entry,
-        inputs: Terms::from_vec(Vec::new(alloc)),
-        outcome,
-    })
-}
-
-/// Whether the target has this preimage over a call of slots 0 and 1 into slot 2, without an
-/// inexact
-/// pair.
-fn leads(alloc: Global, must: &Path, target: &[Row], rows: &[Found]) -> Result<bool, Fail> {
-    let call = call_of(alloc, &[0, 1], 2)?;
-    let pre = preimage_of(alloc, must, &call, &cube_of(alloc, target)?)?;
-    Ok(has_rows(&pre.cube, rows) && pre.inexact.is_none())
+fn goes_back(alloc: Global, leads: &Leads) -> Result<bool, Fail> {
+    let must = path_of(alloc, &leads.must)?;
+    let target = cube_of(alloc, leads.target)?;
+    let pre = preimage(alloc, &must, leads.results, &target)??;
+    Ok(is_preimage(&pre, leads.rows))
 }
 
 #[test]
-fn goes_back_over_a_must(rt: HostRuntime) -> Result<(), Fail> {
-    let must = must_of(rt.alloc(), ExitKind::Return, 30_001)?;
-    let target: [Row; 2] = [(&[(1, 2)], -5), (&[(1, 4), (-1, 2)], 0)];
-    let rows: [Found; 4] = [
-        (&[(0, 1)], -2),
-        (&[(0, -1), (1, 1)], -1),
-        (&[(0, 1), (1, -1)], 1),
-        (&[(4, 1)], -5),
-    ];
-    assert!(rt; leads(rt.alloc(), &must, &target, &rows)?);
+fn goes_back_over_musts(rt: HostRuntime) -> Result<(), Fail> {
+    for (place, leads) in LEADS.iter().enumerate() {
+        assert!(rt; goes_back(rt.alloc(), leads)?, "{place}");
+    }
     Ok(())
 }
 
-#[test]
-fn goes_back_over_a_failing_must(rt: HostRuntime) -> Result<(), Fail> {
-    let must = must_of(rt.alloc(), ExitKind::Fail(7), 30_001)?;
-    let rows: [Found; 4] = [
-        (&[(0, 1)], -2),
-        (&[(0, -1), (1, 1)], -1),
-        (&[(0, 1), (1, -1)], 1),
-        (&[(2, 1), (10_000, 3)], -5),
-    ];
-    assert!(rt; leads(rt.alloc(), &must, &[(&[(1, 2), (3, 10_000)], -5)], &rows)?);
-    Ok(())
+/// How many summands the sum of the limit has.
+fn summands_of(kept: &Kept) -> Option<usize> {
+    match &kept.question {
+        Question::Combine(summands, 0) => Some(summands.as_slice().len()),
+        _ => None,
+    }
+}
+
+fn limit_of_sum(pre: &Result<Pre, ProjectionError>) -> Option<usize> {
+    match pre {
+        Err(ProjectionError::Limit(kept)) => summands_of(kept),
+        _ => None,
+    }
+}
+
+/// The limit where the result comes 2 ^ 40 times into the target.
+fn wide_sum(alloc: Global, must: &Says) -> Result<Option<usize>, Fail> {
+    let must = path_of(alloc, must)?;
+    let target = cube_of(alloc, &[(&[(1 << 40, 2), (1, 0)], 0)])?;
+    Ok(limit_of_sum(&preimage(alloc, &must, &[2], &target)?))
 }
 
 #[test]
 fn keeps_a_wide_sum(rt: HostRuntime) -> Result<(), Fail> {
-    let alloc = rt.alloc();
-    let must = must_of(alloc, ExitKind::Return, 30_000)?;
-    let call = call_of(alloc, &[0, 1], 2)?;
-    let target = cube_of(alloc, &[(&[(1 << 40, 2), (1, 0)], 0)])?;
-    let Err(ProjectionError::Limit(kept)) = preimage_of(alloc, &must, &call, &target) else {
-        return Err(Fail::from("no limit"));
+    let must = Says {
+        outcome: &[(&[(1, 30_000)], 0)],
+        ..ANY
     };
-    assert!(rt;
-        matches!(&kept.question, Question::Combine(summands, 0) if summands.as_slice().len() == 3)
-    );
+    assert!(rt; wide_sum(rt.alloc(), &must)? == Some(3));
     Ok(())
 }

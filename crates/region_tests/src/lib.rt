@@ -4,6 +4,8 @@
 #[cfg(test)]
 mod calls;
 #[cfg(test)]
+mod exchanged;
+#[cfg(test)]
 mod partitions;
 #[cfg(test)]
 mod states;

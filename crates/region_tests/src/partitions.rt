@@ -1,70 +1,65 @@
 //! Partitions of one small graph: what they begin with, and what splits and kills make of them.
 
-ghost use Rattle.std.specs.Prelude.{◌≡◌, ◌↔◌, [], ◌<◌, length, IsTrue};
+ghost use Rattle.std.specs.Prelude.{◌≡◌, ◌↔◌, ◌<◌, length, IsTrue};
 
-use flow_graph::graph::{Edge, Edges, Graph, Slots};
-use linear_formula::formula::{Atom, Atoms, Cube};
+use linear_formula::formula::{Atom, Cube};
 use linear_formula::term::{Parts, Term};
 use may_partition::{Partition, RegionEdge, SplitError};
-use std::alloc::{AllocError, Global};
+use std::alloc::Global;
 use std::test::Fail;
-use summary_form::query::{ExitKind, Query};
+use summary_form::query::ExitKind;
+use test_forms::edges::Does;
+use test_forms::graphs::{Shape, graph_of};
+use test_forms::kept::Counts;
+use test_forms::queries::query_of;
+use test_forms::rows::{Row, cube_of};
 
 /// A live edge: the graph edge, and the numbers of its two regions.
 type Live = (u32, u32, u32);
 
-fn empty(alloc: Global) -> Cube
-    ensures { result.atoms ≡ [] }
-{
-    Cube {
-        atoms: Atoms::new(alloc),
-    }
-}
+/// Nodes 2 and 3: a call from 2 to 3, and at 3 a loop, two assertions and the return.
+const SMALL: Shape = Shape {
+    counts: Counts {
+        nodes: 4,
+        params: 1,
+        exits: 1,
+        slots: 1,
+    },
+    steps: &[
+        (
+            2,
+            3,
+            Does::Call {
+                proc: 0,
+                args: &[],
+                results: &[0],
+            },
+        ),
+        (3, 3, Does::Guard(&[])),
+        (3, 1, Does::Assert(0, &[])),
+        (3, 1, Does::Assert(5, &[])),
+        (3, 0, Does::Return(&[0])),
+    ],
+};
 
-/// Exit 0, `fail` 1, and nodes 2 and 3: a call from 2 to 3, and at 3 a loop, two assertions and the
-/// return.
-fn graph(alloc: Global) -> Result<Graph, AllocError> {
-    let entry = Edge::Entry { to: 2, params: 1 };
-    let calls = Edge::Call {
-        from: 2,
-        to: 3,
-        proc: 0,
-        args: Slots::from_vec(Vec::new(alloc)),
-        slot: 0,
-    };
-    let stays = Edge::Guard {
-        from: 3,
-        to: 3,
-        rows: empty(alloc),
-    };
-    let fails = Edge::Assert {
-        from: 3,
-        to: 1,
-        id: 0,
-        rows: empty(alloc),
-    };
-    let fails_too = Edge::Assert {
-        from: 3,
-        to: 1,
-        id: 5,
-        rows: empty(alloc),
-    };
-    let returns = Edge::Return {
-        from: 3,
-        to: 0,
-        slot: 0,
-    };
-    let edges = vec![in alloc; entry, calls, stays, fails, fails_too, returns]?;
-    Ok(Graph::new(4, 0, 1, 1, 1, Edges::from_vec(edges)))
-}
-
-/// Reads: the column is at most the bound.
-fn at_most(alloc: Global, column: u32, bound: i32) -> Result<Atom, Fail> {
-    let parts = vec![in alloc; (column, 1)]?;
-    let summands = vec![in alloc; (1, Term::new(Parts::from_vec(parts), 0))]?;
-    let term = Term::combine(alloc, &summands, -i64::from(bound))?;
-    Ok(Atom { term })
-}
+/// Slot 0 becomes a half of slot 1 at an edge from node 2, and is returned if it is at most 5.
+const HALF: Shape = Shape {
+    counts: Counts {
+        nodes: 4,
+        params: 2,
+        exits: 1,
+        slots: 2,
+    },
+    steps: &[
+        (
+            2,
+            3,
+            Does::Pick(0, &[(&[(2, 0), (-1, 1)], 0), (&[(1, 1), (-2, 0)], -1)]),
+        ),
+        (3, 1, Does::Assert(0, &[(&[(-1, 0)], 6)])),
+        (3, 0, Does::Return(&[0])),
+    ],
+};
 
 /// Reads: slot 0 is at most the greatest constant of a term. The negation has a greater one.
 fn widest(alloc: Global) -> Result<Atom, Fail> {
@@ -73,32 +68,11 @@ fn widest(alloc: Global) -> Result<Atom, Fail> {
     Ok(Atom { term })
 }
 
-fn rows_of(alloc: Global, column: u32, bounds: &[i32]) -> Result<Vec<Atom>, Fail> {
-    let mut rows = Vec::new(alloc);
-    for bound in bounds {
-        rows.push(at_most(alloc, column, *bound)?)?;
-    }
-    Ok(rows)
-}
-
-/// The column is at most each of the bounds.
-fn cube_of(alloc: Global, column: u32, bounds: &[i32]) -> Result<Cube, Fail> {
-    let mut cube = empty(alloc);
-    for bound in bounds {
-        cube = cube.with(alloc, at_most(alloc, column, *bound)?)?;
-    }
-    Ok(cube)
-}
-
 /// The partition of a query with one row at its start and two at its end.
-fn begun(alloc: Global, exit: ExitKind) -> Result<Partition, Fail> {
-    let query = Query {
-        proc: 0,
-        exit,
-        start: cube_of(alloc, 10_000, &[7])?,
-        end: cube_of(alloc, 10_000, &[5, 6])?,
-    };
-    let graph = graph(alloc)?;
+fn begun(alloc: Global, shape: &Shape, exit: ExitKind) -> Result<Partition, Fail> {
+    let end: [Row; 2] = [(&[(1, 10_000)], -5), (&[(1, 10_000)], -6)];
+    let query = query_of(alloc, 0, exit, &[(&[(1, 10_000)], -7)], &end)?;
+    let graph = graph_of(alloc, shape)?;
     Ok(Partition::begin(alloc, &graph, &query)?)
 }
 
@@ -152,11 +126,11 @@ fn split(
     Ok(partition.split(alloc, &edge_of(at), atoms))
 }
 
-/// The partition of assertion 0 after one split, at slot 0.
-fn after_split(alloc: Global, at: Live, bounds: &[i32]) -> Result<Partition, Fail> {
-    let mut partition = begun(alloc, ExitKind::Fail(0))?;
-    let atoms = rows_of(alloc, 0, bounds)?;
-    split(alloc, &mut partition, at, &atoms)??;
+/// The partition of assertion 0 after one split, by these rows.
+fn after_split(alloc: Global, shape: &Shape, at: Live, rows: &[Row]) -> Result<Partition, Fail> {
+    let mut partition = begun(alloc, shape, ExitKind::Fail(0))?;
+    let atoms = cube_of(alloc, rows)?;
+    split(alloc, &mut partition, at, atoms.atoms.as_slice())??;
     Ok(partition)
 }
 
@@ -168,6 +142,19 @@ fn last_atom(partition: &Partition, region: usize) -> Option<(i128, i128)> {
     Some((part.1, atom.term.constant()))
 }
 
+/// Slot 0 is at most so much.
+const SEVEN: Row = (&[(1, 0)], -7);
+
+const SIX: Row = (&[(1, 0)], -6);
+
+const FIVE: Row = (&[(1, 0)], -5);
+
+/// Slot 1 is at most 11.
+const ELEVEN: Row = (&[(1, 1)], -11);
+
+/// What a partition begins with: the graph, the exit, the regions and the live edges.
+type Beginning<'a> = (Shape<'a>, ExitKind, &'a [(u32, usize)], &'a [Live]);
+
 const BEFORE: [Live; 6] = [
     (0, 0, 3),
     (1, 3, 4),
@@ -177,77 +164,134 @@ const BEFORE: [Live; 6] = [
     (5, 4, 1),
 ];
 
+const BEGINNINGS: [Beginning; 3] = [
+    (
+        SMALL,
+        ExitKind::Fail(0),
+        &[(4, 0), (0, 0), (1, 2), (2, 1), (3, 0)],
+        &BEFORE,
+    ),
+    (
+        SMALL,
+        ExitKind::Return,
+        &[(4, 0), (0, 2), (1, 0), (2, 1), (3, 0)],
+        &[
+            (0, 0, 3),
+            (1, 3, 4),
+            (1, 3, 2),
+            (2, 4, 4),
+            (3, 4, 2),
+            (4, 4, 2),
+            (5, 4, 1),
+        ],
+    ),
+    (
+        HALF,
+        ExitKind::Fail(0),
+        &[(4, 0), (0, 0), (1, 2), (2, 1), (3, 0)],
+        &[(0, 0, 3), (1, 3, 4), (2, 4, 2), (3, 4, 1)],
+    ),
+];
+
 #[test]
-fn begins_for_an_assertion(rt: HostRuntime) -> Result<(), Fail> {
-    let partition = begun(rt.alloc(), ExitKind::Fail(0))?;
-    assert!(rt; has_regions(&partition, &[(4, 0), (0, 0), (1, 2), (2, 1), (3, 0)]));
-    assert!(rt; has_live(&partition, &BEFORE));
+fn begins(rt: HostRuntime) -> Result<(), Fail> {
+    for (shape, exit, regions, live) in BEGINNINGS {
+        let partition = begun(rt.alloc(), &shape, exit)?;
+        let right = has_regions(&partition, regions) && has_live(&partition, live);
+        assert!(rt; right, "{exit:?}");
+    }
+    Ok(())
+}
+
+#[test]
+fn another_assertion_is_not_live(rt: HostRuntime) -> Result<(), Fail> {
+    let partition = begun(rt.alloc(), &SMALL, ExitKind::Fail(0))?;
     assert!(rt; !partition.live(&edge_of((4, 4, 2))));
     Ok(())
 }
 
-#[test]
-fn begins_for_returns(rt: HostRuntime) -> Result<(), Fail> {
-    let partition = begun(rt.alloc(), ExitKind::Return)?;
-    assert!(rt; has_regions(&partition, &[(4, 0), (0, 2), (1, 0), (2, 1), (3, 0)]));
-    let live = [
-        (0, 0, 3),
-        (1, 3, 4),
-        (1, 3, 2),
-        (2, 4, 4),
+/// A split: the graph, the edge, the rows, and the live edges behind it.
+type Split<'a> = (Shape<'a>, Live, Row<'a>, &'a [Live]);
+
+const SPLITS: [Split; 3] = [
+    // before an assertion
+    (
+        SMALL,
         (3, 4, 2),
-        (4, 4, 2),
-        (5, 4, 1),
-    ];
-    assert!(rt; has_live(&partition, &live));
+        SEVEN,
+        &[
+            (0, 0, 3),
+            (1, 3, 4),
+            (1, 3, 5),
+            (1, 3, 2),
+            (2, 4, 4),
+            (2, 4, 5),
+            (2, 5, 4),
+            (2, 5, 5),
+            (3, 4, 2),
+            (5, 4, 1),
+            (5, 5, 1),
+        ],
+    ),
+    // at a loop
+    (
+        SMALL,
+        (2, 4, 4),
+        SEVEN,
+        &[
+            (0, 0, 3),
+            (1, 3, 4),
+            (1, 3, 5),
+            (1, 3, 2),
+            (2, 4, 4),
+            (2, 4, 5),
+            (2, 5, 5),
+            (3, 4, 2),
+            (3, 5, 2),
+            (5, 4, 1),
+            (5, 5, 1),
+        ],
+    ),
+    // before a pick
+    (
+        HALF,
+        (1, 3, 4),
+        ELEVEN,
+        &[(0, 0, 3), (0, 0, 5), (1, 3, 4), (2, 4, 2), (3, 4, 1)],
+    ),
+];
+
+#[test]
+fn splits(rt: HostRuntime) -> Result<(), Fail> {
+    for (shape, at, row, live) in SPLITS {
+        let partition = after_split(rt.alloc(), &shape, at, &[row])?;
+        assert!(rt; has_live(&partition, live), "{at:?}");
+    }
     Ok(())
 }
 
-#[test]
-fn splits_before_an_assertion(rt: HostRuntime) -> Result<(), Fail> {
-    let partition = after_split(rt.alloc(), (3, 4, 2), &[7])?;
-    let live = [
-        (0, 0, 3),
-        (1, 3, 4),
-        (1, 3, 5),
-        (1, 3, 2),
-        (2, 4, 4),
-        (2, 4, 5),
-        (2, 5, 4),
-        (2, 5, 5),
-        (3, 4, 2),
-        (5, 4, 1),
-        (5, 5, 1),
-    ];
-    assert!(rt; has_live(&partition, &live));
-    assert_eq!(rt; last_atom(&partition, 4), Some((1, -7)));
-    assert_eq!(rt; last_atom(&partition, 5), Some((-1, 8)));
-    Ok(())
-}
+/// A region behind a split, and the part and the constant of its last atom.
+const LAST_ATOMS: [(Live, &[Row], usize, (i128, i128)); 6] = [
+    ((3, 4, 2), &[SEVEN], 4, (1, -7)),
+    ((3, 4, 2), &[SEVEN], 5, (-1, 8)),
+    ((1, 3, 4), &[SEVEN, SIX, FIVE], 3, (1, -5)),
+    ((1, 3, 4), &[SEVEN, SIX, FIVE], 5, (-1, 8)),
+    ((1, 3, 4), &[SEVEN, SIX, FIVE], 6, (-1, 7)),
+    ((1, 3, 4), &[SEVEN, SIX, FIVE], 7, (-1, 6)),
+];
 
 #[test]
-fn splits_at_a_loop(rt: HostRuntime) -> Result<(), Fail> {
-    let partition = after_split(rt.alloc(), (2, 4, 4), &[7])?;
-    let live = [
-        (0, 0, 3),
-        (1, 3, 4),
-        (1, 3, 5),
-        (1, 3, 2),
-        (2, 4, 4),
-        (2, 4, 5),
-        (2, 5, 5),
-        (3, 4, 2),
-        (3, 5, 2),
-        (5, 4, 1),
-        (5, 5, 1),
-    ];
-    assert!(rt; has_live(&partition, &live));
+fn pieces_have_the_rows_and_their_negations(rt: HostRuntime) -> Result<(), Fail> {
+    for (at, rows, region, atom) in LAST_ATOMS {
+        let partition = after_split(rt.alloc(), &SMALL, at, rows)?;
+        assert!(rt; last_atom(&partition, region) == Some(atom), "{region}");
+    }
     Ok(())
 }
 
 #[test]
 fn numbers_the_pieces(rt: HostRuntime) -> Result<(), Fail> {
-    let partition = after_split(rt.alloc(), (1, 3, 4), &[7, 6, 5])?;
+    let partition = after_split(rt.alloc(), &SMALL, (1, 3, 4), &[SEVEN, SIX, FIVE])?;
     let regions = [
         (4, 0),
         (0, 0),
@@ -259,31 +303,58 @@ fn numbers_the_pieces(rt: HostRuntime) -> Result<(), Fail> {
         (2, 4),
     ];
     assert!(rt; has_regions(&partition, &regions));
-    assert_eq!(rt; last_atom(&partition, 3), Some((1, -5)));
-    assert_eq!(rt; last_atom(&partition, 5), Some((-1, 8)));
-    assert_eq!(rt; last_atom(&partition, 7), Some((-1, 6)));
     Ok(())
+}
+
+/// Slot 0 is at most 7, and a row that has no negation.
+fn one_too_wide(alloc: Global) -> Result<Cube, Fail> {
+    let seven = cube_of(alloc, &[SEVEN])?;
+    Ok(seven.with(alloc, widest(alloc)?)?)
+}
+
+/// Whether the split is refused as too wide, and all is as before.
+fn is_too_wide(alloc: Global, partition: &mut Partition) -> Result<bool, Fail> {
+    let atoms = one_too_wide(alloc)?;
+    let answer = split(alloc, partition, (3, 4, 2), atoms.atoms.as_slice())?;
+    Ok(
+        answer == Err(SplitError::Wide)
+            && has_regions(partition, &[(4, 0), (0, 0), (1, 2), (2, 1), (3, 0)])
+            && has_live(partition, &BEFORE),
+    )
 }
 
 #[test]
 fn keeps_all_where_a_negation_is_too_wide(rt: HostRuntime) -> Result<(), Fail> {
-    let alloc = rt.alloc();
-    let mut partition = begun(alloc, ExitKind::Fail(0))?;
-    let atoms = vec![in alloc; at_most(alloc, 0, 7)?, widest(alloc)?]?;
-    let answer = split(alloc, &mut partition, (3, 4, 2), &atoms)?;
-    assert_eq!(rt; answer, Err(SplitError::Wide));
-    assert!(rt; has_regions(&partition, &[(4, 0), (0, 0), (1, 2), (2, 1), (3, 0)]));
-    assert!(rt; has_live(&partition, &BEFORE));
+    let mut partition = begun(rt.alloc(), &SMALL, ExitKind::Fail(0))?;
+    assert!(rt; is_too_wide(rt.alloc(), &mut partition)?);
     Ok(())
 }
 
+/// The partition of assertion 0 after a kill.
+fn after_kill(alloc: Global, shape: &Shape, at: Live) -> Result<Partition, Fail> {
+    let mut partition = begun(alloc, shape, ExitKind::Fail(0))?;
+    if !exists(&partition, at.1) || !exists(&partition, at.2) {
+        return Err(Fail::new("no such region"));
+    }
+    partition.kill(&edge_of(at))?;
+    Ok(partition)
+}
+
+/// A kill, of a call and of a pick, and the live edges behind it.
+const KILLS: [(Shape, Live, &[Live]); 2] = [
+    (
+        SMALL,
+        (1, 3, 2),
+        &[(0, 0, 3), (1, 3, 4), (2, 4, 4), (3, 4, 2), (5, 4, 1)],
+    ),
+    (HALF, (1, 3, 4), &[(0, 0, 3), (2, 4, 2), (3, 4, 1)]),
+];
+
 #[test]
 fn kills_one_edge(rt: HostRuntime) -> Result<(), Fail> {
-    let mut partition = begun(rt.alloc(), ExitKind::Fail(0))?;
-    let edge = edge_of((1, 3, 2));
-    assert!(rt; exists(&partition, edge.from) && exists(&partition, edge.to));
-    partition.kill(&edge)?;
-    let live = [(0, 0, 3), (1, 3, 4), (2, 4, 4), (3, 4, 2), (5, 4, 1)];
-    assert!(rt; has_live(&partition, &live));
+    for (shape, at, live) in KILLS {
+        let partition = after_kill(rt.alloc(), &shape, at)?;
+        assert!(rt; has_live(&partition, live), "{at:?}");
+    }
     Ok(())
 }

@@ -3,11 +3,11 @@
 ghost use Rattle.std.specs.Prelude.{◌≡◌, [], IfOk};
 ghost use Rattle.region_tests.specs.Returning.{AreReturning, IsEntryKill, ShowsAt, any_run, barred_model, entered_model, entry_step as entering, first_model, never as row_never, no_run, return_step as returning};
 
-use flow_graph::graph::{Edge, Edges, Graph};
+use flow_graph::graph::{Edge, Edges, Graph, Slots};
 use flow_graph::graphs::{GraphList, Graphs};
 use infeasible_cert::certificate::{Certificate, Derived, Multiples};
 use linear_formula::assignment::{Assignment, Values};
-use linear_formula::formula::{Atom, Atoms, Cube};
+use linear_formula::formula::Atom;
 use linear_formula::term::{Parts, Term};
 use may_partition::RegionEdge;
 use query_rules::state::{QueryState, begin_state};
@@ -17,14 +17,7 @@ use std::sync::Arc;
 use std::test::Fail;
 use summary_form::query::{ExitKind, Query};
 use summary_form::summary::Summary;
-
-fn empty(alloc: Global) -> Cube
-    ensures { result.atoms ≡ [] }
-{
-    Cube {
-        atoms: Atoms::new(alloc),
-    }
-}
+use test_forms::rows::empty;
 
 /// Exit 0, `fail` 1, and node 2, which returns slot 0.
 fn graphs(alloc: Global) -> Result<Graphs, AllocError>
@@ -34,10 +27,10 @@ fn graphs(alloc: Global) -> Result<Graphs, AllocError>
     let returns = Edge::Return {
         from: 2,
         to: 0,
-        slot: 0,
+        slots: Slots::from_vec(vec![in alloc; 0]?),
     };
     let edges = vec![in alloc; enters, returns]?;
-    let graph = Graph::new(3, 0, 1, 1, 1, Edges::from_vec(edges));
+    let graph = Graph::new(3, 0, 1, 1, 1, 1, Edges::from_vec(edges));
     let list = vec![in alloc; graph]?;
     Ok(Graphs::new(GraphList::from_vec(list)))
 }
@@ -194,22 +187,25 @@ fn is_live(state: &QueryState, edge: u32, from: u32, to: u32) -> bool {
     state.partition().live(&RegionEdge { edge, from, to })
 }
 
-#[test]
-fn begins_outside(rt: HostRuntime) -> Result<(), Fail> {
-    let graphs = graphs(rt.alloc())?;
-    let state = begun(rt.alloc(), &graphs)?;
-    assert!(rt; has_marks(&state, &[(0, 0)]));
-    assert_eq!(rt; state.level(), 0);
-    assert_eq!(rt; state.lowest(), None);
-    assert_eq!(rt; state.query().proc, 0);
-    let counts = [
+/// The steps, trails, asked queries, ancestors and regions, and the level.
+fn counts(state: &QueryState) -> [usize; 6] {
+    [
         state.steps().len(),
         state.trails().len(),
         state.asked().len(),
         state.ancestors().len(),
         state.partition().regions().len(),
-    ];
-    assert_eq!(rt; counts, [0, 1, 0, 0, 4]);
+        state.level() as usize,
+    ]
+}
+
+#[test]
+fn begins_outside(rt: HostRuntime) -> Result<(), Fail> {
+    let graphs = graphs(rt.alloc())?;
+    let state = begun(rt.alloc(), &graphs)?;
+    let marked = has_marks(&state, &[(0, 0)]);
+    let first = state.lowest().is_none() && state.query().proc == 0;
+    assert!(rt; marked && first && counts(&state) == [0, 1, 0, 0, 4, 0]);
     Ok(())
 }
 
@@ -217,8 +213,8 @@ fn begins_outside(rt: HostRuntime) -> Result<(), Fail> {
 fn enters_without_a_new_trail(rt: HostRuntime) -> Result<(), Fail> {
     let graphs = graphs(rt.alloc())?;
     let state = entered(rt.alloc(), &graphs)?;
-    assert!(rt; has_marks(&state, &[(0, 0), (0, 3)]));
-    assert_eq!(rt; [state.steps().len(), state.trails().len()], [1, 1]);
+    let marked = has_marks(&state, &[(0, 0), (0, 3)]);
+    assert!(rt; marked && counts(&state) == [1, 1, 0, 0, 4, 0]);
     Ok(())
 }
 
@@ -226,8 +222,8 @@ fn enters_without_a_new_trail(rt: HostRuntime) -> Result<(), Fail> {
 fn returns_by_a_new_trail(rt: HostRuntime) -> Result<(), Fail> {
     let graphs = graphs(rt.alloc())?;
     let state = returned(rt.alloc(), &graphs)?;
-    assert!(rt; has_marks(&state, &[(0, 0), (0, 3), (1, 1)]));
-    assert_eq!(rt; [state.steps().len(), state.trails().len()], [2, 2]);
+    let marked = has_marks(&state, &[(0, 0), (0, 3), (1, 1)]);
+    assert!(rt; marked && counts(&state) == [2, 2, 0, 0, 4, 0]);
     Ok(())
 }
 
@@ -235,8 +231,8 @@ fn returns_by_a_new_trail(rt: HostRuntime) -> Result<(), Fail> {
 fn kills_the_entry(rt: HostRuntime) -> Result<(), Fail> {
     let graphs = graphs(rt.alloc())?;
     let state = killed(rt.alloc(), &graphs)?;
-    assert!(rt; has_marks(&state, &[(0, 0)]));
-    assert!(rt; !is_live(&state, 0, 0, 3) && is_live(&state, 1, 3, 1));
-    assert_eq!(rt; state.lowest(), None);
+    let marked = has_marks(&state, &[(0, 0)]);
+    let live = (is_live(&state, 0, 0, 3), is_live(&state, 1, 3, 1));
+    assert!(rt; marked && live == (false, true) && state.lowest().is_none());
     Ok(())
 }

@@ -50,7 +50,7 @@ impl Gate for Meeting {
 }
 
 /// A pass, and the thread that made it.
-#[derive(Clone, Copy, Debug, PartialEq, Eq)]
+#[derive(Clone, Copy, PartialEq, Eq)]
 pub struct Pass {
     pub worker: u64,
     pub call: u64,

@@ -26,6 +26,14 @@ fn last_not_may(board: &Board) -> Option<u32> {
     }
 }
 
+fn status_of(board: &Board, id: u32) -> Option<Status> {
+    if id < board.forest().count() {
+        Some(board.forest().status(id))
+    } else {
+        None
+    }
+}
+
 /// How many calls the worker made.
 fn calls_of(passes: &[Pass], worker: u64) -> Option<u64> {
     passes
@@ -42,14 +50,14 @@ fn calls_of(passes: &[Pass], worker: u64) -> Option<u64> {
 fn what_a_gone_job_closed_with_is_published(rt: HostRuntime) -> Result<(), Fail> {
     let notes = Notes::with_slots(rt, rt.alloc(), 1000)?;
     let (board, asserts) = worked(&rt, rt.alloc(), THREE_WAYS, 2000, 2, &notes)?;
-    let found = Some(Says::Found(1, Some(0), None));
-    assert_eq!(rt; verdicts_of(rt.alloc(), &board, asserts)?, [found, None]);
-    assert_eq!(rt; board.forest().count(), 4);
-    if board.forest().count() > 1 {
-        assert_eq!(rt; board.forest().status(1), Status::Dropped { stamp: 12 });
-    }
-    assert_eq!(rt; board.count(), 14);
-    assert_eq!(rt; last_not_may(&board), Some(G));
-    assert_eq!(rt; calls_of(&notes.passes(rt.alloc())?, 1), Some(8));
+    let found = verdicts_of(rt.alloc(), &board, asserts)?;
+    let status = status_of(&board, 1);
+    let counts = (board.forest().count(), board.count());
+    let published = last_not_may(&board);
+    drop(board);
+    assert!(rt; found == [Some(Says::Found(1, Some(0), None)), None]);
+    assert!(rt; status == Some(Status::Dropped { stamp: 12 }) && counts == (4, 14));
+    let calls = calls_of(&notes.passes(rt.alloc())?, 1);
+    assert!(rt; published == Some(G) && calls == Some(8));
     Ok(())
 }

@@ -1,6 +1,8 @@
 //! Boards of programs, and their ends.
 
 ghost use Rattle.std.specs.Prelude.{◌≡◌, ◌≤◌, length, IfOk};
+ghost use Rattle.c_tree.specs.WellFormed.{DividesByLiterals};
+ghost use Rattle.c_tree.specs.Whole.{program_of as whole};
 ghost use Rattle.rounds_tests.specs.Boards.{IsOpened};
 
 use bolt_core::board::Board;
@@ -33,7 +35,9 @@ fn tree_of(alloc: Global, bytes: &[u8]) -> Result<Tree, Fail>
     Ok(parse(alloc, bytes, &tokens)?)
 }
 
-fn program_of(alloc: Global, text: &str) -> Result<Program, Fail> {
+fn program_of(alloc: Global, text: &str) -> Result<Program, Fail>
+    ensures { IfOk result (λ p. DividesByLiterals (whole p)) }
+{
     let bytes = text.as_bytes();
     if bytes.len() > 65_536 {
         return Err(Fail::new("the text is too long"));
@@ -93,7 +97,7 @@ pub fn worked<R: Threads + Sync, G: Gate>(
 }
 
 /// What a verdict says.
-#[derive(Clone, Copy, Debug, PartialEq, Eq)]
+#[derive(Clone, Copy, PartialEq, Eq)]
 pub enum Says {
     Proved,
     /// The first two inputs, and how many there are.

@@ -10,9 +10,9 @@ use std::thread;
 fn two_workers_are_in_their_slices_at_once(rt: HostRuntime) -> Result<(), Fail> {
     let meeting = Meeting::of(2);
     let (board, asserts) = worked(&rt, rt.alloc(), WORKLOAD, 2000, 2, &meeting)?;
-    assert_eq!(rt; meeting.met(), 2);
+    assert!(rt; meeting.met() == 2);
     let proved = Some(Says::Proved);
-    assert_eq!(rt; verdicts_of(rt.alloc(), &board, asserts)?, [proved, proved]);
+    assert!(rt; verdicts_of(rt.alloc(), &board, asserts)? == [proved, proved]);
     Ok(())
 }
 
@@ -46,11 +46,11 @@ fn the_pass_behind_a_take_is_the_workers_own(rt: HostRuntime) -> Result<(), Fail
     let notes = Notes::with_slots(rt, rt.alloc(), 1000)?;
     let (board, _) = worked(&rt, rt.alloc(), WORKLOAD, 2000, 2, &notes)?;
     let passes = notes.passes(rt.alloc())?;
-    assert_eq!(rt; other_pass(&passes), None);
+    assert!(rt; other_pass(&passes).is_none());
     let takes = board.count() as usize / 2;
     if let Ok(child) = thread::spawn(&rt, || ()) {
         child.join(&rt);
-        assert_eq!(rt; apart(&passes, this_thread(&rt)), (takes, takes));
+        assert!(rt; apart(&passes, this_thread(&rt)) == (takes, takes));
     }
     Ok(())
 }

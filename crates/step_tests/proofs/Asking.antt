@@ -8,7 +8,7 @@ use Rattle.flow_graph.specs.declared.graph.Graph.{Graph}
 use Rattle.summary_form.specs.Instances.{arity_in, arity_of}
 use Rattle.summary_form.specs.NotMays.{is_end_column}
 use Rattle.summary_form.specs.declared.query.Query.{Query}
-use Rattle.step_tests.specs.Chained.{NamesAlone}
+use Rattle.test_forms.specs.Rows.{NamesAlone}
 use Rattle.step_tests.specs.Ready.{IsFitting}
 
 -- without an atom

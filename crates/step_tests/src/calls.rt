@@ -1,6 +1,7 @@
 //! Slices with calls: what they ask, and what they make of what they are told.
 
 ghost use Rattle.std.specs.Prelude.{IfOk};
+ghost use Rattle.query_rules.specs.States.{AllHold};
 ghost use Rattle.step_tests.specs.Ready.{IsReady};
 
 use crate::families::{begun_beside, begun_root, family};
@@ -18,7 +19,7 @@ use summary_form::query::ExitKind;
 use summary_table::table::Table;
 
 /// How a slice ends.
-#[derive(Clone, Copy, Debug, PartialEq, Eq)]
+#[derive(Clone, Copy, PartialEq, Eq)]
 enum End {
     Goes,
     Asked,
@@ -45,7 +46,7 @@ fn seen_in(sliced: &Sliced) -> (u32, End) {
 }
 
 /// What the last step of a state did.
-#[derive(Clone, Copy, Debug, PartialEq, Eq)]
+#[derive(Clone, Copy, PartialEq, Eq)]
 enum Last {
     Asks { proc: u32, exit: ExitKind },
     KillsByChild(u32),
@@ -93,6 +94,24 @@ fn goes(
     Ok((seen_in(&made), last_in(parent)))
 }
 
+/// The child is sliced to its end, and the caller learns of it.
+fn child_sliced(
+    alloc: Global,
+    graphs: &Graphs,
+    table: &mut Table,
+    parent: &mut QueryState,
+    asked: u32,
+    child: &mut QueryState,
+) -> Result<End, Fail>
+    requires parent { IsReady graphs.now.graphs table.old.summaries parent.old }
+    requires child { IsReady graphs.now.graphs table.old.summaries child.old }
+    ensures { IfOk result (λ s. IsReady graphs.now.graphs table.new.summaries parent.new) }
+{
+    let made = sliced(alloc, graphs, table, child, 99, 99)?;
+    learn(alloc, graphs, table, parent, asked, child, &made.end)?;
+    Ok(seen_in(&made).1)
+}
+
 /// The asked query of this number is sliced to its end, and the caller learns of it.
 fn child_ends(
     alloc: Global,
@@ -105,9 +124,7 @@ fn child_ends(
     ensures { IfOk result (λ s. IsReady graphs.now.graphs table.new.summaries parent.new) }
 {
     let mut child = ask_child(alloc, graphs, table, parent, asked)?;
-    let made = sliced(alloc, graphs, table, &mut child, 99, 99)?;
-    learn(alloc, graphs, table, parent, asked, &child, &made.end)?;
-    Ok(seen_in(&made).1)
+    child_sliced(alloc, graphs, table, parent, asked, &mut child)
 }
 
 /// The next query is asked and learned of, and the caller goes on.
@@ -178,14 +195,129 @@ fn rounds(
     Ok((first, second, third, last))
 }
 
-/// A caller that fails where the callee returns 40, with inputs of the callee up to 99, and whether
-/// its path has the inputs 2 and 40.
-fn fails(alloc: Global) -> Result<(Rounds, bool), Fail> {
-    let graphs = family(alloc, 40, 99)?;
+/// What a play came to: the caller's rounds, its last slices, and whether its path has the inputs 2
+/// and 40.
+#[derive(Clone, Copy, PartialEq, Eq)]
+struct Played {
+    rounds: Option<Rounds>,
+    more: [Option<Gone>; 5],
+    inputs: bool,
+}
+
+/// How the caller is sliced, which fails where the callee returns 40.
+#[derive(Clone, Copy)]
+enum Play {
+    /// Three rounds.
+    Fails,
+    /// Three rounds, and then a slice of a second state of the caller's query.
+    Kills,
+    /// Slices, of whose asked queries nothing is told; at the last no step is left.
+    Alone,
+    /// The second query is asked with a not-may in the table, and that child is starved.
+    Feeds,
+}
+
+fn play_fails(
+    alloc: Global,
+    graphs: &Graphs,
+    table: &mut Table,
+    parent: &mut QueryState,
+) -> Result<Played, Fail>
+    requires { IsReady graphs.now.graphs table.old.summaries parent.old }
+{
+    let made = rounds(alloc, graphs, table, parent)?;
+    Ok(Played {
+        rounds: Some(made),
+        more: [None; 5],
+        inputs: has_inputs(parent, [2, 40]),
+    })
+}
+
+fn play_kills(
+    alloc: Global,
+    graphs: &Graphs,
+    table: &mut Table,
+    parent: &mut QueryState,
+) -> Result<Played, Fail>
+    requires { IsReady graphs.now.graphs table.old.summaries parent.old }
+{
+    let made = rounds(alloc, graphs, table, parent)?;
+    let mut other = begun_beside(alloc, graphs, table, parent)?;
+    let gone = goes(alloc, graphs, table, &mut other, 99)?;
+    Ok(Played {
+        rounds: Some(made),
+        more: [Some(gone), None, None, None, None],
+        inputs: false,
+    })
+}
+
+fn play_alone(
+    alloc: Global,
+    graphs: &Graphs,
+    table: &Table,
+    parent: &mut QueryState,
+) -> Result<Played, Fail>
+    requires { IsReady graphs.now.graphs table.now.summaries parent.old }
+{
+    let first = goes(alloc, graphs, table, parent, 2)?;
+    let second = goes(alloc, graphs, table, parent, 99)?;
+    let third = goes(alloc, graphs, table, parent, 99)?;
+    let last = goes(alloc, graphs, table, parent, 99)?;
+    let spent = goes(alloc, graphs, table, parent, 0)?;
+    Ok(Played {
+        rounds: None,
+        more: [
+            Some(first),
+            Some(second),
+            Some(third),
+            Some(last),
+            Some(spent),
+        ],
+        inputs: false,
+    })
+}
+
+fn play_feeds(
+    alloc: Global,
+    graphs: &Graphs,
+    table: &mut Table,
+    parent: &mut QueryState,
+) -> Result<Played, Fail>
+    requires { IsReady graphs.now.graphs table.old.summaries parent.old }
+{
+    let first = goes(alloc, graphs, table, parent, 99)?;
+    let (_, asked) = round(alloc, graphs, table, parent, 0)?;
+    learn_starved(graphs, table, parent, 1)?;
+    let fed = goes(alloc, graphs, table, parent, 99)?;
+    Ok(Played {
+        rounds: None,
+        more: [Some(first), Some(asked), Some(fed), None, None],
+        inputs: false,
+    })
+}
+
+/// The play from the beginning of the caller.
+fn play_with(alloc: Global, graphs: &Graphs, table: &mut Table, play: Play) -> Result<Played, Fail>
+    requires { AllHold graphs.now.graphs table.old.summaries }
+{
+    let mut parent = begun_root(alloc, graphs, table)?;
+    match play {
+        Play::Fails => play_fails(alloc, graphs, table, &mut parent),
+        Play::Kills => play_kills(alloc, graphs, table, &mut parent),
+        Play::Alone => play_alone(alloc, graphs, table, &mut parent),
+        Play::Feeds => play_feeds(alloc, graphs, table, &mut parent),
+    }
+}
+
+fn play_in(alloc: Global, graphs: &Graphs, play: Play) -> Result<Played, Fail> {
     let mut table = no_table(alloc, 3)?;
-    let mut parent = begun_root(alloc, &graphs, &table)?;
-    let made = rounds(alloc, &graphs, &mut table, &mut parent)?;
-    Ok((made, has_inputs(&parent, [2, 40])))
+    play_with(alloc, graphs, &mut table, play)
+}
+
+/// The play, where the callee returns inputs of at most the bound.
+fn play_family(alloc: Global, most: i64, play: Play) -> Result<Played, Fail> {
+    let graphs = family(alloc, 40, most)?;
+    play_in(alloc, &graphs, play)
 }
 
 /// The callee never fails, it returns 0, and it returns 40 where its argument is 2.
@@ -197,90 +329,43 @@ fn the_caller_fails_by_musts(rt: HostRuntime) -> Result<(), Fail> {
         (End::Must, asks(3, ExitKind::Return)),
         (End::Must, ((2, End::Must), Last::Other)),
     );
-    assert_eq!(rt; fails(rt.alloc())?, (wanted, true));
+    let made = play_family(rt.alloc(), 99, Play::Fails)?;
+    assert!(rt; made.rounds == Some(wanted) && made.inputs);
     Ok(())
 }
 
-/// The same with inputs of the callee up to 9, and a second state of the caller's query.
-fn kills(alloc: Global) -> Result<(Rounds, Gone), Fail> {
-    let graphs = family(alloc, 40, 9)?;
-    let mut table = no_table(alloc, 3)?;
-    let mut parent = begun_root(alloc, &graphs, &table)?;
-    let made = rounds(alloc, &graphs, &mut table, &mut parent)?;
-    let mut other = begun_beside(alloc, &graphs, &table, &parent)?;
-    let gone = goes(alloc, &graphs, &table, &mut other, 99)?;
-    Ok((made, gone))
-}
-
-/// The callee returns at most 9, so that the caller's edge is killed by its child.
+/// The callee returns at most 9, so that the caller's edge is killed by its child, and in the
+/// second state by the table.
 #[test]
 fn a_child_without_runs_kills(rt: HostRuntime) -> Result<(), Fail> {
-    let (made, other) = kills(rt.alloc())?;
     let wanted = (End::NotMay, ((1, End::NotMay), Last::KillsByChild(2)));
-    assert_eq!(rt; made.3, wanted);
-    assert_eq!(rt; other, ((6, End::NotMay), Last::KillsByTable(2)));
+    let other = ((6, End::NotMay), Last::KillsByTable(2));
+    let made = play_family(rt.alloc(), 9, Play::Kills)?;
+    let last = made.rounds.map(|all| all.3);
+    assert!(rt; last == Some(wanted) && made.more[0] == Some(other));
     Ok(())
-}
-
-/// What five slices come to.
-type Slices = (Gone, Gone, Gone, Gone, Gone);
-
-/// Slices of the caller, of whose asked queries nothing is told; at the last no step is left.
-fn unheard(
-    alloc: Global,
-    graphs: &Graphs,
-    table: &Table,
-    parent: &mut QueryState,
-) -> Result<Slices, Fail>
-    requires { IsReady graphs.now.graphs table.now.summaries parent.old }
-{
-    let first = goes(alloc, graphs, table, parent, 2)?;
-    let second = goes(alloc, graphs, table, parent, 99)?;
-    let third = goes(alloc, graphs, table, parent, 99)?;
-    let last = goes(alloc, graphs, table, parent, 99)?;
-    let spent = goes(alloc, graphs, table, parent, 0)?;
-    Ok((first, second, third, last, spent))
-}
-
-/// The same from the beginning of the caller.
-fn asks_alone(alloc: Global) -> Result<Slices, Fail> {
-    let graphs = family(alloc, 40, 99)?;
-    let table = no_table(alloc, 3)?;
-    let mut parent = begun_root(alloc, &graphs, &table)?;
-    unheard(alloc, &graphs, &table, &mut parent)
 }
 
 /// Nothing is told of the asked queries, and nothing is left.
 #[test]
 fn waits_for_children(rt: HostRuntime) -> Result<(), Fail> {
     let (_, returns) = asks(1, ExitKind::Return);
-    let wanted = (
-        ((2, End::Spent), Last::Other),
-        asks(1, FAILS),
-        asks(1, ExitKind::Return),
-        ((0, End::Waits), returns),
-        ((0, End::Spent), returns),
-    );
-    assert_eq!(rt; asks_alone(rt.alloc())?, wanted);
+    let wanted = [
+        Some(((2, End::Spent), Last::Other)),
+        Some(asks(1, FAILS)),
+        Some(asks(1, ExitKind::Return)),
+        Some(((0, End::Waits), returns)),
+        Some(((0, End::Spent), returns)),
+    ];
+    assert!(rt; play_family(rt.alloc(), 99, Play::Alone)?.more == wanted);
     Ok(())
-}
-
-/// The caller asks its second query with a not-may in the table, and that child is starved.
-fn feeds(alloc: Global) -> Result<(Gone, (u32, End)), Fail> {
-    let graphs = family(alloc, 40, 99)?;
-    let mut table = no_table(alloc, 3)?;
-    let mut parent = begun_root(alloc, &graphs, &table)?;
-    let _ = goes(alloc, &graphs, &table, &mut parent, 99)?;
-    let (_, asked) = round(alloc, &graphs, &mut table, &mut parent, 0)?;
-    learn_starved(&graphs, &table, &mut parent, 1)?;
-    let (fed, _) = goes(alloc, &graphs, &table, &mut parent, 99)?;
-    Ok((asked, fed))
 }
 
 /// A starved child is fed at once, where the table has nothing new.
 #[test]
 fn a_starved_child_is_fed(rt: HostRuntime) -> Result<(), Fail> {
-    let wanted = (asks(2, ExitKind::Return), (1, End::Fed(1)));
-    assert_eq!(rt; feeds(rt.alloc())?, wanted);
+    let made = play_family(rt.alloc(), 99, Play::Feeds)?;
+    let fed = made.more[2].map(|gone| gone.0);
+    assert!(rt; made.more[1] == Some(asks(2, ExitKind::Return)) && fed == Some((1, End::Fed(1))));
     Ok(())
 }

@@ -1,6 +1,6 @@
 //! Which not-mays, and which levels, answer an asked query.
 
-use crate::made::{Row, Says, cube_of, must};
+use crate::made::{Says, must};
 use linear_formula::formula::{Atom, Cube};
 use linear_formula::question::Question;
 use linear_formula::term::{Parts, Term};
@@ -11,9 +11,10 @@ use std::sync::Arc;
 use std::test::Fail;
 use summary_form::query::{ExitKind, Query};
 use summary_form::summary::Summary;
+use test_forms::rows::{Row, cube_of};
 
 /// The place and the certificates, none, or the summands of a wide sum.
-#[derive(Clone, Copy, Debug, PartialEq, Eq)]
+#[derive(Clone, Copy, PartialEq, Eq)]
 enum Seen {
     At { place: u32, certificates: usize },
     Nothing,
@@ -47,41 +48,35 @@ struct Bound {
     wide: bool,
 }
 
-/// Of procedure 3, at most this bound.
-const fn returning(most: i64) -> Bound {
-    Bound {
-        proc: 3,
-        exit: ExitKind::Return,
-        most,
-        wide: false,
-    }
-}
+/// Of procedure 3, at most 1.
+const ONE: Bound = Bound {
+    proc: 3,
+    exit: ExitKind::Return,
+    most: 1,
+    wide: false,
+};
 
-/// Of procedure 3, at most this bound, with a row that has no negation.
-const fn wide(most: i64) -> Bound {
-    Bound {
-        proc: 3,
-        exit: ExitKind::Return,
-        most,
-        wide: true,
-    }
-}
+const TWO: Bound = Bound { most: 2, ..ONE };
 
-/// Of another procedure, and of another exit.
-const OTHERS: [Bound; 2] = [
-    Bound {
-        proc: 4,
-        exit: ExitKind::Return,
-        most: 5,
-        wide: false,
-    },
-    Bound {
-        proc: 3,
-        exit: ExitKind::Fail(1),
-        most: 5,
-        wide: false,
-    },
-];
+const THREE: Bound = Bound { most: 3, ..ONE };
+
+const FOUR: Bound = Bound { most: 4, ..ONE };
+
+const FIVE: Bound = Bound { most: 5, ..ONE };
+
+/// Of procedure 3, at most 2, with a row that has no negation.
+const WIDE_TWO: Bound = Bound { wide: true, ..TWO };
+
+const WIDE_FIVE: Bound = Bound { wide: true, ..FIVE };
+
+/// Of another procedure.
+const ELSEWHERE: Bound = Bound { proc: 4, ..FIVE };
+
+/// Of another exit.
+const FAILING: Bound = Bound {
+    exit: ExitKind::Fail(1),
+    ..FIVE
+};
 
 /// Reads: the argument is at most the greatest constant of a term.
 fn widest(alloc: Global) -> Result<Atom, AllocError> {
@@ -91,7 +86,8 @@ fn widest(alloc: Global) -> Result<Atom, AllocError> {
 }
 
 fn start_of(alloc: Global, bound: Bound) -> Result<Cube, Fail> {
-    let start = cube_of(alloc, &[(1, 10_000, bound.most.wrapping_neg())])?;
+    let rows: [Row; 1] = [(&[(1, 10_000)], bound.most.wrapping_neg())];
+    let start = cube_of(alloc, &rows)?;
     if bound.wide {
         return Ok(start.with(alloc, widest(alloc)?)?);
     }
@@ -100,13 +96,14 @@ fn start_of(alloc: Global, bound: Bound) -> Result<Cube, Fail> {
 
 fn query_of(alloc: Global, bound: Bound) -> Result<Query, Fail> {
     let end: &[Row] = match bound.exit {
-        ExitKind::Return => &[(1, 20_000, -1)],
+        ExitKind::Return => &[(&[(1, 20_000)], -1)],
         ExitKind::Fail(_) => &[],
     };
+    let start = start_of(alloc, bound)?;
     Ok(Query {
         proc: bound.proc,
         exit: bound.exit,
-        start: start_of(alloc, bound)?,
+        start,
         end: cube_of(alloc, end)?,
     })
 }
@@ -123,8 +120,8 @@ fn table_of(alloc: Global, bounds: &[Bound]) -> Result<Vec<Arc<Summary>>, Fail> 
     Ok(table)
 }
 
-/// Which summary of a must and a not-may behind it answers.
-fn held_behind_must(alloc: Global) -> Result<Seen, Fail> {
+/// A table of a must and a not-may behind it.
+fn behind_must(alloc: Global) -> Result<Vec<Arc<Summary>>, Fail> {
     let says = Says {
         proc: 3,
         exit: ExitKind::Return,
@@ -132,82 +129,69 @@ fn held_behind_must(alloc: Global) -> Result<Seen, Fail> {
     };
     let mut table = Vec::new(alloc);
     table.push(Arc::new(alloc, Summary::Must(must(alloc, says)?))?)?;
-    table.push(Arc::new(alloc, Summary::NotMay(query_of(alloc, returning(3))?))?)?;
-    let asked = query_of(alloc, returning(3))?;
-    Ok(seen_in(&not_may_of(alloc, &asked, &table)?))
+    table.push(Arc::new(alloc, Summary::NotMay(query_of(alloc, THREE)?))?)?;
+    Ok(table)
 }
 
 /// Which not-may of the table answers whether an argument of at most 3 returns at most 1.
-fn held(alloc: Global, bounds: &[Bound]) -> Result<Seen, Fail> {
-    let table = table_of(alloc, bounds)?;
-    let asked = query_of(alloc, returning(3))?;
-    Ok(seen_in(&not_may_of(alloc, &asked, &table)?))
+fn held_in(alloc: Global, table: &[Arc<Summary>]) -> Result<Seen, Fail> {
+    let asked = query_of(alloc, THREE)?;
+    Ok(seen_in(&not_may_of(alloc, &asked, table)?))
 }
 
-const fn at(place: u32) -> Seen {
-    Seen::At {
-        place,
-        certificates: 2,
-    }
+fn held(alloc: Global, bounds: &[Bound]) -> Result<Seen, Fail> {
+    let table = table_of(alloc, bounds)?;
+    held_in(alloc, &table)
 }
+
+/// The first place, and so on.
+const FIRST: Seen = Seen::At {
+    place: 0,
+    certificates: 2,
+};
+
+const SECOND: Seen = Seen::At {
+    place: 1,
+    certificates: 2,
+};
+
+const THIRD: Seen = Seen::At {
+    place: 2,
+    certificates: 2,
+};
 
 const TOO_WIDE: Seen = Seen::Wide { summands: 1 };
 
+/// Not-mays, and the one of them that answers.
+const TABLES: [(&[Bound], Seen); 10] = [
+    (&[THREE], FIRST),
+    (&[TWO, ONE, FIVE], THIRD),
+    // none answers
+    (&[], Seen::Nothing),
+    (&[TWO, ONE], Seen::Nothing),
+    // other procedures and exits are passed by
+    (&[ELSEWHERE, FAILING], Seen::Nothing),
+    (&[ELSEWHERE, FAILING, FIVE], THIRD),
+    // a wide negation is kept
+    (&[WIDE_FIVE], TOO_WIDE),
+    (&[TWO, WIDE_FIVE, ONE], TOO_WIDE),
+    // a later not-may, and a row that isn't entailed, pass a limit
+    (&[WIDE_FIVE, FIVE], SECOND),
+    (&[WIDE_TWO], Seen::Nothing),
+];
+
 #[test]
-fn a_not_may_answers(rt: HostRuntime) -> Result<(), Fail> {
-    assert_eq!(rt; held(rt.alloc(), &[returning(3)])?, at(0));
-    assert_eq!(rt;
-        held(rt.alloc(), &[returning(2), returning(1), returning(5)])?,
-        at(2)
-    );
+fn a_not_may_answers_or_not(rt: HostRuntime) -> Result<(), Fail> {
+    for (place, (bounds, seen)) in TABLES.iter().enumerate() {
+        assert!(rt; held(rt.alloc(), bounds)? == *seen, "{place}");
+    }
     Ok(())
 }
 
 #[test]
 fn musts_are_passed_by(rt: HostRuntime) -> Result<(), Fail> {
-    assert_eq!(rt; held_behind_must(rt.alloc())?, at(1));
-    Ok(())
-}
-
-#[test]
-fn no_not_may_answers(rt: HostRuntime) -> Result<(), Fail> {
-    assert_eq!(rt; held(rt.alloc(), &[])?, Seen::Nothing);
-    assert_eq!(rt;
-        held(rt.alloc(), &[returning(2), returning(1)])?,
-        Seen::Nothing
-    );
-    Ok(())
-}
-
-#[test]
-fn other_procedures_and_exits_are_passed_by(rt: HostRuntime) -> Result<(), Fail> {
-    assert_eq!(rt; held(rt.alloc(), &OTHERS)?, Seen::Nothing);
-    assert_eq!(rt;
-        held(rt.alloc(), &[OTHERS[0], OTHERS[1], returning(5)])?,
-        at(2)
-    );
-    Ok(())
-}
-
-#[test]
-fn a_wide_negation_is_kept(rt: HostRuntime) -> Result<(), Fail> {
-    assert_eq!(rt; held(rt.alloc(), &[wide(5)])?, TOO_WIDE);
-    assert_eq!(rt;
-        held(rt.alloc(), &[returning(2), wide(5), returning(1)])?,
-        TOO_WIDE
-    );
-    Ok(())
-}
-
-#[test]
-fn a_later_not_may_passes_a_limit(rt: HostRuntime) -> Result<(), Fail> {
-    assert_eq!(rt; held(rt.alloc(), &[wide(5), returning(5)])?, at(1));
-    Ok(())
-}
-
-#[test]
-fn a_row_that_is_not_entailed_passes_a_limit(rt: HostRuntime) -> Result<(), Fail> {
-    assert_eq!(rt; held(rt.alloc(), &[wide(2)])?, Seen::Nothing);
+    let table = behind_must(rt.alloc())?;
+    assert!(rt; held_in(rt.alloc(), &table)? == SECOND);
     Ok(())
 }
 
@@ -222,51 +206,40 @@ fn ancestors_of(alloc: Global, bounds: &[Bound]) -> Result<Vec<Arc<Query>>, Fail
 }
 
 /// On which level the answer stands to whether an argument of at most 3 returns at most 1.
+fn level_in(alloc: Global, ancestors: &[Arc<Query>], own: Bound) -> Result<Seen, Fail> {
+    let own = query_of(alloc, own)?;
+    let asked = query_of(alloc, THREE)?;
+    Ok(seen_in(&level_of(alloc, &asked, ancestors, &own)?))
+}
+
 fn level(alloc: Global, ancestors: &[Bound], own: Bound) -> Result<Seen, Fail> {
     let ancestors = ancestors_of(alloc, ancestors)?;
-    let own = query_of(alloc, own)?;
-    let asked = query_of(alloc, returning(3))?;
-    Ok(seen_in(&level_of(alloc, &asked, &ancestors, &own)?))
+    level_in(alloc, &ancestors, own)
 }
 
-#[test]
-fn an_ancestor_answers(rt: HostRuntime) -> Result<(), Fail> {
-    let ancestors = [returning(2), returning(4)];
-    assert_eq!(rt; level(rt.alloc(), &ancestors, returning(1))?, at(1));
-    Ok(())
-}
+/// Ancestors, the own query, and the level that answers.
+const LEVELS: [(&[Bound], Bound, Seen); 10] = [
+    // an ancestor
+    (&[TWO, FOUR], ONE, SECOND),
+    // the own query
+    (&[], THREE, FIRST),
+    (&[TWO, ONE], THREE, THIRD),
+    // none answers
+    (&[], TWO, Seen::Nothing),
+    (&[TWO], ONE, Seen::Nothing),
+    // other procedures and exits are passed by
+    (&[ELSEWHERE], FAILING, Seen::Nothing),
+    (&[ELSEWHERE, FAILING], FOUR, THIRD),
+    // a limit is kept, and an answer passes it
+    (&[WIDE_FIVE], TWO, TOO_WIDE),
+    (&[TWO], WIDE_FIVE, TOO_WIDE),
+    (&[WIDE_FIVE], FOUR, SECOND),
+];
 
 #[test]
-fn the_own_query_answers(rt: HostRuntime) -> Result<(), Fail> {
-    assert_eq!(rt; level(rt.alloc(), &[], returning(3))?, at(0));
-    assert_eq!(rt;
-        level(rt.alloc(), &[returning(2), returning(1)], returning(3))?,
-        at(2)
-    );
-    Ok(())
-}
-
-#[test]
-fn no_level_answers(rt: HostRuntime) -> Result<(), Fail> {
-    assert_eq!(rt; level(rt.alloc(), &[], returning(2))?, Seen::Nothing);
-    assert_eq!(rt;
-        level(rt.alloc(), &[returning(2)], returning(1))?,
-        Seen::Nothing
-    );
-    Ok(())
-}
-
-#[test]
-fn other_levels_are_passed_by(rt: HostRuntime) -> Result<(), Fail> {
-    assert_eq!(rt; level(rt.alloc(), &[OTHERS[0]], OTHERS[1])?, Seen::Nothing);
-    assert_eq!(rt; level(rt.alloc(), &OTHERS, returning(4))?, at(2));
-    Ok(())
-}
-
-#[test]
-fn a_limit_of_a_level_is_kept(rt: HostRuntime) -> Result<(), Fail> {
-    assert_eq!(rt; level(rt.alloc(), &[wide(5)], returning(2))?, TOO_WIDE);
-    assert_eq!(rt; level(rt.alloc(), &[returning(2)], wide(5))?, TOO_WIDE);
-    assert_eq!(rt; level(rt.alloc(), &[wide(5)], returning(4))?, at(1));
+fn a_level_answers_or_not(rt: HostRuntime) -> Result<(), Fail> {
+    for (place, (ancestors, own, seen)) in LEVELS.iter().enumerate() {
+        assert!(rt; level(rt.alloc(), ancestors, *own)? == *seen, "{place}");
+    }
     Ok(())
 }

@@ -1,15 +1,15 @@
 //! Questions that come again, and questions that share a slot.
 
-use crate::made::{Row, cube_of};
 use linear_formula::question::Question;
 use punch_step::memo::Memo;
 use punch_step::sight::{Sight, decided};
 use shadow_elim::limit::{Kept, LimitKind};
 use std::alloc::Global;
 use std::test::Fail;
+use test_forms::rows::{Row, cube_of};
 
 /// The point's value at column 0, nothing, or a limit.
-#[derive(Clone, Copy, Debug, PartialEq, Eq)]
+#[derive(Clone, Copy, PartialEq, Eq)]
 enum Seen {
     At(i64),
     Never,
@@ -45,41 +45,43 @@ fn asked_twice(alloc: Global, rows: &[Row]) -> Result<[Seen; 2], Fail> {
     Ok([first, second])
 }
 
-/// Column 0 has this value.
-const fn at(value: i64) -> [Row; 2] {
-    [(1, 0, value.wrapping_neg()), (-1, 0, value)]
-}
+/// Rows, and what they come to each time.
+type Case<'a> = (&'a [Row<'a>], Seen);
+
+const CASES: [Case; 5] = [
+    (&[(&[(1, 0)], -7), (&[(-1, 0)], 7)], Seen::At(7)),
+    (&[(&[(2, 0)], -5), (&[(-2, 0)], 5)], Seen::Never),
+    (&[(&[(1, 0)], 9), (&[(-1, 0)], -9)], Seen::At(-9)),
+    (
+        &[(&[(1_099_511_627_776, 0)], 5)],
+        Seen::Limit(LimitKind::Wide),
+    ),
+    (
+        &[(&[(1, 0)], 0), (&[(549_755_813_888, 0)], 3)],
+        Seen::Limit(LimitKind::Wide),
+    ),
+];
 
 #[test]
 fn a_question_that_comes_again_has_the_same_answer(rt: HostRuntime) -> Result<(), Fail> {
-    assert_eq!(rt; asked_twice(rt.alloc(), &at(7))?, [Seen::At(7); 2]);
-    let between = [(2, 0, -5), (-2, 0, 5)];
-    assert_eq!(rt; asked_twice(rt.alloc(), &between)?, [Seen::Never; 2]);
-    assert_eq!(rt; asked_twice(rt.alloc(), &at(-9))?, [Seen::At(-9); 2]);
+    for (place, (rows, seen)) in CASES.iter().enumerate() {
+        assert!(rt; asked_twice(rt.alloc(), rows)? == [*seen; 2], "{place}");
+    }
     Ok(())
 }
 
-#[test]
-fn a_limit_that_comes_again_is_the_same(rt: HostRuntime) -> Result<(), Fail> {
-    let wide = Seen::Limit(LimitKind::Wide);
-    assert_eq!(rt; asked_twice(rt.alloc(), &[(1 << 40, 0, 5)])?, [wide; 2]);
-    assert_eq!(rt;
-        asked_twice(rt.alloc(), &[(1, 0, 0), (1 << 39, 0, 3)])?,
-        [wide; 2]
-    );
-    Ok(())
+/// Whether column 0 has this value where it is asked for.
+fn is_at(alloc: Global, memo: &mut Memo, value: i64) -> Result<bool, Fail> {
+    let rows: [Row; 2] = [(&[(1, 0)], value.wrapping_neg()), (&[(-1, 0)], value)];
+    Ok(asked(alloc, memo, &rows)? == Seen::At(value))
 }
 
-/// How many of so many questions have answers of their own, where all are asked in order by the
-/// same memo, and then all again.
-fn right_of(alloc: Global, count: i64) -> Result<i64, Fail> {
-    let mut memo = Memo::new(alloc)?;
+/// How many of so many questions have answers of their own, where all are asked in order.
+fn right_of(alloc: Global, memo: &mut Memo, count: i64) -> Result<i64, Fail> {
     let mut right: i64 = 0;
-    for _ in 0..2 {
-        for value in 0..count {
-            if asked(alloc, &mut memo, &at(value))? == Seen::At(value) {
-                right = right.wrapping_add(1);
-            }
+    for value in 0..count {
+        if is_at(alloc, memo, value)? {
+            right = right.wrapping_add(1);
         }
     }
     Ok(right)
@@ -90,6 +92,9 @@ const MANY: i64 = 500;
 
 #[test]
 fn questions_that_share_a_slot_have_their_own_answers(rt: HostRuntime) -> Result<(), Fail> {
-    assert_eq!(rt; right_of(rt.alloc(), MANY)?, 2 * MANY);
+    let mut memo = Memo::new(rt.alloc())?;
+    let first = right_of(rt.alloc(), &mut memo, MANY)?;
+    let second = right_of(rt.alloc(), &mut memo, MANY)?;
+    assert!(rt; (first, second) == (MANY, MANY));
     Ok(())
 }

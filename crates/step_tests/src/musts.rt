@@ -1,12 +1,13 @@
 //! What musts say at a call: the trail is carried over it, the source is split, or neither.
 
-ghost use Rattle.std.specs.Prelude.{◌≡◌, [], IfOk};
+ghost use Rattle.std.specs.Prelude.{◌≡◌, [], true, Some, IfOk, IsTrue};
+ghost use Rattle.flow_graph.specs.Shapes.{is_call, source};
+ghost use Rattle.flow_graph.specs.WellFormed.{has_slots as has_slots_below, max_slots};
 ghost use Rattle.punch_step.specs.ByMusts.{CanCall};
-ghost use Rattle.step_tests.specs.Chained.{IsScene, NamesAlone};
+ghost use Rattle.step_tests.specs.Chained.{IsScene};
 
-use crate::made::{
-    Found, Row, Says, are_rows, at_least, at_most, call, cube_of, empty, graph, must,
-};
+use crate::made::{Says, must};
+use flow_graph::columns::MAX_SLOTS;
 use flow_graph::graph::{Edge, Graph};
 use linear_formula::assignment::{Assignment, Values};
 use linear_formula::formula::Cube;
@@ -15,21 +16,26 @@ use must_region::trail::Trail;
 use punch_step::by_must::{ByMust, ByTable, Calling, by_must, by_table};
 use punch_step::memo::Memos;
 use shadow_elim::limit::{Kept, Limit};
-use std::alloc::{AllocError, Global};
+use std::alloc::Global;
 use std::sync::Arc;
 use std::test::Fail;
 use summary_form::query::{ExitKind, Query};
 use summary_form::summary::Summary;
+use test_forms::edges::call_of;
+use test_forms::graphs::{Shape, graph_of};
+use test_forms::kept::{Counts, has_slots};
+use test_forms::queries::query_of;
+use test_forms::rows::{Plain, Row, are_rows, cube_of, empty};
 
 // Calls
 
 /// A trail whose argument lies between two bounds, and the regions before and behind the call.
 #[derive(Clone, Copy)]
 struct Case<'a> {
-    least: u8,
-    most: u8,
-    source: &'a [Row],
-    target: &'a [Row],
+    least: i64,
+    most: i64,
+    source: &'a [Row<'a>],
+    target: &'a [Row<'a>],
     exit: ExitKind,
 }
 
@@ -46,29 +52,35 @@ struct Scene {
     ghost can: { IsScene query trail call point },
 }
 
+/// One parameter and two slots, without an edge behind the entry.
+const ENTRY: Shape = Shape {
+    counts: Counts {
+        nodes: 3,
+        params: 1,
+        exits: 1,
+        slots: 2,
+    },
+    steps: &[],
+};
+
 /// The trail where rows hold.
-fn guarded(alloc: Global, trail: &Trail, rows: Cube) -> Result<Trail, Fail>
-    requires { NamesAlone 0 rows.atoms }
-{
+fn guarded(alloc: Global, trail: &Trail, rows: Cube) -> Result<Trail, Fail> {
     let guard = Edge::Guard {
         from: trail.node,
         to: trail.node,
         rows,
     };
+    if !has_slots(&guard, MAX_SLOTS) {
+        return Err(Fail::new("a row names no slot"));
+    }
     Ok(trail.extend(alloc, &guard)?)
 }
 
-/// The trail to the call.
-fn trail(alloc: Global, graph: &Graph, least: u8, most: u8) -> Result<Trail, Fail>
-    ensures { IfOk result (λ t. t.node ≡ 2) }
-{
+/// The trail whose argument lies between two bounds.
+fn trail_between(alloc: Global, graph: &Graph, least: i64, most: i64) -> Result<Trail, Fail> {
     let begun = Trail::begin(alloc, graph)?;
-    let lower = guarded(alloc, &begun, at_least(alloc, 0, least)?)?;
-    let trail = guarded(alloc, &lower, at_most(alloc, 0, most)?)?;
-    if trail.node != 2 {
-        return Err(Fail::new("the trail isn't at the call"));
-    }
-    Ok(trail)
+    let rows: [Row; 2] = [(&[(-1, 0)], least), (&[(1, 0)], most.wrapping_neg())];
+    guarded(alloc, &begun, cube_of(alloc, &rows)?)
 }
 
 /// Each symbol is 0.
@@ -78,28 +90,45 @@ fn origin(alloc: Global) -> Assignment
     Assignment::new(Values::from_vec(Vec::new(alloc)))
 }
 
-fn calling_graph(alloc: Global) -> Result<Graph, AllocError> {
-    graph(alloc, call(alloc)?)
+/// The call at the trail's node.
+fn call_at(alloc: Global, trail: &Trail) -> Result<Edge, Fail>
+    ensures call { IfOk result (λ e. is_call e ≡ true) }
+    ensures leaves { IfOk result (λ e. source e ≡ Some trail.now.node) }
+    ensures slots { IfOk result (λ e. IsTrue (has_slots_below max_slots e)) }
+{
+    let call = call_of(alloc, (2, 3), 4, &[0], &[1])?;
+    if call.source() != Some(trail.node) || !has_slots(&call, MAX_SLOTS) {
+        return Err(Fail::new("the trail isn't at the call"));
+    }
+    Ok(call)
 }
 
-fn scene_of(alloc: Global, case: Case) -> Result<Scene, Fail> {
-    let graph = calling_graph(alloc)?;
-    let call = call(alloc)?;
-    let trail = trail(alloc, &graph, case.least, case.most)?;
-    let query = Query {
+/// A query of the caller without rows.
+fn any_run(alloc: Global, exit: ExitKind) -> Query
+    ensures { result.start.atoms ≡ [] }
+{
+    Query {
         proc: 0,
-        exit: case.exit,
+        exit,
         start: empty(alloc),
         end: empty(alloc),
-    };
+    }
+}
+
+fn scene_of(alloc: Global, case: &Case) -> Result<Scene, Fail> {
+    let graph = graph_of(alloc, &ENTRY)?;
+    let trail = trail_between(alloc, &graph, case.least, case.most)?;
+    let call = call_at(alloc, &trail)?;
+    let source = cube_of(alloc, case.source)?;
+    let target = cube_of(alloc, case.target)?;
     Ok(Scene {
-        query,
+        query: any_run(alloc, case.exit),
         trail,
         point: origin(alloc),
         graph,
         call,
-        source: cube_of(alloc, case.source)?,
-        target: cube_of(alloc, case.target)?,
+        source,
+        target,
     })
 }
 
@@ -121,7 +150,7 @@ fn calling(scene: &Scene, exit: ExitKind) -> Calling
 
 // Answers
 
-#[derive(Clone, Copy, Debug, PartialEq, Eq)]
+#[derive(Clone, Copy, PartialEq, Eq)]
 enum Seen {
     /// At these values of the trail's symbol and of the must's.
     Comes(i64, i64),
@@ -141,7 +170,7 @@ fn seen_point(point: &Assignment) -> Seen {
 }
 
 /// Whether the source is split by these rows.
-fn seen_parts(atoms: &Cube, wanted: &[Found]) -> Seen {
+fn seen_parts(atoms: &Cube, wanted: &[Plain]) -> Seen {
     if are_rows(atoms, wanted) {
         Seen::Parts
     } else {
@@ -158,7 +187,7 @@ fn seen_limit(kept: &Kept) -> Seen {
     }
 }
 
-fn seen_by_must(said: &ByMust, rows: &[Found]) -> Seen {
+fn seen_by_must(said: &ByMust, rows: &[Plain]) -> Seen {
     match said {
         ByMust::Comes(point) => seen_point(point),
         ByMust::Parts(atoms, _) => seen_parts(atoms, rows),
@@ -167,34 +196,36 @@ fn seen_by_must(said: &ByMust, rows: &[Found]) -> Seen {
     }
 }
 
-/// What one must says, with what is remembered; where the source is split, by these rows.
-fn said_with(
+/// What one must says of a scene.
+fn said_of(
     alloc: Global,
     memos: &mut Memos,
-    case: Case,
-    says: Says,
-    rows: &[Found],
+    scene: &Scene,
+    exit: ExitKind,
+    turn: &Turn,
 ) -> Result<Seen, Fail> {
-    let scene = scene_of(alloc, case)?;
-    let must = must(alloc, says)?;
-    let said = by_must(alloc, memos, &calling(&scene, case.exit), &must)?;
-    Ok(seen_by_must(&said, rows))
+    let must = must(alloc, turn.says)?;
+    let said = by_must(alloc, memos, &calling(scene, exit), &must)?;
+    Ok(seen_by_must(&said, turn.rows))
+}
+
+/// What one must says, with what is remembered.
+fn said_with(alloc: Global, memos: &mut Memos, turn: &Turn) -> Result<Seen, Fail> {
+    let scene = scene_of(alloc, &turn.case)?;
+    said_of(alloc, memos, &scene, turn.case.exit, turn)
 }
 
 /// What one must says where nothing is remembered.
-fn said(alloc: Global, case: Case, says: Says, rows: &[Found]) -> Result<Seen, Fail> {
+fn said(alloc: Global, turn: &Turn) -> Result<Seen, Fail> {
     let mut memos = Memos::new(alloc)?;
-    said_with(alloc, &mut memos, case, says, rows)
+    said_with(alloc, &mut memos, turn)
 }
 
 /// No run of procedure 4 with an argument of at least 0 returns at most -1.
 fn not_may(alloc: Global) -> Result<Summary, Fail> {
-    Ok(Summary::NotMay(Query {
-        proc: 4,
-        exit: ExitKind::Return,
-        start: cube_of(alloc, &[(-1, 10_000, 0)])?,
-        end: cube_of(alloc, &[(1, 20_000, 1)])?,
-    }))
+    let start: [Row; 1] = [(&[(-1, 10_000)], 0)];
+    let query = query_of(alloc, 4, ExitKind::Return, &start, &[(&[(1, 20_000)], 1)])?;
+    Ok(Summary::NotMay(query))
 }
 
 /// A table of a not-may and then these musts.
@@ -207,7 +238,10 @@ fn table_of(alloc: Global, says: &[Says]) -> Result<Vec<Arc<Summary>>, Fail> {
     Ok(table)
 }
 
-fn seen_by_table(told: &ByTable, rows: &[Found]) -> (Option<u32>, Seen) {
+/// The place of the one that serves, and what is said.
+type Told = (Option<u32>, Seen);
+
+fn seen_by_table(told: &ByTable, rows: &[Plain]) -> Told {
     match told {
         ByTable::Comes { place, point } => (Some(*place), seen_point(point)),
         ByTable::Parts { place, atoms, .. } => (Some(*place), seen_parts(atoms, rows)),
@@ -216,32 +250,41 @@ fn seen_by_table(told: &ByTable, rows: &[Found]) -> (Option<u32>, Seen) {
     }
 }
 
-/// What a not-may and then these musts say, and the place of the one that serves; where the source
-/// is split, by these rows.
-fn told(
+/// What the table says of a scene.
+fn told_of(
     alloc: Global,
-    case: Case,
-    says: &[Says],
-    rows: &[Found],
-) -> Result<(Option<u32>, Seen), Fail> {
-    let scene = scene_of(alloc, case)?;
-    let table = table_of(alloc, says)?;
+    scene: &Scene,
+    exit: ExitKind,
+    table: &[Arc<Summary>],
+    rows: &[Plain],
+) -> Result<Told, Fail> {
     let mut memos = Memos::new(alloc)?;
-    let told = by_table(alloc, &mut memos, &calling(&scene, case.exit), &table)?;
+    let told = by_table(alloc, &mut memos, &calling(scene, exit), table)?;
     Ok(seen_by_table(&told, rows))
+}
+
+fn told_in(alloc: Global, scene: &Scene, asking: &Asking) -> Result<Told, Fail> {
+    let table = table_of(alloc, asking.says)?;
+    told_of(alloc, scene, asking.case.exit, &table, asking.rows)
+}
+
+/// What a not-may and then these musts say, and the place of the one that serves.
+fn told(alloc: Global, asking: &Asking) -> Result<Told, Fail> {
+    let scene = scene_of(alloc, &asking.case)?;
+    told_in(alloc, &scene, asking)
 }
 
 // Cases
 
 /// What is returned is 7.
-const SEVEN: [Row; 2] = [(1, 1, -7), (-1, 1, 7)];
+const SEVEN: &[Row] = &[(&[(1, 1)], -7), (&[(-1, 1)], 7)];
 
 /// The argument of the trail is from 0 to 9, and 7 is to be returned.
 const COMES: Case = Case {
     least: 0,
     most: 9,
     source: &[],
-    target: &SEVEN,
+    target: SEVEN,
     exit: ExitKind::Return,
 };
 
@@ -249,8 +292,8 @@ const COMES: Case = Case {
 const PARTS: Case = Case {
     least: 0,
     most: 2,
-    source: &[(1, 0, -8)],
-    target: &SEVEN,
+    source: &[(&[(1, 0)], -8)],
+    target: SEVEN,
     exit: ExitKind::Return,
 };
 
@@ -258,7 +301,7 @@ const PARTS: Case = Case {
 const NEITHER: Case = Case {
     least: 10,
     most: 20,
-    source: &[(-1, 0, 10)],
+    source: &[(&[(-1, 0)], 10)],
     target: &[],
     exit: ExitKind::Return,
 };
@@ -268,18 +311,29 @@ const WIDE: Case = Case {
     least: 0,
     most: 9,
     source: &[],
-    target: &[(1 << 40, 1, -(1 << 40))],
+    target: &[(&[(1_099_511_627_776, 1)], -1_099_511_627_776)],
     exit: ExitKind::Return,
 };
 
-/// Procedure 4 returns so many times its argument and 1.
-const fn returning(times: u8) -> Says {
-    Says {
-        proc: 4,
-        exit: ExitKind::Return,
-        times,
-    }
-}
+/// Procedure 4 returns its argument and 1.
+const ONCE: Says = Says {
+    proc: 4,
+    exit: ExitKind::Return,
+    times: 1,
+};
+
+/// It returns twice its argument and 1.
+const TWICE: Says = Says {
+    proc: 4,
+    exit: ExitKind::Return,
+    times: 2,
+};
+
+const FOUR_TIMES: Says = Says {
+    proc: 4,
+    exit: ExitKind::Return,
+    times: 4,
+};
 
 const FAILING: Says = Says {
     proc: 4,
@@ -293,174 +347,195 @@ const OF_ANOTHER: Says = Says {
     times: 2,
 };
 
-/// The argument is at most 9 and twice of it 6.
-const BEFORE_SEVEN: [Found; 3] = [(0, 1, -9), (0, 2, -6), (0, -2, 6)];
-
-// One must
-
-#[test]
-fn the_trail_comes(rt: HostRuntime) -> Result<(), Fail> {
-    assert_eq!(rt;
-        said(rt.alloc(), COMES, returning(2), &[])?,
-        Seen::Comes(3, 3)
-    );
-    assert_eq!(rt;
-        said(rt.alloc(), COMES, returning(1), &[])?,
-        Seen::Comes(6, 6)
-    );
-    Ok(())
-}
-
-#[test]
-fn the_trail_comes_at_its_own_point(rt: HostRuntime) -> Result<(), Fail> {
-    assert_eq!(rt;
-        said(rt.alloc(), WIDE, returning(1), &[])?,
-        Seen::ComesAtOrigin
-    );
-    Ok(())
-}
-
-#[test]
-fn the_source_is_split(rt: HostRuntime) -> Result<(), Fail> {
-    assert_eq!(rt;
-        said(rt.alloc(), PARTS, returning(2), &BEFORE_SEVEN)?,
-        Seen::Parts
-    );
-    Ok(())
-}
-
-/// The argument is at most 9 and 6.
-const BEFORE_SEVEN_ONCE: [Found; 3] = [(0, 1, -9), (0, 1, -6), (0, -1, 6)];
-
-/// Calls and musts, by how many times its argument each returns, with what they say. The first two
-/// differ in the must alone.
-const TURNS: [(Case, u8, &[Found], Seen); 4] = [
-    (PARTS, 2, &BEFORE_SEVEN, Seen::Parts),
-    (PARTS, 1, &BEFORE_SEVEN_ONCE, Seen::Parts),
-    (COMES, 2, &[], Seen::Comes(3, 3)),
-    (NEITHER, 2, &[], Seen::Neither),
-];
-
-/// How many of the musts say what they are to, where all are asked in turn with the same memory of
-/// what was asked before, and then all again.
-fn right_turns(alloc: Global) -> Result<u32, Fail> {
-    let mut memos = Memos::new(alloc)?;
-    let mut right: u32 = 0;
-    for _ in 0..2 {
-        for (case, times, rows, seen) in TURNS {
-            if said_with(alloc, &mut memos, case, returning(times), rows)? == seen {
-                right = right.wrapping_add(1);
-            }
-        }
-    }
-    Ok(right)
-}
-
-#[test]
-fn what_is_remembered_says_the_same(rt: HostRuntime) -> Result<(), Fail> {
-    assert_eq!(rt; right_turns(rt.alloc())?, 8);
-    Ok(())
-}
-
-#[test]
-fn nothing_leads_through(rt: HostRuntime) -> Result<(), Fail> {
-    assert_eq!(rt;
-        said(rt.alloc(), NEITHER, returning(2), &[])?,
-        Seen::Neither
-    );
-    Ok(())
-}
-
-#[test]
-fn no_integer_returns_it(rt: HostRuntime) -> Result<(), Fail> {
-    assert_eq!(rt; said(rt.alloc(), COMES, returning(4), &[])?, Seen::Neither);
-    Ok(())
-}
-
-#[test]
-fn a_wide_sum_is_kept(rt: HostRuntime) -> Result<(), Fail> {
-    let wanted = Seen::Wide { summands: 2 };
-    assert_eq!(rt; said(rt.alloc(), WIDE, returning(2), &[])?, wanted);
-    Ok(())
-}
-
-// Tables
-
-#[test]
-fn the_first_must_that_serves_is_told(rt: HostRuntime) -> Result<(), Fail> {
-    let says = [returning(4), returning(2), returning(1)];
-    assert_eq!(rt;
-        told(rt.alloc(), COMES, &says, &[])?,
-        (Some(2), Seen::Comes(3, 3))
-    );
-    Ok(())
-}
-
-#[test]
-fn other_procedures_and_exits_are_passed_by(rt: HostRuntime) -> Result<(), Fail> {
-    let others = [OF_ANOTHER, FAILING];
-    assert_eq!(rt;
-        told(rt.alloc(), COMES, &others, &[])?,
-        (None, Seen::Neither)
-    );
-    let says = [OF_ANOTHER, FAILING, returning(2)];
-    assert_eq!(rt;
-        told(rt.alloc(), COMES, &says, &[])?,
-        (Some(3), Seen::Comes(3, 3))
-    );
-    Ok(())
-}
-
-#[test]
-fn the_source_is_split_by_one_of_a_table(rt: HostRuntime) -> Result<(), Fail> {
-    let says = [OF_ANOTHER, returning(2)];
-    let wanted = (Some(2), Seen::Parts);
-    assert_eq!(rt; told(rt.alloc(), PARTS, &says, &BEFORE_SEVEN)?, wanted);
-    Ok(())
-}
-
-#[test]
-fn none_of_a_table_serves(rt: HostRuntime) -> Result<(), Fail> {
-    let says = [returning(2), returning(1)];
-    assert_eq!(rt; told(rt.alloc(), NEITHER, &[], &[])?, (None, Seen::Neither));
-    assert_eq!(rt;
-        told(rt.alloc(), NEITHER, &says, &[])?,
-        (None, Seen::Neither)
-    );
-    Ok(())
-}
-
-#[test]
-fn a_limit_of_a_table_is_kept(rt: HostRuntime) -> Result<(), Fail> {
-    let says = [OF_ANOTHER, returning(2)];
-    let wanted = (None, Seen::Wide { summands: 2 });
-    assert_eq!(rt; told(rt.alloc(), WIDE, &says, &[])?, wanted);
-    Ok(())
-}
-
-#[test]
-fn a_later_must_passes_a_limit(rt: HostRuntime) -> Result<(), Fail> {
-    let says = [returning(2), returning(1)];
-    let wanted = (Some(2), Seen::ComesAtOrigin);
-    assert_eq!(rt; told(rt.alloc(), WIDE, &says, &[])?, wanted);
-    Ok(())
-}
-
 /// The callee is to fail, with an argument of 3.
 const FAILS: Case = Case {
     least: 0,
     most: 9,
     source: &[],
-    target: &[(1, 10_000, -3), (-1, 10_000, 3)],
+    target: &[(&[(1, 10_000)], -3), (&[(-1, 10_000)], 3)],
     exit: ExitKind::Fail(7),
 };
 
+/// The argument is at most 9 and twice of it 6.
+const BEFORE_SEVEN: &[Plain] = &[(&[(0, 1)], -9), (&[(0, 2)], -6), (&[(0, -2)], 6)];
+
+/// The argument is at most 9 and 6.
+const BEFORE_SEVEN_ONCE: &[Plain] = &[(&[(0, 1)], -9), (&[(0, 1)], -6), (&[(0, -1)], 6)];
+
+/// One must at a call, what it says, and the rows by which the source is split where it is.
+#[derive(Clone, Copy)]
+struct Turn<'a> {
+    case: Case<'a>,
+    says: Says,
+    rows: &'a [Plain<'a>],
+    seen: Seen,
+}
+
+const TURNS: [Turn; 9] = [
+    Turn {
+        case: COMES,
+        says: TWICE,
+        rows: &[],
+        seen: Seen::Comes(3, 3),
+    },
+    Turn {
+        case: COMES,
+        says: ONCE,
+        rows: &[],
+        seen: Seen::Comes(6, 6),
+    },
+    // at the trail's own point
+    Turn {
+        case: WIDE,
+        says: ONCE,
+        rows: &[],
+        seen: Seen::ComesAtOrigin,
+    },
+    // these two differ in the must alone
+    Turn {
+        case: PARTS,
+        says: TWICE,
+        rows: BEFORE_SEVEN,
+        seen: Seen::Parts,
+    },
+    Turn {
+        case: PARTS,
+        says: ONCE,
+        rows: BEFORE_SEVEN_ONCE,
+        seen: Seen::Parts,
+    },
+    // nothing leads through
+    Turn {
+        case: NEITHER,
+        says: TWICE,
+        rows: &[],
+        seen: Seen::Neither,
+    },
+    // no integer returns 7
+    Turn {
+        case: COMES,
+        says: FOUR_TIMES,
+        rows: &[],
+        seen: Seen::Neither,
+    },
+    Turn {
+        case: WIDE,
+        says: TWICE,
+        rows: &[],
+        seen: Seen::Wide { summands: 2 },
+    },
+    Turn {
+        case: FAILS,
+        says: FAILING,
+        rows: &[],
+        seen: Seen::Comes(3, 3),
+    },
+];
+
 #[test]
-fn the_trail_comes_by_one_that_fails(rt: HostRuntime) -> Result<(), Fail> {
-    let says = [returning(2), FAILING];
-    assert_eq!(rt;
-        told(rt.alloc(), FAILS, &says, &[])?,
-        (Some(2), Seen::Comes(3, 3))
-    );
+fn a_must_serves_or_not(rt: HostRuntime) -> Result<(), Fail> {
+    for (place, turn) in TURNS.iter().enumerate() {
+        assert!(rt; said(rt.alloc(), turn)? == turn.seen, "{place}");
+    }
+    Ok(())
+}
+
+/// How many of the musts say what they are to, where all are asked in turn.
+fn right_turns(alloc: Global, memos: &mut Memos) -> Result<u32, Fail> {
+    let mut right: u32 = 0;
+    for turn in &TURNS {
+        if said_with(alloc, memos, turn)? == turn.seen {
+            right = right.wrapping_add(1);
+        }
+    }
+    Ok(right)
+}
+
+/// The same twice, with the same memory of what was asked before.
+#[test]
+fn what_is_remembered_says_the_same(rt: HostRuntime) -> Result<(), Fail> {
+    let mut memos = Memos::new(rt.alloc())?;
+    let first = right_turns(rt.alloc(), &mut memos)?;
+    let second = right_turns(rt.alloc(), &mut memos)?;
+    assert!(rt; (first, second) == (9, 9));
+    Ok(())
+}
+
+/// A table of a not-may and then these musts at a call, and what it says.
+#[derive(Clone, Copy)]
+struct Asking<'a> {
+    case: Case<'a>,
+    says: &'a [Says],
+    rows: &'a [Plain<'a>],
+    told: Told,
+}
+
+const TABLES: [Asking; 9] = [
+    // the first that serves
+    Asking {
+        case: COMES,
+        says: &[FOUR_TIMES, TWICE, ONCE],
+        rows: &[],
+        told: (Some(2), Seen::Comes(3, 3)),
+    },
+    // other procedures and exits are passed by
+    Asking {
+        case: COMES,
+        says: &[OF_ANOTHER, FAILING],
+        rows: &[],
+        told: (None, Seen::Neither),
+    },
+    Asking {
+        case: COMES,
+        says: &[OF_ANOTHER, FAILING, TWICE],
+        rows: &[],
+        told: (Some(3), Seen::Comes(3, 3)),
+    },
+    Asking {
+        case: PARTS,
+        says: &[OF_ANOTHER, TWICE],
+        rows: BEFORE_SEVEN,
+        told: (Some(2), Seen::Parts),
+    },
+    // none serves
+    Asking {
+        case: NEITHER,
+        says: &[],
+        rows: &[],
+        told: (None, Seen::Neither),
+    },
+    Asking {
+        case: NEITHER,
+        says: &[TWICE, ONCE],
+        rows: &[],
+        told: (None, Seen::Neither),
+    },
+    // a limit is kept, and a later must passes it
+    Asking {
+        case: WIDE,
+        says: &[OF_ANOTHER, TWICE],
+        rows: &[],
+        told: (None, Seen::Wide { summands: 2 }),
+    },
+    Asking {
+        case: WIDE,
+        says: &[TWICE, ONCE],
+        rows: &[],
+        told: (Some(2), Seen::ComesAtOrigin),
+    },
+    // by one that fails
+    Asking {
+        case: FAILS,
+        says: &[TWICE, FAILING],
+        rows: &[],
+        told: (Some(2), Seen::Comes(3, 3)),
+    },
+];
+
+#[test]
+fn a_table_serves_or_not(rt: HostRuntime) -> Result<(), Fail> {
+    for (place, asking) in TABLES.iter().enumerate() {
+        assert!(rt; told(rt.alloc(), asking)? == asking.told, "{place}");
+    }
     Ok(())
 }

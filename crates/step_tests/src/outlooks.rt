@@ -1,14 +1,20 @@
 //! Where the analysis of a query stands at its beginning, and after some steps.
 
-use crate::states::{advanced, begun, graphs, stands};
+ghost use Rattle.std.specs.Prelude.{[]};
+ghost use Rattle.step_tests.specs.Ready.{IsReady};
+
+use crate::made::{NEXT, chain};
+use crate::states::{advanced, begun, stands};
+use flow_graph::graphs::Graphs;
 use punch_step::outlook::Outlook;
+use query_rules::state::QueryState;
 use query_rules::step::Closing;
 use std::alloc::Global;
 use std::test::Fail;
 use summary_form::query::ExitKind;
 
 /// Where an analysis stands.
-#[derive(Clone, Copy, Debug, PartialEq, Eq)]
+#[derive(Clone, Copy, PartialEq, Eq)]
 enum Stands {
     NotMay,
     Must,
@@ -26,49 +32,46 @@ fn seen_in(outlook: &Outlook) -> Stands {
     }
 }
 
-/// Where a query of arguments of at least 4 stands at its beginning.
-fn first(alloc: Global, exit: ExitKind) -> Result<Stands, Fail> {
-    let graphs = graphs(alloc, 1)?;
-    let state = begun(alloc, &graphs, exit, 4)?;
-    Ok(seen_in(&stands(alloc, &graphs, &state)?))
-}
+/// How a query of arguments of at least 4 ends, the steps, and where it stands behind them.
+type Case = (ExitKind, u32, Stands);
 
-#[test]
-fn begins_at_the_entry(rt: HostRuntime) -> Result<(), Fail> {
-    for exit in [ExitKind::Return, ExitKind::Fail(0)] {
-        assert_eq!(rt; first(rt.alloc(), exit)?, Stands::At(0, 0, 3));
+const CASES: [Case; 7] = [
+    (ExitKind::Return, 0, Stands::At(0, 0, 3)),
+    (ExitKind::Fail(0), 0, Stands::At(0, 0, 3)),
+    // an assertion that isn't there
+    (ExitKind::Fail(9), 0, Stands::NotMay),
+    (ExitKind::Fail(0), 1, Stands::At(1, 3, 4)),
+    (ExitKind::Fail(0), 2, Stands::At(2, 4, 2)),
+    (ExitKind::Fail(0), 3, Stands::Must),
+    (ExitKind::Return, 2, Stands::At(3, 4, 1)),
+];
+
+/// Where a state stands after so many steps.
+fn seen_behind(
+    alloc: Global,
+    graphs: &Graphs,
+    state: &mut QueryState,
+    steps: u32,
+) -> Result<Stands, Fail>
+    requires { IsReady graphs.now.graphs [] state.old }
+{
+    if steps == 0 {
+        return Ok(seen_in(&stands(alloc, graphs, state)?));
     }
-    Ok(())
+    advanced(alloc, graphs, state, steps, 9)?;
+    Ok(seen_in(&stands(alloc, graphs, state)?))
 }
 
-#[test]
-fn an_assertion_that_is_not_there_never_fails(rt: HostRuntime) -> Result<(), Fail> {
-    assert_eq!(rt; first(rt.alloc(), ExitKind::Fail(9))?, Stands::NotMay);
-    Ok(())
-}
-
-/// Where it stands after so many steps.
-fn later(alloc: Global, exit: ExitKind, steps: u32) -> Result<Stands, Fail> {
-    let graphs = graphs(alloc, 1)?;
-    let mut state = begun(alloc, &graphs, exit, 4)?;
-    advanced(alloc, &graphs, &mut state, steps, 9)?;
-    Ok(seen_in(&stands(alloc, &graphs, &state)?))
+fn stands_in(alloc: Global, graphs: &Graphs, case: Case) -> Result<Stands, Fail> {
+    let mut state = begun(alloc, graphs, case.0, 4)?;
+    seen_behind(alloc, graphs, &mut state, case.1)
 }
 
 #[test]
 fn goes_on_along_the_path(rt: HostRuntime) -> Result<(), Fail> {
-    assert_eq!(rt;
-        later(rt.alloc(), ExitKind::Fail(0), 1)?,
-        Stands::At(1, 3, 4)
-    );
-    assert_eq!(rt;
-        later(rt.alloc(), ExitKind::Fail(0), 2)?,
-        Stands::At(2, 4, 2)
-    );
-    assert_eq!(rt; later(rt.alloc(), ExitKind::Fail(0), 3)?, Stands::Must);
-    assert_eq!(rt;
-        later(rt.alloc(), ExitKind::Return, 2)?,
-        Stands::At(3, 4, 1)
-    );
+    let graphs = chain(rt.alloc(), NEXT, 0)?;
+    for (place, case) in CASES.iter().enumerate() {
+        assert!(rt; stands_in(rt.alloc(), &graphs, *case)? == case.2, "{place}");
+    }
     Ok(())
 }

@@ -1,16 +1,24 @@
 //! How slices end, and after how many steps.
 
-use crate::made::{Found, are_rows, are_terms};
-use crate::states::{advanced, begun, graphs};
+ghost use Rattle.std.specs.Prelude.{[], IfOk};
+ghost use Rattle.step_tests.specs.Ready.{IsReady};
+
+use crate::made::{NEXT, chain};
+use crate::states::{advanced, begun};
+use flow_graph::graphs::Graphs;
 use punch_step::slice::{SliceEnd, Sliced};
+use query_rules::state::QueryState;
 use query_rules::step::{Closing, Step};
 use shadow_elim::limit::LimitKind;
 use std::alloc::Global;
 use std::test::Fail;
+use summary_form::path::Path;
 use summary_form::query::ExitKind;
+use test_forms::edges::Does;
+use test_forms::rows::{Plain, are_rows, are_terms};
 
 /// How a slice ends.
-#[derive(Clone, Copy, Debug, PartialEq, Eq)]
+#[derive(Clone, Copy, PartialEq, Eq)]
 enum End {
     Goes,
     NotMay,
@@ -20,7 +28,10 @@ enum End {
     Other,
 }
 
-fn seen_in(sliced: &Sliced) -> (u32, End) {
+/// How many steps were made, and the end.
+type Made = (u32, End);
+
+fn seen_in(sliced: &Sliced) -> Made {
     let end = match &sliced.end {
         SliceEnd::Goes => End::Goes,
         SliceEnd::Closed(Closing::NotMay) => End::NotMay,
@@ -32,130 +43,227 @@ fn seen_in(sliced: &Sliced) -> (u32, End) {
     (sliced.steps, end)
 }
 
-/// Where slot 0 becomes itself and 1, and the assertion fails.
+/// The assertion fails, where the slot is at most 5.
 const FAILS: ExitKind = ExitKind::Fail(0);
 
-/// The steps and the end of a slice of runs with an argument of at least the bound.
-fn sliced(
+/// A slice of a query of runs with an argument of at least a bound: how they end, the bound, how
+/// many steps are left, and how many may be made at once.
+type Slice = (ExitKind, i32, u32, u32);
+
+/// A slice of the state.
+fn goes(
     alloc: Global,
-    exit: ExitKind,
-    least: u8,
+    graphs: &Graphs,
+    state: &mut QueryState,
     left: u32,
     at_most: u32,
-) -> Result<(u32, End), Fail> {
+) -> Result<Made, Fail>
+    requires { IsReady graphs.now.graphs [] state.old }
+    ensures { IfOk result (λ s. IsReady graphs.now.graphs [] state.new) }
+{
     if at_most == 0 {
         return Err(Fail::new("no step is to be made"));
     }
-    let graphs = graphs(alloc, 1)?;
-    let mut state = begun(alloc, &graphs, exit, least)?;
-    Ok(seen_in(&advanced(alloc, &graphs, &mut state, left, at_most)?))
+    Ok(seen_in(&advanced(alloc, graphs, state, left, at_most)?))
 }
 
+fn sliced(alloc: Global, graphs: &Graphs, slice: Slice) -> Result<Made, Fail> {
+    let (exit, least, left, at_most) = slice;
+    let mut state = begun(alloc, graphs, exit, least)?;
+    goes(alloc, graphs, &mut state, left, at_most)
+}
+
+/// Slices where slot 0 becomes itself and 1, and what they come to.
+const SLICES: [(Slice, Made); 16] = [
+    // no path is left
+    ((FAILS, 5, 9, 9), (5, End::NotMay)),
+    ((FAILS, 5, 5, 5), (5, End::NotMay)),
+    ((ExitKind::Fail(9), 0, 0, 1), (0, End::NotMay)),
+    // a path fails
+    ((FAILS, 4, 9, 9), (3, End::Must)),
+    ((FAILS, 4, 3, 3), (3, End::Must)),
+    // a path returns
+    ((ExitKind::Return, 5, 9, 9), (3, End::Must)),
+    // all is spent
+    ((FAILS, 5, 0, 9), (0, End::Spent)),
+    ((FAILS, 5, 1, 9), (1, End::Spent)),
+    ((FAILS, 5, 2, 9), (2, End::Spent)),
+    ((FAILS, 5, 3, 9), (3, End::Spent)),
+    ((FAILS, 5, 4, 9), (4, End::Spent)),
+    ((FAILS, 5, 3, 3), (3, End::Spent)),
+    // as many as at once are made
+    ((FAILS, 5, 5, 1), (1, End::Goes)),
+    ((FAILS, 5, 5, 2), (2, End::Goes)),
+    ((FAILS, 5, 5, 3), (3, End::Goes)),
+    ((FAILS, 5, 5, 4), (4, End::Goes)),
+];
+
 #[test]
-fn no_path_is_left(rt: HostRuntime) -> Result<(), Fail> {
-    assert_eq!(rt; sliced(rt.alloc(), FAILS, 5, 9, 9)?, (5, End::NotMay));
-    assert_eq!(rt; sliced(rt.alloc(), FAILS, 5, 5, 5)?, (5, End::NotMay));
-    assert_eq!(rt;
-        sliced(rt.alloc(), ExitKind::Fail(9), 0, 0, 1)?,
-        (0, End::NotMay)
-    );
+fn slices_end(rt: HostRuntime) -> Result<(), Fail> {
+    let graphs = chain(rt.alloc(), NEXT, 0)?;
+    for (place, (slice, made)) in SLICES.iter().enumerate() {
+        assert!(rt; sliced(rt.alloc(), &graphs, *slice)? == *made, "{place}");
+    }
     Ok(())
 }
 
-#[test]
-fn a_path_fails(rt: HostRuntime) -> Result<(), Fail> {
-    assert_eq!(rt; sliced(rt.alloc(), FAILS, 4, 9, 9)?, (3, End::Must));
-    assert_eq!(rt; sliced(rt.alloc(), FAILS, 4, 3, 3)?, (3, End::Must));
-    Ok(())
+/// Slot 1 becomes the half of slot 0, rounded down.
+const HALF: Does = Does::Pick(1, &[(&[(2, 1), (-1, 0)], 0), (&[(1, 0), (-2, 1)], -1)]);
+
+/// Slot 0 is 7 times slot 1, and at most 34.
+const SEVENTH: Does = Does::Pick(
+    1,
+    &[
+        (&[(7, 1), (-1, 0)], 0),
+        (&[(1, 0), (-7, 1)], 0),
+        (&[(1, 0)], -34),
+    ],
+);
+
+/// Slot 0 becomes 2 ^ 50 times itself and 1.
+const WIDE: Does = Does::Assign(0, (&[(1_125_899_906_842_624, 0)], 1));
+
+/// What stands in the middle, the slot that is at most 5 where it fails, the least argument, and
+/// what a slice of all steps comes to.
+type Middle<'a> = (Does<'a>, u32, i32, Made);
+
+const MIDDLES: [Middle; 4] = [
+    (WIDE, 0, 5, (2, End::Stuck(LimitKind::Wide))),
+    // halves of 11 and more, and of 12 and more
+    (HALF, 1, 11, (3, End::Must)),
+    (HALF, 1, 12, (5, End::NotMay)),
+    // rationals meet the rows where no integer does, so the preimage isn't exact
+    (SEVENTH, 1, 29, (2, End::Stuck(LimitKind::Inexact))),
+];
+
+fn sliced_over(alloc: Global, middle: &Middle) -> Result<Made, Fail> {
+    let graphs = chain(alloc, middle.0, middle.1)?;
+    sliced(alloc, &graphs, (FAILS, middle.2, 9, 9))
 }
 
 #[test]
-fn a_path_returns(rt: HostRuntime) -> Result<(), Fail> {
-    assert_eq!(rt;
-        sliced(rt.alloc(), ExitKind::Return, 5, 9, 9)?,
-        (3, End::Must)
-    );
+fn slices_over_other_edges_end(rt: HostRuntime) -> Result<(), Fail> {
+    for (place, middle) in MIDDLES.iter().enumerate() {
+        assert!(rt; sliced_over(rt.alloc(), middle)? == middle.3, "{place}");
+    }
     Ok(())
 }
 
-/// Whether a slice of runs with an argument of at least 4 finds a path with these rows and outcome.
-fn finds(alloc: Global, exit: ExitKind, rows: &[Found], outcome: &[Found]) -> Result<bool, Fail> {
-    let graphs = graphs(alloc, 1)?;
-    let mut state = begun(alloc, &graphs, exit, 4)?;
-    let sliced = advanced(alloc, &graphs, &mut state, 9, 9)?;
-    let SliceEnd::Closed(Closing::Must(path)) = &sliced.end else {
-        return Ok(false);
-    };
-    Ok(path.exit == exit && are_rows(&path.guard, rows) && are_terms(&path.outcome, outcome))
+/// The rows of a path, and its outcome.
+#[derive(Clone, Copy)]
+struct Finds<'a> {
+    middle: Does<'a>,
+    slot: u32,
+    exit: ExitKind,
+    least: i32,
+    rows: &'a [Plain<'a>],
+    outcome: &'a [Plain<'a>],
 }
 
-/// The symbol and 1 is a value of 64 bits.
-const IN_RANGE: [Found; 2] = [
-    (30_000, 1, -9_223_372_036_854_775_806),
-    (30_000, -1, -9_223_372_036_854_775_809),
+fn is_path(path: &Path, finds: &Finds) -> bool {
+    path.exit == finds.exit
+        && are_rows(&path.guard, finds.rows)
+        && are_terms(path.outcome.as_slice(), finds.outcome)
+}
+
+fn has_path(sliced: &Sliced, finds: &Finds) -> bool {
+    match &sliced.end {
+        SliceEnd::Closed(Closing::Must(path)) => is_path(path, finds),
+        _ => false,
+    }
+}
+
+/// Whether a slice of the state finds the path.
+fn leads_to(
+    alloc: Global,
+    graphs: &Graphs,
+    state: &mut QueryState,
+    finds: &Finds,
+) -> Result<bool, Fail>
+    requires { IsReady graphs.now.graphs [] state.old }
+{
+    Ok(has_path(&advanced(alloc, graphs, state, 9, 9)?, finds))
+}
+
+fn leads_in(alloc: Global, graphs: &Graphs, finds: &Finds) -> Result<bool, Fail> {
+    let mut state = begun(alloc, graphs, finds.exit, finds.least)?;
+    leads_to(alloc, graphs, &mut state, finds)
+}
+
+fn finds_it(alloc: Global, finds: &Finds) -> Result<bool, Fail> {
+    let graphs = chain(alloc, finds.middle, finds.slot)?;
+    leads_in(alloc, &graphs, finds)
+}
+
+/// The symbol and 1 is at most the greatest value of 64 bits.
+const HIGH: Plain = (&[(30_000, 1)], -9_223_372_036_854_775_806);
+
+/// It is at least the least one.
+const LOW: Plain = (&[(30_000, -1)], -9_223_372_036_854_775_809);
+
+const FOUND: [Finds; 3] = [
+    Finds {
+        middle: NEXT,
+        slot: 0,
+        exit: FAILS,
+        least: 4,
+        rows: &[HIGH, LOW, (&[(30_000, 1)], -4), (&[(30_000, -1)], 4)],
+        outcome: &[],
+    },
+    Finds {
+        middle: NEXT,
+        slot: 0,
+        exit: ExitKind::Return,
+        least: 4,
+        rows: &[HIGH, LOW, (&[(30_000, -1)], 4)],
+        outcome: &[(&[(30_000, 1)], 1)],
+    },
+    // the half of at least 11, at most 5
+    Finds {
+        middle: HALF,
+        slot: 1,
+        exit: FAILS,
+        least: 11,
+        rows: &[
+            (&[(30_000, -1), (30_001, 2)], 0),
+            (&[(30_000, 1), (30_001, -2)], -1),
+            (&[(30_001, 1)], -5),
+            (&[(30_000, -1)], 11),
+        ],
+        outcome: &[],
+    },
 ];
 
 #[test]
 fn a_path_has_the_rows_of_its_edges_and_its_query(rt: HostRuntime) -> Result<(), Fail> {
-    let least: Found = (30_000, -1, 4);
-    let fails = [IN_RANGE[0], IN_RANGE[1], (30_000, 1, -4), least];
-    assert!(rt; finds(rt.alloc(), FAILS, &fails, &[])?);
-    let returns = [IN_RANGE[0], IN_RANGE[1], least];
-    assert!(rt; finds(rt.alloc(), ExitKind::Return, &returns, &[(30_000, 1, 1)])?);
-    Ok(())
-}
-
-#[test]
-fn all_is_spent(rt: HostRuntime) -> Result<(), Fail> {
-    for left in 0..5 {
-        assert_eq!(rt; sliced(rt.alloc(), FAILS, 5, left, 9)?, (left, End::Spent));
+    for (place, finds) in FOUND.iter().enumerate() {
+        assert!(rt; finds_it(rt.alloc(), finds)?, "{place}");
     }
-    assert_eq!(rt; sliced(rt.alloc(), FAILS, 5, 3, 3)?, (3, End::Spent));
-    Ok(())
-}
-
-#[test]
-fn as_many_as_at_once_are_made(rt: HostRuntime) -> Result<(), Fail> {
-    for at_most in 1..5 {
-        assert_eq!(rt;
-            sliced(rt.alloc(), FAILS, 5, 5, at_most)?,
-            (at_most, End::Goes)
-        );
-    }
-    Ok(())
-}
-
-/// A slice where slot 0 becomes 2 ^ 50 times itself and 1.
-fn sliced_wide(alloc: Global) -> Result<(u32, End), Fail> {
-    let graphs = graphs(alloc, 1 << 50)?;
-    let mut state = begun(alloc, &graphs, FAILS, 5)?;
-    Ok(seen_in(&advanced(alloc, &graphs, &mut state, 9, 9)?))
-}
-
-#[test]
-fn a_wide_sum_holds_up(rt: HostRuntime) -> Result<(), Fail> {
-    let wanted = End::Stuck(LimitKind::Wide);
-    assert_eq!(rt; sliced_wide(rt.alloc())?, (2, wanted));
     Ok(())
 }
 
 /// Two slices of one state.
-fn sliced_twice(alloc: Global) -> Result<((u32, End), (u32, End)), Fail> {
-    let graphs = graphs(alloc, 1)?;
+fn goes_twice(alloc: Global, graphs: &Graphs, state: &mut QueryState) -> Result<[Made; 2], Fail>
+    requires { IsReady graphs.now.graphs [] state.old }
+{
+    let first = goes(alloc, graphs, state, 9, 2)?;
+    Ok([first, goes(alloc, graphs, state, 7, 7)?])
+}
+
+fn sliced_twice(alloc: Global) -> Result<[Made; 2], Fail> {
+    let graphs = chain(alloc, NEXT, 0)?;
     let mut state = begun(alloc, &graphs, FAILS, 5)?;
-    let first = seen_in(&advanced(alloc, &graphs, &mut state, 9, 2)?);
-    let second = seen_in(&advanced(alloc, &graphs, &mut state, 7, 7)?);
-    Ok((first, second))
+    goes_twice(alloc, &graphs, &mut state)
 }
 
 #[test]
 fn a_slice_goes_on(rt: HostRuntime) -> Result<(), Fail> {
-    let wanted = ((2, End::Goes), (3, End::NotMay));
-    assert_eq!(rt; sliced_twice(rt.alloc())?, wanted);
+    let wanted = [(2, End::Goes), (3, End::NotMay)];
+    assert!(rt; sliced_twice(rt.alloc())? == wanted);
     Ok(())
 }
 
-#[derive(Clone, Copy, Debug, PartialEq, Eq)]
+#[derive(Clone, Copy, PartialEq, Eq)]
 enum Kind {
     Extend,
     Split,
@@ -164,7 +272,9 @@ enum Kind {
 }
 
 /// What a step does, and the numbers of its edge and regions.
-fn kind_of(step: &Step) -> (Kind, [u32; 3]) {
+type Done = (Kind, [u32; 3]);
+
+fn kind_of(step: &Step) -> Done {
     let (kind, edge) = match step {
         Step::Extend { edge, .. } => (Kind::Extend, edge),
         Step::Split { edge, .. } => (Kind::Split, edge),
@@ -174,7 +284,7 @@ fn kind_of(step: &Step) -> (Kind, [u32; 3]) {
     (kind, [edge.edge, edge.from, edge.to])
 }
 
-fn are_kinds(steps: &[Step], wanted: &[(Kind, [u32; 3])]) -> bool {
+fn are_kinds(steps: &[Step], wanted: &[Done]) -> bool {
     for (step, kind) in steps.iter().zip(wanted) {
         if kind_of(step) != *kind {
             return false;
@@ -183,23 +293,37 @@ fn are_kinds(steps: &[Step], wanted: &[(Kind, [u32; 3])]) -> bool {
     steps.len() == wanted.len()
 }
 
-/// Whether a slice of all steps makes these, with failures of arguments of at least 5.
-fn makes(alloc: Global, wanted: &[(Kind, [u32; 3])]) -> Result<bool, Fail> {
-    let graphs = graphs(alloc, 1)?;
-    let mut state = begun(alloc, &graphs, FAILS, 5)?;
-    advanced(alloc, &graphs, &mut state, 9, 9)?;
+/// A split before the assertion, one before the middle, and the kill of the entry.
+const BACK: [Done; 5] = [
+    (Kind::Extend, [0, 0, 3]),
+    (Kind::Extend, [1, 3, 4]),
+    (Kind::Split, [2, 4, 2]),
+    (Kind::Split, [1, 3, 4]),
+    (Kind::Kill, [0, 0, 3]),
+];
+
+/// Whether a slice of all steps makes these.
+fn makes(
+    alloc: Global,
+    graphs: &Graphs,
+    state: &mut QueryState,
+    wanted: &[Done],
+) -> Result<bool, Fail>
+    requires { IsReady graphs.now.graphs [] state.old }
+{
+    advanced(alloc, graphs, state, 9, 9)?;
     Ok(are_kinds(state.steps(), wanted))
+}
+
+fn goes_back(alloc: Global, middle: Does, slot: u32, least: i32) -> Result<bool, Fail> {
+    let graphs = chain(alloc, middle, slot)?;
+    let mut state = begun(alloc, &graphs, FAILS, least)?;
+    makes(alloc, &graphs, &mut state, &BACK)
 }
 
 #[test]
 fn splits_back_to_the_entry(rt: HostRuntime) -> Result<(), Fail> {
-    let wanted = [
-        (Kind::Extend, [0, 0, 3]),
-        (Kind::Extend, [1, 3, 4]),
-        (Kind::Split, [2, 4, 2]),
-        (Kind::Split, [1, 3, 4]),
-        (Kind::Kill, [0, 0, 3]),
-    ];
-    assert!(rt; makes(rt.alloc(), &wanted)?);
+    assert!(rt; goes_back(rt.alloc(), NEXT, 0, 5)?);
+    assert!(rt; goes_back(rt.alloc(), HALF, 1, 12)?);
     Ok(())
 }

@@ -1,38 +1,31 @@
 //! States of queries of one graph without calls, and slices of them.
 
 ghost use Rattle.std.specs.Prelude.{◌≤◌, [], IfOk};
-ghost use Rattle.flow_graph.specs.declared.graph.Graph.{Graph as AGraph};
-ghost use Rattle.step_tests.specs.Chained.{IsOnly};
+ghost use Rattle.step_tests.specs.Chained.{BeginsWith};
 ghost use Rattle.step_tests.specs.Ready.{IsFitting, IsReady};
 
-use crate::made::{assign, at_least, empty, graph};
+use crate::made::begins_with;
 use crate::ready::{begun_below, no_table, outlook, sliced};
-use flow_graph::graphs::{GraphList, Graphs};
+use flow_graph::graphs::Graphs;
 use linear_formula::error::OutOfMemory;
 use punch_step::outlook::Outlook;
 use punch_step::slice::Sliced;
 use query_rules::state::QueryState;
 use std::alloc::{AllocError, Global};
 use std::sync::Arc;
+use std::test::Fail;
 use summary_form::query::{ExitKind, Query};
-
-/// The one graph, with this coefficient in its middle.
-pub fn graphs(alloc: Global, coefficient: i64) -> Result<Graphs, AllocError>
-    ensures { IfOk result (λ gs. (g : AGraph) × IsOnly gs.graphs g) }
-{
-    let graph = graph(alloc, assign(alloc, coefficient)?)?;
-    let list = vec![in alloc; graph]?;
-    Ok(Graphs::new(GraphList::from_vec(list)))
-}
+use test_forms::bounds::at_least;
+use test_forms::rows::empty;
 
 /// Asks for runs with an argument of at least the bound.
 fn asked_query(
     alloc: Global,
     graphs: &Graphs,
     exit: ExitKind,
-    least: u8,
+    least: i32,
 ) -> Result<Query, AllocError>
-    requires { (g : AGraph) × IsOnly graphs.now.graphs g }
+    requires { BeginsWith graphs.now.graphs 1 }
     ensures { IfOk result (IsFitting graphs.now.graphs) }
 {
     let start = at_least(alloc, 10_000, least)?;
@@ -44,19 +37,28 @@ fn asked_query(
     })
 }
 
-/// The state of the query without steps.
-pub fn begun(
+fn begun_of(
     alloc: Global,
     graphs: &Graphs,
     exit: ExitKind,
-    least: u8,
+    least: i32,
 ) -> Result<QueryState, AllocError>
-    requires { (g : AGraph) × IsOnly graphs.now.graphs g }
+    requires { BeginsWith graphs.now.graphs 1 }
     ensures { IfOk result (λ s. IsReady graphs.now.graphs [] s) }
 {
     let query = Arc::new(alloc, asked_query(alloc, graphs, exit, least)?)?;
     let table = no_table(alloc, 0)?;
     begun_below(alloc, graphs, &table, query, 0, Vec::new(alloc))
+}
+
+/// The state of the query without steps.
+pub fn begun(alloc: Global, graphs: &Graphs, exit: ExitKind, least: i32) -> Result<QueryState, Fail>
+    ensures { IfOk result (λ s. IsReady graphs.now.graphs [] s) }
+{
+    if !begins_with(graphs, 1) {
+        return Err(Fail::new("no procedure with one parameter"));
+    }
+    Ok(begun_of(alloc, graphs, exit, least)?)
 }
 
 /// A slice of the state, which goes on.

@@ -1,17 +1,17 @@
 //! What tables of two summaries answer.
 
-use crate::made::{Row, must, not_may, query_of, table_of};
+use crate::made::{must, not_may, table_of};
 use linear_formula::question::Question;
 use shadow_elim::limit::Limit;
 use std::alloc::Global;
-use std::sync::Arc;
 use std::test::Fail;
-use summary_form::query::{ExitKind, Query};
-use summary_form::summary::Summary;
-use summary_table::{Answer, AnswerProof};
+use summary_form::query::ExitKind;
+use summary_table::{Answer, AnswerProof, Table};
+use test_forms::queries::query_of;
+use test_forms::rows::Row;
 
 /// The certificates of a not-may, the values of a must, none, or the summands of a wide sum.
-#[derive(Clone, Copy, Debug, PartialEq, Eq)]
+#[derive(Clone, Copy, PartialEq, Eq)]
 enum Seen {
     Entailed { place: u32, certificates: usize },
     Met { place: u32, column: u32, value: i64 },
@@ -50,122 +50,172 @@ fn seen_in(answer: &Answer) -> Seen {
     }
 }
 
-/// What two summaries answer, in this order.
-fn told(
-    alloc: Global,
-    summaries: (Arc<Summary>, Arc<Summary>),
-    query: &Query,
-) -> Result<Seen, Fail> {
-    let table = table_of(alloc, summaries.0, summaries.1)?;
-    Ok(seen_in(&table.answer(alloc, query)?))
+/// Which summaries the table has, in this order.
+#[derive(Clone, Copy)]
+enum Holds {
+    NotMayAndMust,
+    MustAndNotMay,
+    TwoNotMays,
 }
 
-/// What the not-may and then the must answer to a query of a procedure.
-fn answer(alloc: Global, proc: u32, start: &[Row], end: &[Row]) -> Result<Seen, Fail> {
-    let query = query_of(alloc, proc, start, end)?;
-    told(alloc, (not_may(alloc)?, must(alloc)?), &query)
+/// A table of two summaries.
+fn table_with(alloc: Global, holds: Holds) -> Result<Table, Fail> {
+    let first = match holds {
+        Holds::MustAndNotMay => must(alloc)?,
+        _ => not_may(alloc)?,
+    };
+    let second = match holds {
+        Holds::NotMayAndMust => must(alloc)?,
+        _ => not_may(alloc)?,
+    };
+    Ok(table_of(alloc, first, second)?)
+}
+
+/// A query of a procedure, and what the table answers.
+#[derive(Clone, Copy)]
+struct Case<'a> {
+    holds: Holds,
+    proc: u32,
+    exit: ExitKind,
+    start: &'a [Row<'a>],
+    end: &'a [Row<'a>],
+    seen: Seen,
+}
+
+const ASKED: Case = Case {
+    holds: Holds::NotMayAndMust,
+    proc: 3,
+    exit: ExitKind::Return,
+    start: &[],
+    end: &[],
+    seen: Seen::Nothing,
+};
+
+/// The argument is at most 3, or at least 8.
+const LOW: Row = (&[(1, 10_000)], -3);
+
+const HIGH: Row = (&[(-1, 10_000)], 8);
+
+/// 2 ^ 21 times what is returned is at most 0.
+const WIDE: Row = (&[(2_097_152, 20_000)], 0);
+
+const CASES: [Case; 9] = [
+    // the not-may
+    Case {
+        start: &[LOW],
+        end: &[(&[(1, 20_000)], -1)],
+        seen: Seen::Entailed {
+            place: 0,
+            certificates: 2,
+        },
+        ..ASKED
+    },
+    // the must
+    Case {
+        start: &[HIGH],
+        end: &[(&[(1, 20_000)], -8_388_609)],
+        seen: Seen::Met {
+            place: 1,
+            column: 30_000,
+            value: 8,
+        },
+        ..ASKED
+    },
+    // neither
+    Case {
+        start: &[HIGH],
+        end: &[(&[(1, 20_000)], -8_388_608)],
+        ..ASKED
+    },
+    // outside of the must's guard
+    Case {
+        start: &[(&[(-1, 10_000)], 10)],
+        ..ASKED
+    },
+    Case { proc: 4, ..ASKED },
+    Case {
+        exit: ExitKind::Fail(1),
+        start: &[LOW],
+        ..ASKED
+    },
+    Case {
+        start: &[HIGH],
+        end: &[WIDE],
+        seen: Seen::Wide { summands: 2 },
+        ..ASKED
+    },
+    // a later answer passes a limit
+    Case {
+        holds: Holds::MustAndNotMay,
+        start: &[LOW],
+        end: &[WIDE],
+        seen: Seen::Entailed {
+            place: 1,
+            certificates: 2,
+        },
+        ..ASKED
+    },
+    // both not-mays answer
+    Case {
+        holds: Holds::TwoNotMays,
+        start: &[LOW],
+        end: &[(&[(1, 20_000)], -1)],
+        seen: Seen::Entailed {
+            place: 0,
+            certificates: 2,
+        },
+        ..ASKED
+    },
+];
+
+/// What the table answers to the query.
+fn answered(alloc: Global, table: &Table, case: &Case) -> Result<Seen, Fail> {
+    let query = query_of(alloc, case.proc, case.exit, case.start, case.end)?;
+    Ok(seen_in(&table.answer(alloc, &query)?))
+}
+
+fn told(alloc: Global, case: &Case) -> Result<Seen, Fail> {
+    let table = table_with(alloc, case.holds)?;
+    answered(alloc, &table, case)
 }
 
 #[test]
-fn the_not_may_answers(rt: HostRuntime) -> Result<(), Fail> {
-    let start: [Row; 1] = [(&[(1, 10_000)], -3)];
-    let end: [Row; 1] = [(&[(1, 20_000)], -1)];
+fn a_summary_answers_or_not(rt: HostRuntime) -> Result<(), Fail> {
+    for (place, case) in CASES.iter().enumerate() {
+        assert!(rt; told(rt.alloc(), case)? == case.seen, "{place}");
+    }
+    Ok(())
+}
+
+/// An empty table, and then the same with a not-may of the very query.
+#[test]
+fn a_not_may_answers_its_own_query(rt: HostRuntime) -> Result<(), Fail> {
+    let first = own_answer(rt.alloc(), false)?;
+    let second = own_answer(rt.alloc(), true)?;
     let wanted = Seen::Entailed {
         place: 0,
         certificates: 2,
     };
-    assert_eq!(rt; answer(rt.alloc(), 3, &start, &end)?, wanted);
+    assert!(rt; first == Seen::Nothing && second == wanted);
     Ok(())
 }
 
-#[test]
-fn the_must_answers(rt: HostRuntime) -> Result<(), Fail> {
-    let start: [Row; 1] = [(&[(-1, 10_000)], 8)];
-    let end: [Row; 1] = [(&[(1, 20_000)], -8_388_609)];
-    let wanted = Seen::Met {
-        place: 1,
-        column: 30_000,
-        value: 8,
+/// A table with room for one summary, which has the not-may where it is to.
+fn table_of_own(alloc: Global, has: bool) -> Result<Table, Fail> {
+    let mut table = Table::with_room(alloc, 1)?;
+    if has {
+        table.push(not_may(alloc)?);
+    }
+    Ok(table)
+}
+
+/// What is answered to the query of the not-may.
+fn own_answer(alloc: Global, has: bool) -> Result<Seen, Fail> {
+    let table = table_of_own(alloc, has)?;
+    let case = Case {
+        start: &[(&[(1, 10_000)], -5)],
+        end: &[(&[(1, 20_000)], -2)],
+        ..ASKED
     };
-    assert_eq!(rt; answer(rt.alloc(), 3, &start, &end)?, wanted);
-    Ok(())
-}
-
-#[test]
-fn neither_answers(rt: HostRuntime) -> Result<(), Fail> {
-    let start: [Row; 1] = [(&[(-1, 10_000)], 8)];
-    let end: [Row; 1] = [(&[(1, 20_000)], -8_388_608)];
-    assert_eq!(rt; answer(rt.alloc(), 3, &start, &end)?, Seen::Nothing);
-    Ok(())
-}
-
-#[test]
-fn the_guard_is_kept(rt: HostRuntime) -> Result<(), Fail> {
-    let start: [Row; 1] = [(&[(-1, 10_000)], 10)];
-    assert_eq!(rt; answer(rt.alloc(), 3, &start, &[])?, Seen::Nothing);
-    Ok(())
-}
-
-#[test]
-fn another_procedure_is_not_asked(rt: HostRuntime) -> Result<(), Fail> {
-    assert_eq!(rt; answer(rt.alloc(), 4, &[], &[])?, Seen::Nothing);
-    Ok(())
-}
-
-#[test]
-fn a_wide_sum_is_kept(rt: HostRuntime) -> Result<(), Fail> {
-    let start: [Row; 1] = [(&[(-1, 10_000)], 8)];
-    let end: [Row; 1] = [(&[(1 << 21, 20_000)], 0)];
-    assert_eq!(rt;
-        answer(rt.alloc(), 3, &start, &end)?,
-        Seen::Wide { summands: 2 }
-    );
-    Ok(())
-}
-
-/// What the must and then the not-may answer.
-fn answer_by_must_first(alloc: Global, start: &[Row], end: &[Row]) -> Result<Seen, Fail> {
-    let query = query_of(alloc, 3, start, end)?;
-    told(alloc, (must(alloc)?, not_may(alloc)?), &query)
-}
-
-#[test]
-fn a_later_answer_passes_a_limit(rt: HostRuntime) -> Result<(), Fail> {
-    let start: [Row; 1] = [(&[(1, 10_000)], -3)];
-    let end: [Row; 1] = [(&[(1 << 21, 20_000)], 0)];
-    let wanted = Seen::Entailed {
-        place: 1,
-        certificates: 2,
-    };
-    assert_eq!(rt; answer_by_must_first(rt.alloc(), &start, &end)?, wanted);
-    Ok(())
-}
-
-/// Both not-mays answer.
-fn answer_by_two(alloc: Global) -> Result<Seen, Fail> {
-    let query = query_of(alloc, 3, &[(&[(1, 10_000)], -3)], &[(&[(1, 20_000)], -1)])?;
-    told(alloc, (not_may(alloc)?, not_may(alloc)?), &query)
-}
-
-#[test]
-fn the_first_answer_is_told(rt: HostRuntime) -> Result<(), Fail> {
-    let wanted = Seen::Entailed {
-        place: 0,
-        certificates: 2,
-    };
-    assert_eq!(rt; answer_by_two(rt.alloc())?, wanted);
-    Ok(())
-}
-
-/// The answer to a query of failures.
-fn answer_to_failures(alloc: Global) -> Result<Seen, Fail> {
-    let mut query = query_of(alloc, 3, &[(&[(1, 10_000)], -3)], &[])?;
-    query.exit = ExitKind::Fail(1);
-    told(alloc, (not_may(alloc)?, must(alloc)?), &query)
-}
-
-#[test]
-fn another_exit_is_not_asked(rt: HostRuntime) -> Result<(), Fail> {
-    assert_eq!(rt; answer_to_failures(rt.alloc())?, Seen::Nothing);
-    Ok(())
+    answered(alloc, &table, &case)
 }

@@ -18,6 +18,6 @@ fn two_workers_are_at_work_at_once(rt: HostRuntime) -> Result<(), Fail> {
     let says = verdicts(rt.alloc(), &board, asserts)?;
     drop(board);
     assert!(rt; says.as_slice() == [Says::Proved, Says::Proved].as_slice());
-    assert_eq!(rt; gate.met(), [2, 2, 2]);
+    assert!(rt; gate.met() == [2, 2, 2]);
     Ok(())
 }

@@ -6,7 +6,7 @@ use std::sync::atomic::{AtomicU64, Ordering};
 use std::thread;
 
 /// How often a worker looks for the others at most.
-const TURNS: u32 = 10_000_000;
+pub const TURNS: u32 = 10_000_000;
 
 /// A place where so many workers wait for each other, for a bounded number of turns. `met` counts
 /// those that saw the others.

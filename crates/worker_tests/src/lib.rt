@@ -6,6 +6,8 @@ mod at_once;
 #[cfg(test)]
 mod gates;
 #[cfg(test)]
+mod late;
+#[cfg(test)]
 mod passes;
 #[cfg(test)]
 mod programs;

@@ -1,6 +1,8 @@
 //! Boards of programs.
 
 ghost use Rattle.std.specs.Prelude.{IfOk};
+ghost use Rattle.c_tree.specs.WellFormed.{DividesByLiterals};
+ghost use Rattle.c_tree.specs.Whole.{program_of as whole};
 ghost use Rattle.worker_tests.specs.Opened.{IsOpened};
 
 use bolt_core::board::Board;
@@ -18,7 +20,9 @@ use std::test::Fail;
 pub const BUDGET: u32 = 2000;
 
 /// The program of a text, as the front end reads it.
-fn program_of(alloc: Global, bytes: &[u8]) -> Result<Program, Fail> {
+fn program_of(alloc: Global, bytes: &[u8]) -> Result<Program, Fail>
+    ensures { IfOk result (λ p. DividesByLiterals (whole p)) }
+{
     if bytes.len() > 65_536 {
         return Err(Fail::new("the text is too long"));
     }

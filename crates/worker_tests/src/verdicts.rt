@@ -15,7 +15,7 @@ use std::test::Fail;
 use std::thread::Threads;
 
 /// What a verdict says.
-#[derive(Clone, Copy, Debug, PartialEq, Eq)]
+#[derive(Clone, Copy, PartialEq, Eq)]
 pub enum Says {
     Proved,
     /// The first two inputs, and how many there are.

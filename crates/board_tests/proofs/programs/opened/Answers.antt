@@ -1,4 +1,4 @@
-use Rattle.std.proofs.Common.{List, Some, length, sym, ap, subst, arith, ◌≡◌}
+use Rattle.std.proofs.Common.{List, [], Some, length, sym, ap, subst, arith, ◌≡◌}
 use Rattle.std.specs.Prelude.{slice_get}
 use Rattle.flow_graph.specs.declared.graph.Graph.{Graph}
 use Rattle.query_tree.proofs.Lists.{present}
@@ -13,4 +13,4 @@ begin-requires-clause-main c =
 
 pub returns : goal.returns
 returns c =
-    opened c.in_ok-graphs.graphs.value.graphs c.args.main c.args.asserts c.args.budget c.in_ok-board.board c.in_ok-board.ensures
+    opened c.in_ok-graphs.graphs.value.graphs c.args.main c.args.asserts c.args.budget [] c.in_ok-board.board c.in_ok-board.ensures

@@ -11,7 +11,7 @@ park-requires c =
     let w = c.args.worked in
     record {
       job = parks_late b c.reached.ensures w.job (sound_of b w.job w.next c.requires.may) c.args.first.left c.args.first.stored
-          c.args.spent c.args.first.id c.requires.first c.requires.since;
+          c.args.spent c.args.first.id c.requires.first c.requires.since c.requires.bare;
     }
 
 pub returns-in_default : goal.returns-in_default
