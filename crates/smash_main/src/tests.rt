@@ -187,7 +187,7 @@ fn answers_workloads(rt: HostRuntime) -> Result<(), Fail> {
 #[test]
 fn answers_the_largest_workload(rt: HostRuntime) -> Result<(), Fail> {
     let got = told_of(&rt, rt.alloc(), "workload|60", "")?;
-    let last = "60:44: found [60, -60]\nsummary: 40 proved, 20 found, 0 unknown\n";
+    let last = "60:43: found [60, -60]\nsummary: 40 proved, 20 found, 0 unknown\n";
     assert!(rt; got.as_str().starts_with("1 1:42: proved\n"), "{got}");
     assert!(rt; got.as_str().ends_with(last), "{got}");
     Ok(())
