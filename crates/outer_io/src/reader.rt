@@ -8,9 +8,13 @@ ghost use Rattle.outer_io.specs.Causes.{HasCause, next_count};
 
 use crate::fault::Failed;
 use crate::source::Source;
-use std::io::Read;
+use std::io::{ErrorKind, Read};
 
-/// A source over a reader. Each error of the reader is a fault.
+/// How often a call is made that a signal interrupts each time.
+pub(crate) const TRIES: u32 = u32::MAX;
+
+/// A source over a reader. Each error of the reader is a fault, but that a call was interrupted: it
+/// is made again.
 #[derive(Drop)]
 pub struct FromReader<R> {
     inner: R,
@@ -40,12 +44,27 @@ impl<R: Read> Source for FromReader<R> {
         ensures ok { OnOk result (reader_faults self.new ≡ reader_faults self.old) }
         ensures err { OnErr result (reader_faults self.new ≡ next_count (reader_faults self.old)) }
     {
-        match self.inner.read(buf) {
+        match read_again(&mut self.inner, buf) {
             Ok(count) => Ok(count),
-            Err(_) => {
+            Err(failed) => {
                 self.faults = self.faults.saturating_add(1);
-                Err(Failed)
+                Err(failed)
             }
         }
     }
+}
+
+/// One read, which is made again where a signal interrupts it.
+fn read_again<R: Read>(reader: &mut R, buf: &mut [u8]) -> Result<usize, Failed>
+    ensures bound { ReadsAtMost result buf.new }
+    ensures bytes { ReadConsumes (R.remaining reader.old) (R.remaining reader.new) result buf.new }
+{
+    for _ in 0..TRIES {
+        match reader.read(buf) {
+            Ok(count) => return Ok(count),
+            Err(error) if error.kind() == ErrorKind::Interrupted => {}
+            Err(_) => return Err(Failed),
+        }
+    }
+    Err(Failed)
 }

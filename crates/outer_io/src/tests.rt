@@ -88,10 +88,11 @@ fn writes_all_or_a_front(rt: HostRuntime) -> Result<(), Fail> {
     Ok(())
 }
 
-// Gives or takes three bytes a call, and fails at one.
+// Gives or takes three bytes a call. One is interrupted, and one fails.
 #[derive(Drop)]
 struct Choppy {
     calls: u32,
+    interrupted: u32,
     failing: u32,
 }
 
@@ -103,6 +104,9 @@ impl Choppy {
         self.calls = call.saturating_add(1);
         if call == self.failing {
             return Err(io::Error::from(ErrorKind::BrokenPipe));
+        }
+        if call == self.interrupted {
+            return Err(io::Error::from(ErrorKind::Interrupted));
         }
         Ok(len.min(3))
     }
@@ -131,8 +135,18 @@ fn reads_through_a_reader(rt: HostRuntime) -> Result<(), Fail> {
     let bytes = read_all(rt.alloc(), &mut source, 10);
     assert_eq!(rt; bytes.map(|bytes| bytes.as_slice() == TEXT), Ok(true));
 
-    for (failing, want) in [(1, ReadError::ReadFault), (4, ReadError::TooLong)] {
-        let mut source = FromReader::new(Choppy { calls: 0, failing });
+    let cases = [
+        (9, 1, ReadError::ReadFault),
+        (9, 4, ReadError::TooLong),
+        (1, 2, ReadError::ReadFault),
+        (1, 5, ReadError::TooLong),
+    ];
+    for (interrupted, failing, want) in cases {
+        let mut source = FromReader::new(Choppy {
+            calls: 0,
+            interrupted,
+            failing,
+        });
         let answer = read_all(rt.alloc(), &mut source, 10);
         assert_eq!(rt; answer.map(|bytes| bytes.len()), Err(want));
     }
@@ -151,8 +165,12 @@ fn writes_through_a_writer(rt: HostRuntime) -> Result<(), Fail> {
     assert_eq!(rt; write_all(&mut sink, TEXT), Err(Failed));
     assert_eq!(rt; full.as_slice(), b"abcd".as_slice());
 
-    for (failing, want) in [(1, Err(Failed)), (4, Ok(()))] {
-        let mut sink = ToWriter::new(Choppy { calls: 0, failing });
+    for (interrupted, failing, want) in [(9, 1, Err(Failed)), (9, 4, Ok(())), (1, 5, Ok(()))] {
+        let mut sink = ToWriter::new(Choppy {
+            calls: 0,
+            interrupted,
+            failing,
+        });
         assert_eq!(rt; write_all(&mut sink, TEXT), want);
     }
     Ok(())

@@ -1,15 +1,18 @@
 //! A sink over a writer.
 
 ghost use Rattle.std.specs.Prelude.{◌≡◌, ◌<◌, ◌≤◌, length, IfOk, OnOk, OnErr};
+ghost use Rattle.std.specs.Io.{WritesAtMost};
 ghost use Rattle.std.specs.Io.KnownBytes.{WriteAppends};
 ghost use Rattle.outer_io.specs.Adapters.{writer_of, writer_faults};
 ghost use Rattle.outer_io.specs.Causes.{HasCause, next_count};
 
 use crate::fault::Failed;
+use crate::reader::TRIES;
 use crate::sink::Sink;
-use std::io::Write;
+use std::io::{ErrorKind, Write};
 
-/// A sink over a writer. Each error of the writer is a fault, and so is a write that takes nothing.
+/// A sink over a writer. Each error of the writer is a fault, but that a call was interrupted: it
+/// is made again. A write that takes nothing is a fault.
 #[derive(Drop)]
 pub struct ToWriter<W> {
     inner: W,
@@ -39,7 +42,7 @@ impl<W: Write> Sink for ToWriter<W> {
         ensures ok { OnOk result (writer_faults self.new ≡ writer_faults self.old) }
         ensures err { OnErr result (writer_faults self.new ≡ next_count (writer_faults self.old)) }
     {
-        match self.inner.write(bytes) {
+        match write_again(&mut self.inner, bytes) {
             Ok(count) if count > 0 => Ok(count),
             _ => {
                 self.faults = self.faults.saturating_add(1);
@@ -47,4 +50,19 @@ impl<W: Write> Sink for ToWriter<W> {
             }
         }
     }
+}
+
+/// One write, which is made again where a signal interrupts it.
+fn write_again<W: Write>(writer: &mut W, bytes: &[u8]) -> Result<usize, Failed>
+    ensures bound { WritesAtMost result bytes.now }
+    ensures bytes { WriteAppends (W.contents writer.old) (W.contents writer.new) result bytes.now }
+{
+    for _ in 0..TRIES {
+        match writer.write(bytes) {
+            Ok(count) => return Ok(count),
+            Err(error) if error.kind() == ErrorKind::Interrupted => {}
+            Err(_) => return Err(Failed),
+        }
+    }
+    Err(Failed)
 }
