@@ -1,0 +1,11 @@
+pub mod Runs
+pub mod Digits
+pub mod Parsing
+pub mod Numbers
+pub mod Lists
+pub mod Listing
+pub mod Rows
+pub mod Certificates
+pub mod Claims
+pub mod Bundles
+pub mod Answering

@@ -1,0 +1,4 @@
+pub mod Claims
+pub mod Text
+-- Steps
+pub mod steps
