@@ -1,0 +1,17 @@
+pub mod Showing
+pub mod Moving
+pub mod Holding
+pub mod Deciding
+pub mod Asking
+pub mod Answering
+pub mod Claiming
+pub mod Regions
+pub mod Doing
+pub mod Travelling
+pub mod Fitting
+pub mod FirstWrong
+pub mod Judging
+pub mod OwnRegions
+pub mod Following
+pub mod Naming
+pub mod Walking

@@ -1,0 +1,21 @@
+use Rattle.std.proofs.Common.{◌≡◌, sym, subst}
+use Rattle.shadow_elim.specs.Projection.{IfRefused, refuses}
+use Rattle.call_bridge.specs.Asked.{asked}
+use Rattle.call_bridge.specs.Calls.{arguments, results_of}
+use Rattle.bundle_check.proofs.Asking.{asks_one, none_limited}
+use Rattle.bundle_check.proofs.asked.asked_over.Goals as goal
+
+pub returns-in-Ok : goal.returns-in-Ok
+returns-in-Ok c =
+    let place = c.in-Some.place in
+    asks_one c.args.graph.now c.args.exit c.args.partition.now c.args.edge.now place.over.now place.source.now place.target.now
+    c.in-Some.ensures.found c.in-Some-exit_at.kind (sym c.in-Some-exit_at.ensures) (sym c.if-not-is_call.ensures) c.in-Ok.asking
+    c.in-Ok.ensures.rows
+
+pub returns-in-Err-Limit : goal.returns-in-Err-Limit
+returns-in-Err-Limit c =
+    let place = c.in-Some.place in
+    none_limited c.args.graph.now c.args.exit c.args.partition.now c.args.edge.now place.over.now place.source.now place.target.now
+    c.in-Some.ensures.found c.in-Some-exit_at.kind (sym c.in-Some-exit_at.ensures) c.in-Err-Limit.field-0-0
+    (subst (λ e. IfRefused e (λ kept. asked c.in-Some-exit_at.kind (arguments place.over.now) (results_of place.over.now)
+    place.source.now.cube.atoms place.target.now.cube.atoms ≡ refuses kept)) c.in-Err-Limit.field-0-is c.in-Err-Limit.ensures.limit)
