@@ -1,0 +1,7 @@
+//! Tests of the sweep over the paths of a program, and nothing else.
+#![tactic(auto)]
+
+#[cfg(test)]
+mod graphs;
+#[cfg(test)]
+mod swept;
