@@ -12,8 +12,6 @@ mod musts;
 #[cfg(test)]
 mod orders;
 #[cfg(test)]
-mod origins;
-#[cfg(test)]
 mod play;
 #[cfg(test)]
 mod programs;

@@ -4,8 +4,6 @@
 #[cfg(test)]
 mod edits;
 #[cfg(test)]
-mod keeping;
-#[cfg(test)]
 mod made;
 #[cfg(test)]
 mod sources;

@@ -59,8 +59,7 @@ fn opened(
     if main as usize >= graphs.graphs.as_slice().len() {
         return Err(Fail::new("no main"));
     }
-    let few = graphs.graphs.as_slice().len() <= 64;
-    if !few || asserts > 64 || budget == 0 || budget > 20_000 {
+    if asserts > 64 || budget == 0 || budget > 20_000 {
         return Err(Fail::new("past a limit"));
     }
     let graphs = Arc::new(alloc, graphs)?;

@@ -16,8 +16,8 @@ use self::divisions::{DIVIDED, DIVISION_CHECKS, DIVISIONS};
 use self::globals::{GLOBAL_CHECKS, GLOBALS};
 use self::meeting::Meeting;
 use self::tables::{
-    BLANKS, BODIES, CHECKS, FAULTS, Fault, LIMITS, Limit, NESTINGS, NO_COMMANDS, Nesting, REFUSALS,
-    REPLAYS, Row, SUM, SUM_REPORT, WORKLOADS,
+    BLANKS, BODIES, CHECKS, FAULTS, Fault, LIMITS, Limit, NO_COMMANDS, REFUSALS, REPLAYS, Row, SUM,
+    WORKLOADS,
 };
 use self::worked::WORKED;
 use crate::run::run;
@@ -261,63 +261,6 @@ fn agree_on_faults<R: Abort + Threads + Wait + Sync>(
 #[test]
 fn tells_of_faults(rt: HostRuntime) -> Result<(), Fail> {
     agree_on_faults(&rt, rt.alloc(), &FAULTS)
-}
-
-/// The 61 bytes take 16 calls, and one more sees the end.
-#[test]
-fn tells_of_each_failed_read(rt: HostRuntime) -> Result<(), Fail> {
-    for failing in 0..17 {
-        let got = of_faults(&rt, rt.alloc(), failing, 4096)?;
-        assert_eq!(rt; got.as_str(), "5 ", "call {failing}");
-    }
-    Ok(())
-}
-
-/// Whether the status is 6, behind a front of the report of this length.
-fn is_front(told: &str, room: usize) -> bool {
-    match told.strip_prefix("6 ") {
-        Some(front) => front.len() == room && SUM_REPORT.starts_with(front),
-        None => false,
-    }
-}
-
-#[test]
-fn tells_of_each_room(rt: HostRuntime) -> Result<(), Fail> {
-    for room in 0..SUM_REPORT.len() {
-        let got = of_faults(&rt, rt.alloc(), 17, room)?;
-        assert!(rt; is_front(got.as_str(), room), "room {room}: {got}");
-    }
-    Ok(())
-}
-
-fn push_times(text: &mut String, part: &str, count: usize) -> Result<(), Fail> {
-    for _ in 0..count {
-        text.push_str(part)?;
-    }
-    Ok(())
-}
-
-/// What is told of a source that nests so deep.
-fn of_nesting<R: Threads + Wait + Sync>(
-    rt: &R,
-    alloc: Global,
-    nesting: &Nesting,
-) -> Result<String, Fail> {
-    let (head, (open, close), tail, count, _) = *nesting;
-    let mut text = String::from_str(alloc, head)?;
-    push_times(&mut text, open, count)?;
-    text.push_str(tail)?;
-    push_times(&mut text, close, count)?;
-    told_of(rt, alloc, "check", text.as_str())
-}
-
-#[test]
-fn bounds_nesting(rt: HostRuntime) -> Result<(), Fail> {
-    for nesting in &NESTINGS {
-        let got = of_nesting(&rt, rt.alloc(), nesting)?;
-        assert_eq!(rt; got.as_str(), nesting.4, "{}", nesting.3);
-    }
-    Ok(())
 }
 
 /// What is told of so many blanks.

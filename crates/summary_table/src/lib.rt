@@ -4,9 +4,7 @@
 
 pub mod answer;
 mod asking;
-pub mod keys;
 pub mod table;
 
 pub use answer::{Answer, AnswerProof};
-pub use keys::{MAX_ASSERTIONS, MAX_PROCEDURES};
 pub use table::Table;

@@ -4,8 +4,4 @@
 #[cfg(test)]
 mod graphs;
 #[cfg(test)]
-mod sources;
-#[cfg(test)]
-mod sums;
-#[cfg(test)]
 mod swept;

@@ -4,8 +4,6 @@
 #[cfg(test)]
 mod answers;
 #[cfg(test)]
-mod chains;
-#[cfg(test)]
 mod listed;
 #[cfg(test)]
 mod made;

@@ -1,7 +1,6 @@
 //! Queries, a not-may and a must of one procedure, and tables of both.
 
 ghost use Rattle.std.specs.Prelude.{◌≡◌, ◌∷◌, [], IfOk};
-ghost use Rattle.summary_table.specs.Tables.{IsNumbered, exit_of, proc_of};
 
 use std::alloc::{AllocError, Global};
 use std::sync::Arc;
@@ -14,9 +13,7 @@ use test_forms::queries::query_of;
 use test_forms::rows::Row;
 
 /// No run of procedure 3 with an argument of at most 5 returns at most 2.
-pub fn not_may(alloc: Global) -> Result<Arc<Summary>, Fail>
-    ensures { IfOk result (λ s. IsNumbered (proc_of s.value) (exit_of s.value)) }
-{
+pub fn not_may(alloc: Global) -> Result<Arc<Summary>, Fail> {
     let start: [Row; 1] = [(&[(1, 10_000)], -5)];
     let query = query_of(alloc, 3, ExitKind::Return, &start, &[(&[(1, 20_000)], -2)])?;
     Ok(Arc::new(alloc, Summary::NotMay(query))?)
@@ -33,9 +30,7 @@ const TIMES: Says = Says {
     outcome: &[(&[(1_048_576, 30_000)], 1)],
 };
 
-pub fn must(alloc: Global) -> Result<Arc<Summary>, Fail>
-    ensures { IfOk result (λ s. IsNumbered (proc_of s.value) (exit_of s.value)) }
-{
+pub fn must(alloc: Global) -> Result<Arc<Summary>, Fail> {
     let path = path_of(alloc, &TIMES)?;
     Ok(Arc::new(alloc, Summary::Must(path))?)
 }
@@ -46,8 +41,6 @@ pub fn table_of(
     first: Arc<Summary>,
     second: Arc<Summary>,
 ) -> Result<Table, AllocError>
-    requires first { IsNumbered (proc_of first.value) (exit_of first.value) }
-    requires second { IsNumbered (proc_of second.value) (exit_of second.value) }
     ensures room { IfOk result (λ t. t.room ≡ 2) }
     ensures summaries { IfOk result (λ t. t.summaries ≡ first.value ∷ second.value ∷ []) }
 {

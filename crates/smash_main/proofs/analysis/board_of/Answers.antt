@@ -1,15 +1,9 @@
-use Rattle.std.proofs.Common.{◌≡◌, Some, ap, arith, length, subst, sym}
+use Rattle.std.proofs.Common.{◌≡◌, Some, ap, subst, sym}
 use Rattle.std.specs.Prelude.{slice_get}
 use Rattle.c_tree.specs.Whole.{program_of}
 use Rattle.flow_graph.specs.declared.graph.Graph.{Graph}
 use Rattle.smash_main.proofs.Judging.{begun_empty, main_there}
 use Rattle.smash_main.proofs.analysis.board_of.Goals as goal
-
-pub begin-requires-clause-small : goal.begin-requires-clause-small
-begin-requires-clause-small g c =
-    let program = c.args.program.now in
-    let same = ap (λ h. length h.graphs) c.in_ok-graphs.ensures.ok in
-    omega (arith, same, c.in_ok-build.ensures.bounds.each_procedure, program.well_formed.few_procedures)
 
 pub begin-requires-clause-main : goal.begin-requires-clause-main
 begin-requires-clause-main g c =

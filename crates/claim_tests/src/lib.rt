@@ -1,7 +1,0 @@
-//! Tests of the check of bundles, and nothing else.
-#![tactic(auto)]
-
-#[cfg(test)]
-mod bundles;
-#[cfg(test)]
-mod sources;
