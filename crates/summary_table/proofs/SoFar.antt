@@ -2,7 +2,6 @@
 use Rattle.std.proofs.Common.{◌≡◌, ◌⊎◌, inl, inr, ℕ, ◌+◌, ◌<◌, ◌≤◌, List, length, Option, None, Some, arith, subst, below_more, map, get_or, refl, sym, ap, ◌∙◌}
 use Rattle.std.specs.Prelude.{slice_get}
 use Rattle.std.specs.Option.{option_or, option_map}
-use Rattle.std.proofs.lemmas.List.{length-map}
 use Rattle.std.proofs.lemmas.Option.{slice_get_within, slice_get_read, slice_get-map}
 use Rattle.shadow_elim.specs.RightLimit.{IsRight}
 use Rattle.shadow_elim.specs.declared.limit.Kept.{Kept}
@@ -12,7 +11,7 @@ use Rattle.summary_form.specs.declared.summary.Summary.{Summary}
 use Rattle.summary_table.specs.Asked.{IsShownNotToAnswer, MeetsLimitAt, NoneBefore, AllDecided, IsFirstLimit, NoneAnswers}
 
 -- each summary before the place was decided, and doesn't answer
-abbrev AreDecided : Query → List Summary → ℕ → Type 0
+abbrev pub AreDecided : Query → List Summary → ℕ → Type 0
 AreDecided q table place =
     (i : ℕ) (s : Summary) → i < place → slice_get table i ≡ Some s → IsShownNotToAnswer q s × (¬ Answers q s)
 
@@ -105,7 +104,3 @@ pub summary_at : {A : Type 0} (f : A → Summary) (items from : List A) (table :
 summary_at f items from table i x s e t h at is =
     let there : slice_get items i ≡ Some x = slice_get_read items (length items) i x refl h at in
     ap (λ xs. slice_get xs i) (sym t ∙ ap (map f) (sym e)) ∙ slice_get-map f items i ∙ ap (option_map f) there ∙ ap Some (sym is)
-
-pub table_length : {A : Type 0} (f : A → Summary) (items from : List A) (table : List Summary) (n : ℕ) → items ≡ from →
-    map f from ≡ table → length items ≤ n → length table ≤ n
-table_length f items from table n e t h = omega (arith, h, ap length e, ap length (sym t), length-map from f)

@@ -4,7 +4,9 @@
 
 pub mod answer;
 mod asking;
+pub mod keys;
 pub mod table;
 
 pub use answer::{Answer, AnswerProof};
+pub use keys::{MAX_ASSERTIONS, MAX_PROCEDURES};
 pub use table::Table;

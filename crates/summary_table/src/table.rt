@@ -1,30 +1,40 @@
 //! The table of summaries.
 
-ghost use Rattle.std.specs.Prelude.{◌≡◌, ◌≤◌, ◌<◌, ◌++◌, ◌∷◌, [], length, map, IfOk, OnOk};
+ghost use Rattle.std.specs.Prelude.{◌≡◌, ◌≤◌, ◌<◌, ◌++◌, ◌∷◌, [], suc, Some, length, map, slice_get, IfOk, OnOk};
 ghost use Rattle.summary_form.specs.Answering.{Answers};
-ghost use Rattle.summary_table.specs.Tables.{IsBegun, StartsWith};
+ghost use Rattle.summary_form.specs.declared.summary.Summary.{Summary as ASummary};
+ghost use Rattle.summary_table.specs.Tables.{IsBegun, IsNextFrom, IsNumbered, StartsWith, exit_of, proc_of};
 ghost use Rattle.summary_table.specs.Asked.{IsTableAnswer, AnswersAt, NoneAnswers, IfAnswered, IfUnanswered};
 
 use crate::answer::Answer;
 use crate::asking::{Asked, ask};
+use crate::keys::{KEYS, is_numbered, key_of, key_of_summary};
+use c_tree::tree::ProcId;
 use linear_formula::error::OutOfMemory;
 use std::alloc::Global;
 use std::marker::Model;
 use std::sync::Arc;
-use summary_form::query::Query;
+use summary_form::query::{ExitKind, Query};
 use summary_form::summary::Summary;
 
-/// Summaries in the order in which they came, with room for so many. None is taken away.
+/// Summaries in the order in which they came, with room for so many. None is taken away. Those of
+/// one procedure and exit kind are linked, so that none else is looked at for them.
 #[derive(Drop)]
 pub struct Table {
     room: u32,
     summaries: Vec<Arc<Summary>>,
+    /// By key the first place and the last one.
+    first: Vec<Option<u32>>,
+    last: Vec<Option<u32>>,
+    /// By place the next one with its key.
+    next: Vec<Option<u32>>,
 }
 
 impl Model for Table {
     ghost use Rattle.std.specs.Prelude.{◌≤◌, ◌<◌, ◌^◌, map, vec_len};
     ghost use Rattle.std.specs.Vec.{vec_capacity};
     ghost use Rattle.summary_table.specs.Tables.{Listed};
+    ghost use Rattle.summary_table.specs.steps.Chains.{AreChained};
 
     ghost Value = { Listed };
 
@@ -34,17 +44,23 @@ impl Model for Table {
     } };
 
     ghost invariant = { λ t.
-        (vec_len t.summaries ≤ t.room) × (t.room ≤ vec_capacity t.summaries) × (t.room < 2 ^ 32) };
+        (vec_len t.summaries ≤ t.room) × (t.room ≤ vec_capacity t.summaries) × (t.room < 2 ^ 32)
+        × (t.room ≤ vec_capacity t.next)
+        × AreChained (map (λ s. s.value) t.summaries.items) t.first.items t.last.items
+        t.next.items };
 }
 
 impl Table {
-    /// No summary, and room for so many. The only call that takes memory for the list.
+    /// No summary, and room for so many. The only call that takes memory for the lists.
     pub fn with_room(alloc: Global, room: u32) -> Result<Table, OutOfMemory>
         ensures { IfOk result (λ t. IsBegun room t) }
     {
         Ok(Table {
             room,
             summaries: Vec::with_capacity(alloc, room as usize)?,
+            first: vec![in alloc; None; KEYS]?,
+            last: vec![in alloc; None; KEYS]?,
+            next: Vec::with_capacity(alloc, room as usize)?,
         })
     }
 
@@ -58,14 +74,20 @@ impl Table {
 
     /// Adds a summary behind the others.
     pub fn push(&mut self, summary: Arc<Summary>)
-        requires { length self.old.summaries < self.old.room }
+        requires room { length self.old.summaries < self.old.room }
+        requires numbers { IsNumbered (proc_of summary.value) (exit_of summary.value) }
         ensures room { self.new.room ≡ self.old.room }
         ensures summaries { self.new.summaries ≡ self.old.summaries ++ summary.value ∷ [] }
     {
-        match self.summaries.push(summary) {
-            Ok(()) => {}
-            Err(_) => unreachable!(),
+        let key = key_of_summary(&summary);
+        let place = self.summaries.len() as u32;
+        match self.last[key] {
+            None => self.first[key] = Some(place),
+            Some(before) => self.next[before as usize] = Some(place),
         }
+        self.last[key] = Some(place);
+        self.next.push_reserved(None);
+        self.summaries.push_reserved(summary);
     }
 
     /// Adds the summaries that the other table has and this one hasn't. After want of memory this
@@ -92,6 +114,43 @@ impl Table {
         self.summaries.as_slice()
     }
 
+    /// The first place with a summary of this procedure and exit kind.
+    pub fn first_of(&self, proc: ProcId, exit: &ExitKind) -> Option<u32>
+        requires numbers { IsNumbered proc exit.now }
+        ensures { IsNextFrom self.now.summaries proc exit.now 0 result }
+    {
+        self.first[key_of(proc, *exit)]
+    }
+
+    /// The next place behind this one with a summary of its procedure and exit kind.
+    pub fn next_of(&self, place: u32) -> Option<u32>
+        requires { place < length self.now.summaries }
+        ensures { (s : ASummary) → slice_get self.now.summaries place ≡ Some s →
+            IsNextFrom self.now.summaries (proc_of s) (exit_of s) (suc place) result }
+    {
+        self.next[place as usize]
+    }
+
+    /// The first place from this one on with a summary of this procedure and exit kind. Beyond the
+    /// limits there is none.
+    pub fn next_from(&self, proc: ProcId, exit: &ExitKind, from: u32) -> Option<u32>
+        ensures { IsNextFrom self.now.summaries proc exit.now from result }
+    {
+        // (It is told here that the summaries of a table are numbered.)
+        let _ = &self.summaries;
+        if !is_numbered(proc, *exit) {
+            return None;
+        }
+        let mut at = self.first_of(proc, exit);
+        while let Some(place) = at {
+            if from <= place {
+                return Some(place);
+            }
+            at = self.next_of(place);
+        }
+        None
+    }
+
     /// Asks each summary of the query's procedure and exit in order, until one answers.
     pub fn answer(&self, alloc: Global, query: &Query) -> Result<Answer, OutOfMemory>
         // By the questions to the solver, each with its proof or its limit.
@@ -104,17 +163,14 @@ impl Table {
     {
         let rows = query.start.and(alloc, &query.end)?;
         let mut limit = None;
-        for (place, summary) in self.summaries.iter().enumerate() {
-            match ask(alloc, query, &rows, summary)? {
-                Asked::Answers(proof) => {
-                    return Ok(Answer::Yes {
-                        place: place as u32,
-                        proof,
-                    });
-                }
+        let mut at = self.next_from(query.proc, &query.exit, 0);
+        while let Some(place) = at {
+            match ask(alloc, query, &rows, &self.summaries[place as usize])? {
+                Asked::Answers(proof) => return Ok(Answer::Yes { place, proof }),
                 Asked::Not => {}
                 Asked::Limit(kept) => limit = limit.or(Some(kept)),
             }
+            at = self.next_of(place);
         }
         match limit {
             Some(kept) => Ok(Answer::Limit(kept)),

@@ -4,6 +4,8 @@
 #[cfg(test)]
 mod answers;
 #[cfg(test)]
+mod chains;
+#[cfg(test)]
 mod listed;
 #[cfg(test)]
 mod made;

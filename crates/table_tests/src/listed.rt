@@ -1,6 +1,7 @@
 //! Tables as lists.
 
 ghost use Rattle.std.specs.Prelude.{◌≡◌, ◌∷◌, [], IfOk};
+ghost use Rattle.summary_table.specs.Tables.{IsNumbered, exit_of, proc_of};
 
 use crate::made::{must, not_may, table_of};
 use std::alloc::{AllocError, Global};
@@ -11,6 +12,8 @@ use summary_table::Table;
 
 /// A table of the first summary, which catches up with both.
 fn caught_up(alloc: Global, first: Arc<Summary>, second: Arc<Summary>) -> Result<Table, AllocError>
+    requires first { IsNumbered (proc_of first.value) (exit_of first.value) }
+    requires second { IsNumbered (proc_of second.value) (exit_of second.value) }
     ensures { IfOk result (λ t. t.summaries ≡ first.value ∷ second.value ∷ []) }
 {
     let mut table = Table::with_room(alloc, 2)?;

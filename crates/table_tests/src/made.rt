@@ -1,6 +1,7 @@
 //! Queries, a not-may and a must of one procedure, and tables of both.
 
 ghost use Rattle.std.specs.Prelude.{◌≡◌, ◌∷◌, [], IfOk};
+ghost use Rattle.summary_table.specs.Tables.{IsNumbered, exit_of, proc_of};
 
 use std::alloc::{AllocError, Global};
 use std::sync::Arc;
@@ -13,7 +14,9 @@ use test_forms::queries::query_of;
 use test_forms::rows::Row;
 
 /// No run of procedure 3 with an argument of at most 5 returns at most 2.
-pub fn not_may(alloc: Global) -> Result<Arc<Summary>, Fail> {
+pub fn not_may(alloc: Global) -> Result<Arc<Summary>, Fail>
+    ensures { IfOk result (λ s. IsNumbered (proc_of s.value) (exit_of s.value)) }
+{
     let start: [Row; 1] = [(&[(1, 10_000)], -5)];
     let query = query_of(alloc, 3, ExitKind::Return, &start, &[(&[(1, 20_000)], -2)])?;
     Ok(Arc::new(alloc, Summary::NotMay(query))?)
@@ -30,7 +33,9 @@ const TIMES: Says = Says {
     outcome: &[(&[(1_048_576, 30_000)], 1)],
 };
 
-pub fn must(alloc: Global) -> Result<Arc<Summary>, Fail> {
+pub fn must(alloc: Global) -> Result<Arc<Summary>, Fail>
+    ensures { IfOk result (λ s. IsNumbered (proc_of s.value) (exit_of s.value)) }
+{
     let path = path_of(alloc, &TIMES)?;
     Ok(Arc::new(alloc, Summary::Must(path))?)
 }
@@ -41,6 +46,8 @@ pub fn table_of(
     first: Arc<Summary>,
     second: Arc<Summary>,
 ) -> Result<Table, AllocError>
+    requires first { IsNumbered (proc_of first.value) (exit_of first.value) }
+    requires second { IsNumbered (proc_of second.value) (exit_of second.value) }
     ensures room { IfOk result (λ t. t.room ≡ 2) }
     ensures summaries { IfOk result (λ t. t.summaries ≡ first.value ∷ second.value ∷ []) }
 {
