@@ -8,6 +8,8 @@ mod exchanged;
 #[cfg(test)]
 mod partitions;
 #[cfg(test)]
+mod played;
+#[cfg(test)]
 mod states;
 #[cfg(test)]
 mod trails;
