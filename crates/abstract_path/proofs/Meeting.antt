@@ -5,7 +5,7 @@ use Rattle.std.proofs.lemmas.Bool.{cases_eq}
 use Rattle.abstract_path.specs.Routes.{IsOpen}
 use Rattle.abstract_path.specs.steps.Layers.{LeadsOn, IsSettled, Extends, unmet, IsLayered}
 
-unmet-set : (far : List ℕ) (i n : ℕ) → i < length far → slice_index far i ≡ 0 → suc (unmet (set far i (suc n))) ≡ unmet far
+pub unmet-set : (far : List ℕ) (i n : ℕ) → i < length far → slice_index far i ≡ 0 → suc (unmet (set far i (suc n))) ≡ unmet far
 unmet-set [] i n h e = absurd (omega (arith, h))
 unmet-set (zero ∷ far) zero n h e = refl
 unmet-set (suc x ∷ far) zero n h e = absurd (omega (arith, e))

@@ -1,0 +1,87 @@
+-- The nearest region behind open edges, edge by edge.
+use Rattle.std.proofs.Common.{◌≡◌, ◌≢◌, ◌⊎◌, inl, inr, ⊎_elim, ℕ, ◌+◌, ◌<◌, ◌≤◌, ◌==◌, Bool, true, false, ◌&&◌, ◌||◌, List, [], length, get_or, take, arith, refl, sym, subst, ap, ◌∙◌}
+use Rattle.std.specs.Prelude.{IsTrue, slice_index}
+use borrow.Author.Tests.{eqb-true, eq-eqb}
+use Rattle.std.proofs.lemmas.List.Folds.{list_any_more}
+use Rattle.linear_formula.proofs.Limits.{both, both_in}
+use Rattle.may_partition.specs.declared.region.RegionEdge.{RegionEdge}
+use Rattle.may_partition.specs.Parted.{same_edge}
+use Rattle.may_partition.specs.Shown.{is_live}
+use Rattle.may_partition.proofs.Kept.{same_is}
+use Rattle.may_partition.proofs.Splitting.{or_left, or_right}
+use Rattle.punch_step.specs.declared.distances.Distances.{Distances}
+use Rattle.punch_step.specs.declared.measure.Reach.{Reach}
+use Rattle.punch_step.specs.steps.Far.{AreAtLeast, IsNearest}
+
+-- of these edges
+pub record IsNearestOf (xs shut : List RegionEdge) (far : List ℕ) (near : ℕ) : Type 0 where
+  pub least : (e : RegionEdge) → IsTrue (is_live xs e) → is_live shut e ≡ false → slice_index far e.to ≢ 0 →
+      (near ≢ 0) × (near ≤ slice_index far e.to)
+  pub met : near ≢ 0 → (e : RegionEdge) × IsTrue (is_live xs e) × (is_live shut e ≡ false) × (slice_index far e.to ≡ near)
+
+pub nearest_none : (shut : List RegionEdge) (far : List ℕ) → IsNearestOf [] shut far 0
+nearest_none shut far = record { least = λ e l. absurd cc; met = λ z. absurd (z refl) }
+
+module _ (xs shut : List RegionEdge) (far : List ℕ) (i near : ℕ) (d : RegionEdge) (l : i < length xs)
+    (h : IsNearestOf (take i xs) shut far near) where
+  abbrev x : RegionEdge
+  x = get_or xs i d
+
+  live_more : (e : RegionEdge) → is_live (take (i + 1) xs) e ≡ (is_live (take i xs) e || same_edge x e)
+  live_more e = list_any_more (λ y. same_edge y e) xs i d l
+
+  parts : (e : RegionEdge) → IsTrue (is_live (take (i + 1) xs) e) → IsTrue (is_live (take i xs) e) ⊎ (x ≡ e)
+  parts e t = by (is_live (take i xs) e) refl (subst IsTrue (live_more e) t) where
+    by : (b : Bool) → is_live (take i xs) e ≡ b → IsTrue (is_live (take i xs) e || same_edge x e) → IsTrue (is_live (take i xs) e) ⊎ (x ≡ e)
+    by true s u = inl s
+    by false s u = inr (same_is x e (sym (ap (λ b. b || same_edge x e) s) ∙ u))
+
+  before : (e : RegionEdge) → IsTrue (is_live (take i xs) e) → IsTrue (is_live (take (i + 1) xs) e)
+  before e t = subst IsTrue (sym (live_more e)) (or_left (is_live (take i xs) e) (same_edge x e) t)
+
+  here : IsTrue (is_live (take (i + 1) xs) x)
+  here = subst IsTrue (sym (live_more x)) (or_right (is_live (take i xs) x) (same_edge x x)
+      (both_in (x.edge == x.edge) (x.from == x.from && x.to == x.to) (eq-eqb x.edge x.edge refl)
+      (both_in (x.from == x.from) (x.to == x.to) (eq-eqb x.from x.from refl) (eq-eqb x.to x.to refl))))
+
+  -- the edge is nearer
+  pub nearest_here : (new : ℕ) → new ≡ slice_index far x.to → new ≢ 0 → (near ≢ 0 → new ≤ near) → is_live shut x ≡ false →
+      IsNearestOf (take (i + 1) xs) shut far new
+  nearest_here new is some less open_x = record {
+    least = λ e t o z. ⊎_elim (λ k. let w = h.least e k o z in (some, omega (arith, less w.0, w.1)))
+        (λ s. (some, omega (arith, is, ap (λ (y : RegionEdge). slice_index far y.to) s))) (parts e t);
+    met = λ z. (x, here, open_x, sym is);
+  }
+
+  -- it isn't
+  pub nearest_stays : (slice_index far x.to ≢ 0 → is_live shut x ≡ false → (near ≢ 0) × (near ≤ slice_index far x.to)) →
+      IsNearestOf (take (i + 1) xs) shut far near
+  nearest_stays k = record {
+    least = λ e t o z. ⊎_elim (λ b. h.least e b o z)
+        (λ s. subst (λ (y : RegionEdge). slice_index far y.to ≢ 0 → is_live shut y ≡ false → (near ≢ 0) × (near ≤ slice_index far y.to)) s k
+        z o)
+        (parts e t);
+    met = λ z. let w = h.met z in (w.0, before w.0 w.1, w.2, w.3);
+  }
+
+-- of all that leave a region
+pub nearest_of : (edges xs shut : List RegionEdge) (far : List ℕ) (region near : ℕ) →
+    ((e : RegionEdge) → is_live xs e ≡ (is_live edges e && (e.from == region))) → IsNearestOf xs shut far near →
+    IsNearest edges shut far region near
+nearest_of edges xs shut far region near all h = record {
+  least = λ e o f z. h.least e (subst IsTrue (sym (all e)) (both_in (is_live edges e) (e.from == region) o.0 (eq-eqb e.from region f))) o.1
+      z;
+  met = λ z.
+      let w = h.met z in
+      let r = both (is_live edges w.0) (w.0.from == region) (subst IsTrue (all w.0) w.1) in
+      (w.0, (r.0, w.2), eqb-true w.0.from region r.1, w.3);
+}
+
+-- the same distances
+pub kept_far : (n : ℕ) (edges shut : List RegionEdge) (target : ℕ) (reach : Reach) (new : Distances) → new.target ≡ target →
+    new.shut ≡ shut → new.reach ≡ reach → AreAtLeast n edges shut target reach.far.items reach.way.items →
+    AreAtLeast n edges new.shut new.target new.reach.far.items new.reach.way.items
+kept_far n edges shut target reach new t s r h =
+    subst (λ x. AreAtLeast n edges new.shut new.target x.far.items x.way.items) (sym r)
+    (subst (λ x. AreAtLeast n edges new.shut x reach.far.items reach.way.items) (sym t)
+    (subst (λ x. AreAtLeast n edges x target reach.far.items reach.way.items) (sym s) h))

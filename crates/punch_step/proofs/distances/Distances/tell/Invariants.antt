@@ -1,0 +1,8 @@
+use Rattle.punch_step.specs.steps.Following.{AreOf, KeepsRest}
+use Rattle.punch_step.proofs.distances.Distances.tell.Given as goal
+
+abbrev pub invariant-loop-edge : goal.invariant-loop-edge
+invariant-loop-edge l = record {
+  rest : KeepsRest l.fn.self l.self;
+  far : AreOf l.partition l.self;
+}

@@ -1,0 +1,369 @@
+//! Distances to the target that are kept from step to step.
+
+ghost use Rattle.std.specs.Prelude.{ℕ, ◌≡◌, ◌≢◌, ◌≤◌, ◌<◌, ◌^◌, ◌==◌, ◌||◌, true, false, suc, length, slice_index, Some, None, IfOk, IsTrue, OnOk};
+ghost use Rattle.std.specs.List.{list_any};
+ghost use Rattle.abstract_path.specs.Routes.{is_at};
+ghost use Rattle.may_partition.specs.Parted.{parent};
+ghost use Rattle.may_partition.specs.Shown.{is_live};
+ghost use Rattle.punch_step.specs.steps.Far.{IfLastCrossing, IsNearest, LeadsNearer, crosses};
+ghost use Rattle.punch_step.specs.steps.Following.{AreOf, IsBehind, IsFollowed, IsSplitFrom, KeepsRest};
+ghost use Rattle.punch_step.specs.steps.Walks.{IsWalk};
+ghost use Rattle.punch_step.specs.steps.Reaching.{AreMarksWithin};
+
+use crate::measure::{Reach, measure};
+use crate::reaching::{marked_regions, shut_edges};
+use linear_formula::error::OutOfMemory;
+use may_partition::edge_list::EdgeList;
+use may_partition::partition::Partition;
+use may_partition::region::RegionEdge;
+use query_rules::state::QueryState;
+use query_rules::step::Step;
+use std::alloc::Global;
+use summary_form::numbers::number_behind;
+
+/// How far regions lie from the target over open edges, at least. A step only takes open edges
+/// away, or divides a region, so no distance falls.
+#[derive(Drop)]
+pub struct Distances {
+    pub target: u32,
+    /// The edges that were given up or whose query is awaited.
+    pub shut: EdgeList,
+    pub marked: Vec<bool>,
+    pub reach: Reach,
+    /// Regions whose way may lead nowhere any more.
+    pub waiting: Vec<u32>,
+}
+
+/// Where the kept ways lead.
+#[derive(Drop)]
+enum Walk {
+    /// To the target, and this is the last edge from a marked region to one that isn't.
+    To(RegionEdge),
+    /// There is no open path.
+    Closed,
+    /// Not to the target.
+    Lost,
+}
+
+/// Whether one of the edges is at the region.
+fn touches(edges: &[RegionEdge], region: u32) -> bool
+    ensures { result ≡ list_any (λ e. e.from == region || e.to == region) edges.now }
+{
+    edges
+        .iter()
+        .any(|edge| edge.from == region || edge.to == region)
+}
+
+fn is_set(bits: &[bool], place: u32) -> bool
+    ensures { result ≡ is_at bits.now place }
+{
+    match bits.get(place as usize) {
+        Some(bit) => *bit,
+        None => false,
+    }
+}
+
+/// Whether the edge leads from a marked region to one that isn't.
+fn crosses(marked: &[bool], edge: &RegionEdge) -> bool
+    ensures { result ≡ crosses marked.now edge.now }
+{
+    is_set(marked, edge.from) && !is_set(marked, edge.to)
+}
+
+/// One more than the number, or the greatest one; 0 for 0.
+fn one_more(near: u64) -> u64
+    ensures none { near ≡ 0 → result ≡ 0 }
+    ensures some { near ≢ 0 → result ≢ 0 }
+    ensures high { result ≤ suc near }
+    ensures greatest { (n : ℕ) → n < 2 ^ 64 → near ≢ 0 → n ≤ suc near → n ≤ result }
+{
+    if near == 0 { 0 } else { near.saturating_add(1) }
+}
+
+impl Distances {
+    /// Measures all distances.
+    pub fn new(alloc: Global, state: &QueryState, target: u32) -> Result<Distances, OutOfMemory>
+        requires target { target < length state.now.partition.regions }
+        requires marks { AreMarksWithin (length state.now.partition.regions) state.now.marks }
+        ensures followed { IfOk result (IsFollowed state.now) }
+        ensures target { IfOk result (λ d. d.target ≡ target) }
+    {
+        let regions = state.partition().regions().len();
+        let marked = marked_regions(alloc, regions, state.marks())?;
+        let shut = shut_edges(alloc, state.steps(), state.asked())?;
+        let reach = measure(alloc, state.partition(), &shut, target)?;
+        Ok(Distances {
+            target,
+            shut,
+            marked,
+            reach,
+            waiting: Vec::new(alloc),
+        })
+    }
+
+    /// Whether the edge is open and leads to a distance below this one, or to any if this is 0.
+    fn is_nearer(&self, near: u64, edge: &RegionEdge) -> bool
+        requires { edge.now.to < length self.now.reach.far.items }
+        ensures yes { IsTrue result → (slice_index self.now.reach.far.items edge.now.to ≢ 0)
+            × (near ≢ 0 → slice_index self.now.reach.far.items edge.now.to ≤ near)
+            × (is_live self.now.shut edge.now ≡ false) }
+        ensures no { result ≡ false → slice_index self.now.reach.far.items edge.now.to ≢ 0 →
+            is_live self.now.shut edge.now ≡ false →
+            (near ≢ 0) × (near ≤ slice_index self.now.reach.far.items edge.now.to) }
+    {
+        let far = self.reach.far[edge.to as usize];
+        if far == 0 {
+            return false;
+        }
+        if near != 0 && near <= far {
+            return false;
+        }
+        !self.shut.has(edge)
+    }
+
+    /// The least distance behind an open edge from the region, and such an edge: 0 where there is
+    /// none.
+    fn nearest(&self, partition: &Partition, region: u32) -> (u64, RegionEdge)
+        requires far { AreOf partition.now self.now }
+        requires region { region < length partition.now.regions }
+        ensures { IsNearest partition.now.edges self.now.shut self.now.reach.far.items region
+            result.0 }
+    {
+        let mut near = 0;
+        let mut way = self.reach.way[region as usize];
+        for edge in partition.edges_from(region) {
+            if self.is_nearer(near, edge) {
+                near = self.reach.far[edge.to as usize];
+                way = *edge;
+            }
+        }
+        (near, way)
+    }
+
+    /// The regions whose way leads over this one wait.
+    fn tell(&mut self, partition: &Partition, region: u32) -> Result<(), OutOfMemory>
+        requires far { AreOf partition.now self.old }
+        requires region { region < length partition.now.regions }
+        ensures rest { KeepsRest self.old self.new }
+        ensures far { AreOf partition.now self.new }
+    {
+        for edge in partition.edges_into(region) {
+            if self.reach.way[edge.from as usize] == *edge {
+                self.waiting.push(edge.from)?;
+            }
+        }
+        Ok(())
+    }
+
+    /// Raises the region's distance to the least one over an open edge.
+    fn raise(&mut self, partition: &Partition, region: u32) -> Result<(), OutOfMemory>
+        requires far { AreOf partition.now self.old }
+        requires region { region < length partition.now.regions }
+        ensures rest { KeepsRest self.old self.new }
+        ensures far { AreOf partition.now self.new }
+    {
+        let old = self.reach.far[region as usize];
+        if region == self.target || old == 0 {
+            return Ok(());
+        }
+        let (near, way) = self.nearest(partition, region);
+        let far = one_more(near);
+        self.reach.way[region as usize] = way;
+        if far == old {
+            return Ok(());
+        }
+        self.reach.far[region as usize] = far;
+        self.tell(partition, region)
+    }
+
+    /// Raises the distance of a region that waits, if one does.
+    fn raise_one(&mut self, partition: &Partition) -> Result<(), OutOfMemory>
+        requires far { AreOf partition.now self.old }
+        ensures rest { KeepsRest self.old self.new }
+        ensures far { AreOf partition.now self.new }
+    {
+        match self.waiting.pop() {
+            Some(region) if (region as usize) < self.reach.far.len() => {
+                self.raise(partition, region)
+            }
+            _ => Ok(()),
+        }
+    }
+
+    /// Raises the distances of regions that wait, and of those that wait for them, but no more than
+    /// four for each region: a cycle that has lost its way climbs on.
+    fn settle(&mut self, partition: &Partition) -> Result<(), OutOfMemory>
+        requires far { AreOf partition.now self.old }
+        ensures rest { KeepsRest self.old self.new }
+        ensures far { AreOf partition.now self.new }
+    {
+        let most = self.reach.far.len().saturating_mul(4);
+        for _ in 0..most {
+            if self.waiting.is_empty() {
+                return Ok(());
+            }
+            self.raise_one(partition)?;
+        }
+        Ok(())
+    }
+
+    /// The edge isn't open any more.
+    fn leave(&mut self, partition: &Partition, edge: &RegionEdge) -> Result<(), OutOfMemory>
+        requires far { AreOf partition.now self.old }
+        ensures rest { KeepsRest self.old self.new }
+        ensures far { AreOf partition.now self.new }
+    {
+        if self.reach.way.get(edge.from as usize) != Some(edge) {
+            return Ok(());
+        }
+        self.waiting.push(edge.from)?;
+        self.settle(partition)
+    }
+
+    /// Each new piece lies as far as the region of which it is a piece, at least.
+    fn copy_far(&mut self, from: u32, regions: usize) -> Result<(), OutOfMemory>
+        requires from { from < length self.old.reach.far.items }
+        requires ways { length self.old.reach.way.items ≡ length self.old.reach.far.items }
+        requires more { length self.old.reach.far.items ≤ regions }
+        ensures rest { OnOk result (KeepsRest self.old self.new) }
+        ensures fars { OnOk result (length self.new.reach.far.items ≡ regions) }
+        ensures ways { OnOk result (length self.new.reach.way.items ≡ regions) }
+        ensures far { OnOk result ((r : ℕ) → r < regions → slice_index self.new.reach.far.items r
+            ≡ slice_index self.old.reach.far.items
+            (parent (length self.old.reach.far.items) from r)) }
+    {
+        let far = self.reach.far[from as usize];
+        let way = self.reach.way[from as usize];
+        for piece in self.reach.far.len()..regions {
+            self.reach.far.push(far)?;
+            self.reach.way.push(way)?;
+            self.waiting.push(number_behind(piece)?)?;
+        }
+        Ok(())
+    }
+
+    /// Follows a split of the region. Where one of its edges is shut, all distances are measured
+    /// anew, since no piece of it is.
+    fn divide(&mut self, alloc: Global, state: &QueryState, from: u32) -> Result<(), OutOfMemory>
+        requires split { IsSplitFrom from state.now self.old }
+        ensures followed { OnOk result (IsFollowed state.now self.new) }
+        ensures target { OnOk result (self.new.target ≡ self.old.target) }
+    {
+        let unknown = from as usize >= self.reach.far.len();
+        if unknown || touches(self.shut.as_slice(), from) {
+            *self = Distances::new(alloc, state, self.target)?;
+            return Ok(());
+        }
+        state.partition().live_within();
+        let regions = state.partition().regions().len();
+        self.copy_far(from, regions)?;
+        self.marked = marked_regions(alloc, regions, state.marks())?;
+        self.settle(state.partition())
+    }
+
+    /// Follows the state's last step, which is no Ask and no Feed.
+    pub fn follow(&mut self, alloc: Global, state: &QueryState) -> Result<(), OutOfMemory>
+        requires { IsBehind state.now self.old }
+        ensures followed { OnOk result (IsFollowed state.now self.new) }
+        ensures target { OnOk result (self.new.target ≡ self.old.target) }
+    {
+        match state.steps().last() {
+            Some(Step::Extend { edge, .. }) => {
+                self.marked[edge.to as usize] = true;
+                Ok(())
+            }
+            Some(Step::CallExtend { edge, .. }) => {
+                self.marked[edge.to as usize] = true;
+                Ok(())
+            }
+            Some(Step::Split { edge, .. }) => self.divide(alloc, state, edge.from),
+            Some(Step::CallSplit { edge, .. }) => self.divide(alloc, state, edge.from),
+            Some(Step::Kill { edge, .. }) => self.leave(state.partition(), edge),
+            Some(Step::Stuck { edge, .. }) => {
+                self.shut.add(*edge)?;
+                self.leave(state.partition(), edge)
+            }
+            _ => Ok(()),
+        }
+    }
+
+    /// Whether the edge is open and leads nearer to the target.
+    fn leads_on(&self, partition: &Partition, here: u32, edge: &RegionEdge) -> bool
+        ensures leads { IsTrue result → LeadsNearer partition.now.edges self.now.shut
+            self.now.reach.far.items here edge.now }
+        ensures all { LeadsNearer partition.now.edges self.now.shut self.now.reach.far.items here
+            edge.now → IsTrue result }
+    {
+        let (Some(far), Some(next)) = (
+            self.reach.far.get(here as usize),
+            self.reach.far.get(edge.to as usize),
+        ) else {
+            return false;
+        };
+        edge.from == here
+            && *next != 0
+            && *next < *far
+            && partition.live(edge)
+            && !self.shut.has(edge)
+    }
+
+    /// Follows the ways from the outside to the target.
+    fn walk(&self, partition: &Partition) -> Walk
+        requires far { AreOf partition.now self.now }
+        requires many { length self.now.marked.items ≡ length partition.now.regions }
+        requires outside { is_at self.now.marked.items 0 ≡ true }
+        requires target { is_at self.now.marked.items self.now.target ≡ false }
+        ensures { IsWalk partition.now self.now result }
+    {
+        if self.reach.far[0] == 0 {
+            return Walk::Closed;
+        }
+        let mut here = 0;
+        let mut last = None;
+        while here != self.target {
+            let edge = self.reach.way[here as usize];
+            if !self.leads_on(partition, here, &edge) {
+                return Walk::Lost;
+            }
+            if crosses(&self.marked, &edge) {
+                last = Some(edge);
+            }
+            here = edge.to;
+        }
+        match last {
+            Some(edge) => Walk::To(edge),
+            None => unreachable!(),
+        }
+    }
+
+    /// The last edge of a shortest open path that leads from a marked region to one that isn't.
+    /// Where the kept ways don't lead to the target, all distances are measured anew.
+    pub fn turn(
+        &mut self,
+        alloc: Global,
+        partition: &Partition,
+    ) -> Result<Option<RegionEdge>, OutOfMemory>
+        requires far { AreOf partition.now self.old }
+        requires in_target { self.old.target < length partition.now.regions }
+        requires many { length self.old.marked.items ≡ length partition.now.regions }
+        requires outside { is_at self.old.marked.items 0 ≡ true }
+        requires target { is_at self.old.marked.items self.old.target ≡ false }
+        ensures turn { IfOk result (IfLastCrossing partition.now.edges self.old.shut
+            self.old.marked.items self.old.target) }
+        ensures rest { KeepsRest self.old self.new }
+        ensures far { OnOk result (AreOf partition.now self.new) }
+    {
+        match self.walk(partition) {
+            Walk::To(edge) => return Ok(Some(edge)),
+            Walk::Closed => return Ok(None),
+            Walk::Lost => {}
+        }
+        self.reach = measure(alloc, partition, &self.shut, self.target)?;
+        self.waiting.clear();
+        match self.walk(partition) {
+            Walk::To(edge) => Ok(Some(edge)),
+            Walk::Closed => Ok(None),
+            Walk::Lost => unreachable!(),
+        }
+    }
+}
