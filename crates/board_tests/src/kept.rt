@@ -1,6 +1,9 @@
 //! Boards that begin with what another board of the program came to know.
 
-ghost use Rattle.std.specs.Prelude.{◌≡◌, IfOk, map};
+ghost use Rattle.std.specs.Prelude.{◌≡◌, ◌<◌, ℕ, IfOk, IsTrue, map};
+ghost use Rattle.summary_form.specs.declared.query.ExitKind.{ExitKind as AnExit};
+ghost use Rattle.bolt_core.specs.Boards.{IsOneOf};
+ghost use Rattle.bolt_core.specs.Machine.{AllOf};
 ghost use Rattle.board_tests.specs.Plays.{IsOpened};
 
 use crate::ends::{DESCENDS, End, Says, WIDE, brought, verdict_of};
@@ -13,6 +16,7 @@ use shadow_elim::limit::LimitKind;
 use std::alloc::{AllocError, Global};
 use std::sync::Arc;
 use std::test::Fail;
+use summary_form::query::ExitKind;
 use summary_form::summary::Summary;
 
 /// The summaries of a board.
@@ -24,6 +28,42 @@ fn summaries_of(alloc: Global, board: &Board) -> Result<Vec<Arc<Summary>>, Alloc
         summaries.push(summary.clone()?)?;
     }
     Ok(summaries)
+}
+
+/// Whether the exit is a return, or the failure of one of so many assertions.
+fn is_exit(asserts: u32, exit: ExitKind) -> bool
+    ensures { IsTrue result → (id : ℕ) → exit ≡ AnExit.Fail id → id < asserts }
+{
+    match exit {
+        ExitKind::Return => true,
+        ExitKind::Fail(id) => id < asserts,
+    }
+}
+
+/// Whether the summary is of one of so many procedures, and its failure of one of so many
+/// assertions.
+fn is_one_of(procedures: usize, asserts: u32, summary: &Summary) -> bool
+    ensures { IsTrue result → IsOneOf procedures asserts summary.now }
+{
+    match summary {
+        Summary::NotMay(query) => {
+            (query.proc as usize) < procedures && is_exit(asserts, query.exit)
+        }
+        Summary::Must(path) => (path.proc as usize) < procedures && is_exit(asserts, path.exit),
+    }
+}
+
+/// Whether each is.
+fn are_of(procedures: usize, asserts: u32, summaries: &[Arc<Summary>]) -> bool
+    ensures { IsTrue result → AllOf (IsOneOf procedures asserts)
+        (map (λ a. a.value) summaries.now) }
+{
+    for summary in summaries {
+        if !is_one_of(procedures, asserts, summary) {
+            return false;
+        }
+    }
+    true
 }
 
 /// A board of the same graphs, which begins with what this one knows.
@@ -38,10 +78,14 @@ fn begun_again(
 {
     board.reached();
     let graphs = board.graphs().clone()?;
-    if main as usize >= graphs.graphs.as_slice().len() {
+    let procedures = graphs.graphs.as_slice().len();
+    if main as usize >= procedures {
         return Err(Fail::new("no main"));
     }
     let kept = summaries_of(alloc, board)?;
+    if procedures > 64 || !are_of(procedures, asserts, &kept) {
+        return Err(Fail::new("of another program"));
+    }
     if asserts > 64 || budget == 0 || budget > 20_000 || kept.len() > 2_000_000 {
         return Err(Fail::new("past a limit"));
     }

@@ -12,6 +12,8 @@ mod musts;
 #[cfg(test)]
 mod orders;
 #[cfg(test)]
+mod origins;
+#[cfg(test)]
 mod play;
 #[cfg(test)]
 mod programs;

@@ -1,6 +1,6 @@
 //! Boards of programs.
 
-ghost use Rattle.std.specs.Prelude.{◌≤◌, length, IfOk};
+ghost use Rattle.std.specs.Prelude.{◌≡◌, ◌≤◌, [], length, IfOk};
 ghost use Rattle.c_tree.specs.WellFormed.{DividesByLiterals};
 ghost use Rattle.c_tree.specs.Whole.{program_of as whole};
 ghost use Rattle.board_tests.specs.Plays.{IsOpened};
@@ -54,12 +54,14 @@ fn opened(
     asserts: usize,
     budget: u32,
 ) -> Result<(Board, u32), Fail>
-    ensures { IfOk result (λ r. IsOpened r.0 r.1) }
+    ensures opened { IfOk result (λ r. IsOpened r.0 r.1) }
+    ensures none { IfOk result (λ r. r.0.core.kept ≡ []) }
 {
     if main as usize >= graphs.graphs.as_slice().len() {
         return Err(Fail::new("no main"));
     }
-    if asserts > 64 || budget == 0 || budget > 20_000 {
+    let few = graphs.graphs.as_slice().len() <= 64;
+    if !few || asserts > 64 || budget == 0 || budget > 20_000 {
         return Err(Fail::new("past a limit"));
     }
     let graphs = Arc::new(alloc, graphs)?;
@@ -68,9 +70,10 @@ fn opened(
     Ok((board, asserts))
 }
 
-/// The board of a program with this budget, and its assertions.
+/// The board of a program with this budget, and its assertions. It begins without summaries.
 pub fn board_of(alloc: Global, text: &str, budget: u32) -> Result<(Board, u32), Fail>
-    ensures { IfOk result (λ r. IsOpened r.0 r.1) }
+    ensures opened { IfOk result (λ r. IsOpened r.0 r.1) }
+    ensures none { IfOk result (λ r. r.0.core.kept ≡ []) }
 {
     let program = program_of(alloc, text)?;
     let graphs = build(alloc, &program)?;

@@ -8,12 +8,14 @@ use Rattle.query_tree.specs.Forest.{after_root, root_of}
 use Rattle.query_tree.proofs.Lists.{from_pushed}
 use Rattle.query_rules.specs.Seen.{Seen}
 use Rattle.summary_form.specs.declared.summary.Summary.{Summary}
+use Rattle.summary_table.specs.declared.keys.TheConstants.{MAX_PROCEDURES}
 use Rattle.bolt_core.specs.declared.slot.Slot.{Slot}
 use Rattle.bolt_core.specs.declared.slot.ClosedAs.TheVariants as how
 use Rattle.flow_graph.specs.Linked.{AreGraphs}
 use Rattle.bolt_core.specs.Boards.{AreRootsOf, IsBegunWith, IsBoard, IsRootOf, IsRoomy, core_of, node_of}
 use Rattle.bolt_core.specs.Groups.{Node}
 use Rattle.bolt_core.specs.Machine.{AllOf, Core, HoldsBy, first_board, node_of_root, opening}
+use Rattle.bolt_core.specs.Origins.{HasTraced}
 use Rattle.bolt_core.specs.States.{reads}
 
 roots_push : (gs : List Graph) (main k : ℕ) (ss : List Seen) (s : Seen) → AreRootsOf gs main k ss → IsRootOf gs main (k + length ss) s →
@@ -88,11 +90,13 @@ one_begun gs main budget n ks es slots s z h own shut hidden silent node =
 module _ (gs : List Graph) (main asserts budget n : ℕ) (ks : List Summary) (es : List (Entry Seen)) (slots : List Slot)
     (h : AreBegun gs main budget n ks es slots)
     (all : n ≡ asserts) where
-  pub begun_board : AreGraphs gs → (g : Graph) → slice_get gs main ≡ Some g → asserts ≤ 64 → 1 ≤ budget → budget ≤ 20000 →
+  pub begun_board : AreGraphs gs → length gs ≤ MAX_PROCEDURES → (g : Graph) → slice_get gs main ≡ Some g → asserts ≤ 64 → 1 ≤ budget →
+      budget ≤ 20000 →
       length ks ≤ 2000000 → AllOf (HoldsBy (reads gs)) ks →
       IsBoard (record { graphs = gs; main = main; asserts = asserts; budget = budget; core = core_of ks es slots ks [] false })
-  begun_board linked g at few some most few_kept hold = record {
+  begun_board linked small g at few some most few_kept hold = record {
     linked = linked;
+    small = small;
     graph = g;
     main = at;
     few = few;
@@ -131,6 +135,10 @@ module _ (gs : List Graph) (main asserts budget n : ℕ) (ks : List Summary) (es
     shown = λ i y at place is. let e : Some place ≡ None = sym is ∙ (h.open_slots i y at).1 in absurd (cc);
     said_is = λ i y at. (h.open_slots i y at).2;
   }
+
+  pub begun_traced : (room : ℕ) → asserts * budget + asserts ≤ room →
+      HasTraced (record { graphs = gs; main = main; asserts = asserts; budget = budget; core = core_of ks es slots ks [] false }) [] room
+  begun_traced room fits = record { are = refl; count = omega arith; fits = fits }
 
 pub map_next : {X Y : Type 0} (f : X → Y) (xs : List X) (i : ℕ) (x : X) → slice_get xs i ≡ Some x →
     map f (take (suc i) xs) ≡ map f (take i xs) ++ f x ∷ []

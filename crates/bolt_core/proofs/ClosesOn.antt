@@ -3,8 +3,10 @@ use Rattle.std.proofs.Common.{◌≡◌, ℕ, zero, suc, ◌+◌, ◌*◌, ◌<�
 use Rattle.std.specs.Prelude.{slice_get, ◌==◌, ◌&&◌, not}
 use Rattle.std.specs.Global.{Global}
 use Rattle.std.specs.declared.sync.Arc.{Arc}
+use Rattle.std.specs.Option.{option_map}
 use Rattle.std.proofs.lemmas.Bool.{eqb-true}
 use Rattle.std.proofs.lemmas.List.{length-append, length_push}
+use Rattle.std.proofs.lemmas.Option.{slice_get-map}
 use Rattle.query_tree.specs.declared.Entry.{Entry}
 use Rattle.query_tree.specs.declared.Status.TheVariants.{Running, Closed}
 use Rattle.query_tree.specs.Forest.{after_close, changed, changed_from, is_none}
@@ -16,6 +18,7 @@ use Rattle.query_rules.specs.declared.step.Closing.{Closing}
 use Rattle.summary_form.specs.declared.query.Query.{Query}
 use Rattle.summary_form.specs.declared.summary.Summary.{Summary}
 use Rattle.summary_form.specs.declared.summary.Summary.TheVariants as summary
+use Rattle.summary_table.specs.Tables.{IsNumbered}
 use Rattle.bolt_core.specs.declared.event.Event.{Event as Stored}
 use Rattle.bolt_core.specs.declared.event.Event.TheVariants as stored
 use Rattle.bolt_core.specs.declared.job.Job.{Job as Given}
@@ -23,18 +26,21 @@ use Rattle.bolt_core.specs.declared.slot.ClosedAs.{ClosedAs}
 use Rattle.bolt_core.specs.declared.slot.ClosedAs.TheVariants as how
 use Rattle.bolt_core.specs.declared.slot.Slot.{Slot}
 use Rattle.bolt_core.specs.Boards.{HandsIn, IsBoard, IsClosedBy, IsRoomy, IsSettled, MayBeClosed, Shown, core_of, history_of, job_of, most_queries, most_summaries, node_of, said_as, told_by}
-use Rattle.bolt_core.specs.Groups.{Node, closed_at, is_member, leads}
+use Rattle.bolt_core.specs.Groups.{Node, closed_at, is_member, leads, level_in, publishes}
 use Rattle.bolt_core.specs.Histories.{Told, closed, has_said}
 use Rattle.bolt_core.specs.Keeps.{IsNow}
 use Rattle.bolt_core.specs.Machine.{Core, Event, appended, closed_how, shows}
+use Rattle.bolt_core.specs.Origins.{HasTraced, closed_ids}
 use Rattle.bolt_core.specs.States.{reads}
-use Rattle.bolt_core.specs.steps.Closes.{HandsInFor, IsGroupOf, Settles, appended_by, closed_as, kept_slot, publishes, settled_slot, shown_slot, value_of}
+use Rattle.bolt_core.specs.steps.Closes.{HandsInFor, IsGroupOf, Settles, appended_by, closed_as, kept_slot, settled_slot, shown_slot, value_of}
 use Rattle.bolt_core.proofs.Asking.{slot_at}
 use Rattle.bolt_core.proofs.BoardKeeps.{board_keeps, nodes_of}
 use Rattle.bolt_core.proofs.Going.{AllSettled, GoesOn, get_front, goes_on, history_push, told_length}
 use Rattle.bolt_core.proofs.Nodes.{open_node, table_within}
+use Rattle.bolt_core.proofs.Numbered.{board_numbered, handed_numbered}
 use Rattle.bolt_core.proofs.Showing.{none_is}
 use Rattle.bolt_core.proofs.Shutting.{appended_is, appended_part, closed_is, group_of, hands_in, shows_is}
+use Rattle.bolt_core.proofs.Tracing.{closed_many, traced_more}
 
 -- Changed lists
 
@@ -278,13 +284,34 @@ module _ (p : Shown) (es : List (Entry Seen)) (ss : List Slot) (ts : List Summar
       subst (λ (x : ClosedAs). HandsInFor d.query.value x (value_of o)) (sym is)
       (hands_in g.state.query d.query.value own.level g.state.lowest c (value_of o) q i)
 
+  pub ids_many : length added ≡ length (closed_ids (map node_of ss) g.id own.level shut)
+  ids_many = closed_many (map node_of ss) g.id own.level own.query.value shut (value_of o) (hands own at)
+
+  -- there is room for the numbers
+  pub ids_fit : (ids : List ℕ) (room : ℕ) → HasTraced before ids room →
+      length (ids ++ closed_ids (map node_of ss) g.id own.level shut) ≤ room
+  ids_fit ids room d = omega (
+    arith,
+    close_room.0,
+    length-append ts added,
+    ids_many,
+    length-append ids (closed_ids (map node_of ss) g.id own.level shut),
+    d.count,
+    d.fits,
+  )
+
   pub close_settles : Settles ss g.id own.level shut (value_of o) ts t
   close_settles = record {
     hands = hands;
     fits = λ d a. subst
         (λ (x : Slot). length (ts ++ appended_by (map node_of ss) g.id own.level x.query.value shut (value_of o)) ≤ t)
         (sym (one_at ss g.id g.id own d at a refl)) (omega (arith, close_room.0, r.summaries));
+    numbered = handed_numbered p.graphs g.state.query numbered c m.may (value_of o) i;
   }
+    where
+      numbered : IsNumbered g.state.query.proc g.state.query.exit
+      numbered = subst (λ (q : Query). IsNumbered q.proc q.exit) (sym m.sound.query)
+          (board_numbered before h g.id m.sound.node m.sound.node_at)
 
   pub close_group : IsGroupOf ss g.id own.level place
   close_group = group_of p es ss ts xs st f t s v h r place here g.id own at
@@ -318,6 +345,17 @@ module _ (p : Shown) (es : List (Entry Seen)) (ss : List Slot) (ts : List Summar
                 (core_of p.core.kept fs ls us ys st))
                 (is ∙ closed_is R own.level g.state c) (close_goes fs wt).event;
           }
+
+      pub traced_close : (fs : List (Entry Seen)) → Went (λ own. after_close es own g.id g.spent g.state place) es fs g.id →
+          (ids : List ℕ) (room wide : ℕ) → HasTraced before ids room → (is : List ℕ) →
+          is ≡ ids ++ closed_ids (map node_of ss) g.id own.level shut → wide ≡ room →
+          HasTraced (record p { core = core_of p.core.kept fs ls us ys st }) is wide
+      traced_close fs wt ids room wide d is now same =
+          let ns : List Node = map node_of ss in
+          let there : slice_get ns g.id ≡ Some (node_of own) = slice_get-map node_of ss g.id ∙ ap (option_map node_of) at in
+          traced_more before h (closed w g.id g.spent shut added) (core_of p.core.kept fs ls us ys st) (close_goes fs wt) ids
+          (closed_ids ns g.id own.level shut) room wide d (ap (λ l. closed_ids ns g.id l shut) (sym (ap level_in there)))
+          (omega (arith, ap (λ (l : List Summary). length l) table, length-append ts added, ids_many)) is now same
 
       pub roomy_close : (d : Core Seen) (fr tr sr er : ℕ) → d.table ≡ us → d.kept ≡ p.core.kept → fr ≡ f → tr ≡ t → s ≤ sr → er ≡ v →
           ((j : ℕ) → has_said d.history j ≡ has_said (history_of ss ts xs) j) → IsRoomy (record p { core = d }) ls ys fr tr sr er

@@ -82,6 +82,7 @@ goes_on b e c h v one =
     in
     let next : IsBoard new = record {
       linked = h.linked;
+      small = h.small;
       graph = h.graph;
       main = h.main;
       few = h.few;

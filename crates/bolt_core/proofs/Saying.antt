@@ -18,7 +18,8 @@ use Rattle.bolt_core.specs.declared.slot.Slot.{Slot}
 use Rattle.bolt_core.specs.Boards.{IsBoard, IsRoomy, IsSettled, MayBeSaid, Publishes, Shown, core_of, history_of, most_summaries, node_of, said_as, told_by}
 use Rattle.bolt_core.specs.Groups.{Node}
 use Rattle.bolt_core.specs.Histories.{Told, has_said, said}
-use Rattle.bolt_core.specs.Machine.{Core, HoldsBy, exit_of, proc_of}
+use Rattle.summary_table.specs.Tables.{exit_of, proc_of}
+use Rattle.bolt_core.specs.Machine.{Core, HoldsBy}
 use Rattle.bolt_core.specs.States.{reads}
 use Rattle.bolt_core.proofs.BoardKeeps.{board_keeps, nodes_of}
 use Rattle.bolt_core.proofs.ClosesOn.{Handed, all_longer, longer_settled, map_kept}
@@ -86,7 +87,7 @@ module _ (p : Shown) (es : List (Entry Seen)) (ss : List Slot) (ts : List Summar
 
   module _ (w : ℕ) (q : Summary) (m : MayBeSaid before i) (holds : HoldsBy (reads p.graphs) q)
       (fits : (n : Node) → slice_get (map node_of ss) i ≡ Some n →
-      (proc_of (reads p.graphs) q ≡ n.query.proc) × (exit_of (reads p.graphs) q ≡ n.query.exit)) where
+      (proc_of q ≡ n.query.proc) × (exit_of q ≡ n.query.exit)) where
     abbrev marked : List Slot
     marked = changed (said_at i) ss
 

@@ -5,6 +5,7 @@ use Rattle.std.specs.Global.{Global}
 use Rattle.std.specs.declared.sync.Arc.{Arc}
 use Rattle.std.proofs.lemmas.Bool.{eq-eqb, ne_eqb}
 use Rattle.std.proofs.lemmas.List.{append_assoc, length-append}
+use Rattle.std.proofs.lemmas.Option.{same_Some}
 use Rattle.query_tree.specs.Forest.{changed}
 use Rattle.query_tree.proofs.Lists.{changed_changed, changed_same, length_changed, to_changed, within}
 use Rattle.query_tree.proofs.Tests.{cond_eq}
@@ -15,8 +16,9 @@ use Rattle.bolt_core.specs.declared.slot.ClosedAs.{ClosedAs}
 use Rattle.bolt_core.specs.declared.slot.ClosedAs.TheVariants as how
 use Rattle.bolt_core.specs.declared.slot.Slot.{Slot}
 use Rattle.bolt_core.specs.Boards.{node_of}
-use Rattle.bolt_core.specs.Groups.{Node, group}
-use Rattle.bolt_core.specs.steps.Closes.{HandsInFor, IsGroupOf, Settles, appended_by, done, kept_slot, only_at, publishes, settled_slot, shown_slot, summaries_in, told_of, value_of}
+use Rattle.bolt_core.specs.Groups.{Node, group, publishes}
+use Rattle.bolt_core.specs.Origins.{closed_ids}
+use Rattle.bolt_core.specs.steps.Closes.{HandsInFor, IsGroupOf, MayBeAdded, Settles, appended_by, done, kept_slot, only_at, settled_slot, shown_slot, summaries_in, told_of, value_of}
 use Rattle.bolt_core.proofs.Showing.{lead_first, settled_lead}
 
 -- what is published is appended, so there is room for it
@@ -29,6 +31,28 @@ room_before ns i l q how.Must s ts room p h le =
     let m = h.must refl in
     omega (arith, le, length-append ts (summaries_in s), ap (λ o. length (summaries_in o)) m.1)
 room_before ns i l q (how.Stuck kind) s ts room p h le = absurd (cc)
+
+-- The numbers of what is published
+
+-- there is room for one, where its summary is published
+pub numbers_some : (ns : List Node) (i l : ℕ) (shut : ClosedAs) → publishes shut ≡ true → (is : List ℕ) (room : ℕ) →
+    length (is ++ closed_ids ns i l shut) ≤ room → length is < room
+numbers_some ns i l (how.NotMay None) p is room le = omega (arith, le, length-append is (i ∷ group ns i l))
+numbers_some ns i l (how.NotMay (Some j)) p is room le = absurd (cc)
+numbers_some ns i l how.Must p is room le = omega (arith, le, length-append is (i ∷ []))
+numbers_some ns i l (how.Stuck kind) p is room le = absurd (cc)
+
+-- the leader's number, and then those of its group
+pub numbers_all : (ns : List Node) (i l : ℕ) (shut : ClosedAs) → shut ≡ how.NotMay None → (is js : List ℕ) → js ≡ is ++ i ∷ [] →
+    (ks : List ℕ) → ks ≡ js ++ group ns i l → ks ≡ is ++ closed_ids ns i l shut
+numbers_all ns i l shut e is js one ks more = more
+    ∙ (ap (λ us. us ++ group ns i l) one
+    ∙ (append_assoc is (i ∷ []) (group ns i l) ∙ ap (λ c. is ++ closed_ids ns i l c) (sym e)))
+
+pub numbers_more : (ns : List Node) (i l : ℕ) (shut : ClosedAs) → shut ≡ how.NotMay None → (is js : List ℕ) (room : ℕ) →
+    js ≡ is ++ i ∷ [] → length (is ++ closed_ids ns i l shut) ≤ room → length (js ++ group ns i l) ≤ room
+numbers_more ns i l shut e is js room one le =
+    omega (arith, le, ap length (numbers_all ns i l shut e is js one (js ++ group ns i l) refl))
 
 lead_told : (ns : List Node) (i l : ℕ) (q : Query) (s : Option Summary) (ts : List Summary) → s ≡ Some (summary.NotMay q) →
     (ts ++ summaries_in s) ++ told_of ns (group ns i l) ≡ ts ++ appended_by ns i l q (how.NotMay None) s
@@ -55,6 +79,11 @@ module _ (base : List Slot) (i l place : ℕ) (g : IsGroupOf base i l place) (sh
   kept_at old is = ap (λ (xs : List Slot). slice_get xs i) is
       ∙ (to_changed (only_at i (kept_slot shut o)) base i g.own g.at
       ∙ ap (λ b. Some (cond b (kept_slot shut o g.own) g.own)) (eq-eqb i i refl))
+
+  pub kept_numbers : (old : List Slot) → old ≡ kept → (y : Slot) → slice_get old i ≡ Some y → MayBeAdded (value_of y.summary)
+  kept_numbers old is y at =
+      let e : kept_slot shut o g.own ≡ y = same_Some _ _ (sym (kept_at old is) ∙ at) in
+      subst (λ (z : Slot). MayBeAdded (value_of z.summary)) e s.numbered
 
   pub room_first : publishes shut ≡ true → length ts < room
   room_first p = room_before (map node_of base) i l g.own.query.value shut (value_of o) ts room p (s.hands g.own g.at) (s.fits g.own g.at)

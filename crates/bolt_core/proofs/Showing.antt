@@ -6,19 +6,20 @@ use Rattle.std.specs.Global.{Global}
 use Rattle.std.specs.declared.sync.Arc.{Arc}
 use Rattle.std.proofs.lemmas.Bool.{and_parts, and_right, cases_Bool, cond_both, eq-eqb, eqb-true, ne_eqb, false_from_ne_true, ltb-true, ltb-false, lt-ltb, le-ltb, or_cases, eqb-false}
 use Rattle.std.proofs.lemmas.List.{length-map, map-append, length-append, append_assoc}
-use Rattle.std.proofs.lemmas.Option.{slice_get-map}
+use Rattle.std.proofs.lemmas.Option.{same_Some, slice_get-map}
 use Rattle.query_tree.specs.Forest.{changed, is_none, is_place}
 use Rattle.shadow_elim.proofs.Tests.{both_true}
 use Rattle.query_tree.proofs.Lists.{changed_changed, changed_same, from_changed, length_changed, present, to_changed, within}
 use Rattle.query_tree.proofs.Tests.{cond_eq, one_at}
 use Rattle.summary_form.specs.declared.summary.Summary.{Summary}
 use Rattle.summary_form.specs.declared.summary.Summary.TheVariants as summary
+use Rattle.summary_table.specs.Tables.{IsNumbered, exit_of, proc_of}
 use Rattle.bolt_core.specs.declared.slot.ClosedAs.TheVariants as how
 use Rattle.bolt_core.specs.declared.slot.Slot.{Slot}
 use Rattle.bolt_core.specs.Boards.{node_of}
 use Rattle.bolt_core.specs.Groups.{Node, is_member, is_member_upto, joins, leans_within, level_in, passes, places_from, queries_at, query_in}
 use Rattle.bolt_core.specs.Keeps.{AreLevelled, Placed}
-use Rattle.bolt_core.specs.steps.Closes.{IsGroupOf, done, done_slot, is_below, is_done, is_shown, joins_now, kept_slot, lead_slot, members_on, on_level, only_at, settled_slot, shown_slot, summaries_in, told_of, value_of}
+use Rattle.bolt_core.specs.steps.Closes.{IsGroupOf, MayBeAdded, done, done_slot, is_below, is_done, is_shown, joins_now, kept_slot, lead_slot, members_on, on_level, only_at, settled_slot, shown_slot, summaries_in, told_of, value_of}
 use Rattle.bolt_core.proofs.Groups.{joined, member_below, member_joins}
 use Rattle.bolt_core.proofs.Lines.{level_within}
 
@@ -427,6 +428,7 @@ module _ (base : List Slot) (lead l place : ℕ) (g : IsGroupOf base lead l plac
     pub tells : on_level ns lead l at k ≡ true → told_of ns (filter (on_level ns lead l at) (places_from k (length ns - k)))
         ≡ summaries_in (value_of y.summary)
         ++ told_of ns (filter (on_level ns lead l at) (places_from (suc k) (length ns - suc k)))
+    pub numbers : on_level ns lead l at k ≡ true → MayBeAdded (value_of y.summary)
     pub some : on_level ns lead l at k ≡ true →
         1 ≤ length (told_of ns (filter (on_level ns lead l at) (places_from k (length ns - k))))
     pub goes : on_level ns lead l at k ≡ false → filter (on_level ns lead l at) (places_from k (length ns - k))
@@ -449,6 +451,12 @@ module _ (base : List Slot) (lead l place : ℕ) (g : IsGroupOf base lead l plac
             let m = (and_parts (level_in (slice_get ns k) == at) (is_member ns lead l k) on).1 in
             told on ∙ sym (ap (λ o. summaries_in o ++ told_of ns rest)
             (ap (λ (z : Slot). value_of z.summary) e ∙ its_summary k s r.1 m));
+        numbers = λ on x is.
+            let e : y ≡ s = r.2 ∙ plain at k s r.1 on in
+            let m = (and_parts (level_in (slice_get ns k) == at) (is_member ns lead l k) on).1 in
+            let same : summary.NotMay s.query.value ≡ x =
+            same_Some _ _ (sym (ap (λ (z : Slot). value_of z.summary) e ∙ its_summary k s r.1 m) ∙ is) in
+            subst (λ (z : Summary). IsNumbered (proc_of z) (exit_of z)) same (g.numbered k s r.1);
         some = λ on. omega (arith, ap (λ (ts : List Summary). length ts) (told on));
         goes = λ off. step ∙ ap (λ b. cond b (k ∷ rest) rest) off;
       }
@@ -486,6 +494,21 @@ module _ (base : List Slot) (lead l place : ℕ) (g : IsGroupOf base lead l plac
       (λ j. (old ≡ done base lead l at j place) × (left_on at j ≡ left_on at k))
       (sym e)
       (is ∙ step_no at k off, sym (n.goes off))
+
+  -- the numbers that are left, where the one at k is taken
+  pub left_yes : (at k m : ℕ) → m ≡ suc k → k < length base → on_level ns lead l at k ≡ true → (is js all : List ℕ) →
+      is ++ left_on at k ≡ all → js ≡ is ++ k ∷ [] → js ++ left_on at m ≡ all
+  left_yes at k m e lt on is js all told added = subst (λ j. js ++ left_on at j ≡ all) (sym e)
+      (ap (λ us. us ++ left_on at (suc k)) added
+      ∙ (append_assoc is (k ∷ []) (left_on at (suc k))
+      ∙ (ap (λ us. is ++ us) (sym (filter_step (on_level ns lead l at) k (length ns) (omega (arith, lt, nodes_length))
+      ∙ ap (λ b. cond b (k ∷ left_on at (suc k)) (left_on at (suc k))) on)) ∙ told)))
+
+  pub left_some : (at k : ℕ) → k < length base → on_level ns lead l at k ≡ true → 1 ≤ length (left_on at k)
+  left_some at k lt on =
+      let e = filter_step (on_level ns lead l at) k (length ns) (omega (arith, lt, nodes_length))
+      ∙ ap (λ b. cond b (k ∷ left_on at (suc k)) (left_on at (suc k))) on in
+      omega (arith, ap (λ (us : List ℕ). length us) e)
 
   pub level_over_all : (at k : ℕ) → length base ≤ k → done base lead l at k place ≡ done base lead l at (length base) place
   level_over_all at k le = level_end at k le ∙ sym (level_end at (length base) (omega arith))
@@ -527,6 +550,30 @@ module _ (base : List Slot) (lead l place : ℕ) (g : IsGroupOf base lead l plac
         ap (λ vs. vs ++ told_of ns (levels_from (suc at))) added ∙ (sym (level_first at lt ts) ∙ told),
       )
 
+  numbers_first : (at : ℕ) → at < length base → (is : List ℕ) →
+      is ++ levels_from at ≡ (is ++ members_on ns lead l at) ++ levels_from (suc at)
+  numbers_first at lt is =
+      ap (λ js. is ++ js) (levels_step (members_on ns lead l) at (suc l + length ns) (omega (arith, lt, nodes_length)))
+      ∙ sym (append_assoc is (members_on ns lead l at) (levels_from (suc at)))
+
+  pub numbers_room : (at : ℕ) → at < length base → (is all : List ℕ) (room : ℕ) → is ++ levels_from at ≡ all → length all ≤ room →
+      length (is ++ members_on ns lead l at) ≤ room
+  numbers_room at lt is all room e le = omega (
+    arith,
+    le,
+    ap (λ (js : List ℕ). length js) (sym (numbers_first at lt is) ∙ e),
+    length-append (is ++ members_on ns lead l at) (levels_from (suc at)),
+  )
+
+  pub numbers_next : (at m : ℕ) → m ≡ suc at → at < length base → (is js all : List ℕ) → is ++ levels_from at ≡ all →
+      js ≡ is ++ members_on ns lead l at → js ++ levels_from m ≡ all
+  numbers_next at m e lt is js all told added = subst (λ k. js ++ levels_from k ≡ all) (sym e)
+      (ap (λ us. us ++ levels_from (suc at)) added ∙ (sym (numbers_first at lt is) ∙ told))
+
+  pub numbers_over : (at : ℕ) → AllBelow at → (is all : List ℕ) → is ++ levels_from at ≡ all → is ≡ all
+  numbers_over at b is all told =
+      sym (ap (λ js. is ++ js) (rest_none at b ((suc l + length ns) - at) at (omega arith)) ∙ append-nil is) ∙ told
+
   pub levels_over : (at : ℕ) → AllBelow at → (old : List Slot) → old ≡ done base lead l at 0 place → (ts all : List Summary) →
       ts ++ told_of ns (levels_from at) ≡ all → (old ≡ done base lead l (length base) 0 place) × (ts ≡ all)
   levels_over at b old is ts all told = (
@@ -541,5 +588,5 @@ module _ (base : List Slot) (lead l place : ℕ) (g : IsGroupOf base lead l plac
   pub last_level : (at m : ℕ) → m ≡ suc at → l < at → members_on ns lead l at ≡ [] → AllBelow m
   last_level at m e deep none i x a y = omega (arith, e, below_empty at deep none i x a y)
 
-pub room_for : (ts rest all : List Summary) (room : ℕ) → ts ++ rest ≡ all → length all ≤ room → 1 ≤ length rest → length ts < room
-room_for ts rest all room e le some = omega (arith, length-append ts rest, ap (λ (us : List Summary). length us) e, le, some)
+pub room_for : {X : Type 0} (ts rest all : List X) (room : ℕ) → ts ++ rest ≡ all → length all ≤ room → 1 ≤ length rest → length ts < room
+room_for ts rest all room e le some = omega (arith, length-append ts rest, ap length e, le, some)

@@ -1,7 +1,9 @@
 -- What a close finds in the board, and what its event tells.
-use Rattle.std.proofs.Common.{◌≡◌, ℕ, List, [], ◌∷◌, ◌++◌, length, take, drop, Bool, Option, Some, None, refl, ap, subst, arith}
+use Rattle.std.proofs.Common.{◌≡◌, ℕ, List, [], ◌∷◌, ◌++◌, length, take, drop, Bool, Option, Some, None, refl, ap, ◌∙◌, subst, arith}
 use Rattle.std.specs.Prelude.{slice_get}
+use Rattle.std.specs.Option.{option_map}
 use Rattle.std.proofs.lemmas.Bool.{false_from_ne_true}
+use Rattle.std.proofs.lemmas.Option.{slice_get-map}
 use Rattle.query_tree.specs.Forest.{is_place}
 use Rattle.query_tree.proofs.Tests.{place_is}
 use Rattle.query_rules.specs.Seen.{Seen}
@@ -15,11 +17,12 @@ use Rattle.bolt_core.specs.declared.event.Event.{Event as Stored}
 use Rattle.bolt_core.specs.declared.slot.ClosedAs.{ClosedAs}
 use Rattle.bolt_core.specs.declared.slot.ClosedAs.TheVariants as how
 use Rattle.bolt_core.specs.declared.slot.Slot.{Slot}
-use Rattle.bolt_core.specs.Boards.{HandsIn, IsBoard, IsRoomy, Shown, core_of}
-use Rattle.bolt_core.specs.Groups.{Node, discharged}
+use Rattle.bolt_core.specs.Boards.{HandsIn, IsBoard, IsRoomy, Shown, core_of, node_of}
+use Rattle.bolt_core.specs.Groups.{Node, discharged, publishes}
 use Rattle.bolt_core.specs.Machine.{Reads, appended, closed_how, shows}
-use Rattle.bolt_core.specs.steps.Closes.{HandsInFor, IsGroupOf, appended_by, closed_as, publishes, summaries_in}
+use Rattle.bolt_core.specs.steps.Closes.{HandsInFor, IsGroupOf, appended_by, closed_as, summaries_in}
 use Rattle.bolt_core.proofs.BoardKeeps.{board_keeps}
+use Rattle.bolt_core.proofs.Numbered.{board_numbered}
 
 -- the slots of a board are those of a group
 pub group_of : (p : Shown) (es : List (Entry Seen)) (ss : List Slot) (ts : List Summary) (xs : List Stored) (st : Bool) (f t s v : ℕ) →
@@ -36,6 +39,8 @@ group_of p es ss ts xs st f t s v h r place is i own a = record {
     r.shown j y e place (place_is y.published place z),
   ));
   handed = r.handed;
+  numbered = λ j y e. board_numbered (record p { core = core_of p.core.kept es ss ts xs st }) h j (node_of y)
+      (slice_get-map node_of ss j ∙ ap (option_map node_of) e);
 }
 
 pub hands_in : (q own : Query) (level : ℕ) (low : Option ℕ) (c : Closing) (s : Option Summary) → q ≡ own → HandsIn q c s →

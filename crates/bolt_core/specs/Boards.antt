@@ -21,6 +21,8 @@ use Rattle.query_rules.specs.declared.step.Closing.{Closing}
 use Rattle.query_rules.specs.declared.step.Closing.TheVariants as closing
 use Rattle.query_rules.specs.declared.step.News.{News}
 use Rattle.query_rules.specs.declared.step.News.TheVariants as news
+use Rattle.summary_table.specs.declared.keys.TheConstants.{MAX_PROCEDURES}
+use Rattle.summary_table.specs.Tables.{exit_of, proc_of}
 use Rattle.bolt_core.specs.declared.event.Event.{Event as Stored}
 use Rattle.bolt_core.specs.declared.event.Event.TheVariants as stored
 use Rattle.bolt_core.specs.declared.job.Gone.{Gone as GoneJob}
@@ -130,6 +132,11 @@ abbrev pub AreRootsOf : List Graph → (main first : ℕ) → List Seen → Type
 AreRootsOf gs main k [] = Unit {0}
 AreRootsOf gs main k (s ∷ ss) = IsRootOf gs main k s × AreRootsOf gs main (suc k) ss
 
+-- it is of one of so many procedures, and where it tells of a failure, of one of so many assertions
+pub record IsOneOf (procedures asserts : ℕ) (s : Summary) : Type 0 where
+  pub procedure : proc_of s < procedures
+  pub assertion : (id : ℕ) → exit_of s ≡ Fail id → id < asserts
+
 -- before the first event: a root for each assertion, with the whole budget
 pub record IsOpening (b : Shown) (c : Core Seen) : Type 0 where
   pub roots : List Seen
@@ -141,6 +148,7 @@ pub record IsOpening (b : Shown) (c : Core Seen) : Type 0 where
 -- the board is reached from its opening by its history
 pub record IsBoard (b : Shown) : Type 0 where
   pub linked : AreGraphs b.graphs
+  pub small : length b.graphs ≤ MAX_PROCEDURES
   pub graph : Graph
   pub main : slice_get b.graphs b.main ≡ Some graph
   pub few : b.asserts ≤ 64

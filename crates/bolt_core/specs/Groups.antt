@@ -1,6 +1,6 @@
 -- What a board keeps of its queries, and the group of not-mays that a close publishes.
 use Rattle.std.specs.Prelude.{ℕ, zero, suc, List, [], ◌∷◌, ◌++◌, length, filter, flat_map, Bool, true, false, cond, ◌&&◌, ◌||◌, not, ◌==◌, nat_le, Option, Some, None, slice_get}
-use Rattle.query_tree.specs.Forest.{is_place}
+use Rattle.query_tree.specs.Forest.{is_none, is_place}
 use Rattle.summary_form.specs.declared.query.Query.{Query}
 use Rattle.bolt_core.specs.declared.slot.ClosedAs.{ClosedAs}
 use Rattle.bolt_core.specs.declared.slot.ClosedAs.TheVariants as how
@@ -87,6 +87,12 @@ leads (how.NotMay None) = true
 leads (how.NotMay (Some j)) = false
 leads how.Must = false
 leads (how.Stuck kind) = false
+
+-- its summary is published by its close
+abbrev pub publishes : ClosedAs → Bool
+publishes (how.NotMay low) = is_none low
+publishes how.Must = true
+publishes (how.Stuck kind) = false
 
 -- What a node becomes where query i, of level l, closes; `shown` says that its summary is published
 -- by that, and the group of a not-may that leans on nothing is published with it.

@@ -6,6 +6,9 @@ pub mod Lawful
 pub mod States
 pub mod Boards
 pub mod Verdicts
+pub mod Origins
+pub mod Anchors
+pub mod Leads
 pub mod Keeps
 pub mod LawfulStates
 pub mod KeptBoards

@@ -7,10 +7,10 @@ use Rattle.query_tree.specs.declared.Status.TheVariants.{Ready, Running, Dropped
 use Rattle.query_tree.specs.Forest.{after_ask, after_back, after_close, after_feed, after_root, after_take, changed, has_live, has_live_child, is_none}
 use Rattle.summary_form.specs.Answering.{AnswersYes}
 use Rattle.summary_form.specs.declared.path.Path.{Path}
-use Rattle.summary_form.specs.declared.query.ExitKind.{ExitKind}
 use Rattle.summary_form.specs.declared.query.Query.{Query}
 use Rattle.summary_form.specs.declared.summary.Summary.{Summary}
 use Rattle.summary_form.specs.declared.summary.Summary.TheVariants as summary
+use Rattle.summary_table.specs.Tables.{exit_of, proc_of}
 use Rattle.query_rules.specs.declared.step.Asked.{Asked}
 use Rattle.query_rules.specs.declared.step.Closing.{Closing}
 use Rattle.query_rules.specs.declared.step.Closing.TheVariants as closing
@@ -130,14 +130,6 @@ module _ {S : Type 0} (R : Reads S) where
   abbrev pub HoldsBy : Summary → Type 0
   HoldsBy (summary.NotMay q) = Always R.nm q
   HoldsBy (summary.Must p) = R.HasRuns p
-
-  abbrev pub proc_of : Summary → ℕ
-  proc_of (summary.NotMay q) = q.proc
-  proc_of (summary.Must p) = p.proc
-
-  abbrev pub exit_of : Summary → ExitKind
-  exit_of (summary.NotMay q) = q.exit
-  exit_of (summary.Must p) = p.exit
 
   -- What a close tells and appends
 

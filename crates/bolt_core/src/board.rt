@@ -2,9 +2,10 @@
 
 ghost use Rattle.std.specs.Prelude.{◌≡◌, ◌≤◌, IfOk, OnOk, Some, length, map, slice_get};
 ghost use Rattle.flow_graph.specs.declared.graph.Graph.{Graph as AGraph};
-ghost use Rattle.bolt_core.specs.Boards.{IsBegun, IsBegunWith, IsRootOf, SameProgram, Stops, root_query};
+ghost use Rattle.bolt_core.specs.Boards.{IsBegun, IsBegunWith, IsOneOf, IsRootOf, SameProgram, Stops, root_query};
 ghost use Rattle.bolt_core.specs.States.{reads};
 ghost use Rattle.summary_table.specs.Tables.{StartsWith};
+ghost use Rattle.summary_table.specs.declared.keys.TheConstants.{MAX_PROCEDURES};
 ghost use Rattle.bolt_core.specs.Machine.{AllOf, HoldsBy, is_over};
 
 use crate::event::Event;
@@ -14,7 +15,7 @@ use flow_graph::graphs::Graphs;
 use linear_formula::error::OutOfMemory;
 use linear_formula::formula::{Atoms, Cube};
 use query_rules::state::{QueryState, begin_state};
-use query_tree::Forest;
+use query_tree::{Forest, QueryId};
 use std::alloc::Global;
 use std::marker::Model;
 use std::sync::Arc;
@@ -34,6 +35,7 @@ pub struct Board {
     pub(crate) slots: Vec<Slot>,
     pub(crate) table: Table,
     pub(crate) kept: Vec<Arc<Summary>>,
+    pub(crate) origins: Vec<QueryId>,
     pub(crate) events: Vec<Event>,
     pub(crate) stopped: bool,
 }
@@ -43,6 +45,7 @@ impl Model for Board {
     ghost use Rattle.std.specs.Coded.{codes};
     ghost use Rattle.infeasible_cert.specs.contracts.certificate.Certificate as e;
     ghost use Rattle.bolt_core.specs.Boards.{IsBoard, IsRoomy, Shown, core_of};
+    ghost use Rattle.bolt_core.specs.Origins.{HasTraced};
 
     ghost Value = { Shown };
 
@@ -75,7 +78,16 @@ impl Model for Board {
               b.table.summaries b.events.items b.stopped;
         })
         b.slots.items b.events.items b.forest.room b.table.room (vec_capacity b.slots)
-        (vec_capacity b.events) };
+        (vec_capacity b.events)
+        × HasTraced (record {
+          graphs = b.graphs.value.graphs;
+          main = b.main;
+          asserts = b.asserts;
+          budget = b.budget;
+          core = core_of (map (λ a. a.value) b.kept.items) b.forest.entries b.slots.items
+              b.table.summaries b.events.items b.stopped;
+        })
+        b.origins.items (vec_capacity b.origins) };
 }
 
 /// What is asked of an assertion: is there a run of `main` that fails at it?
@@ -115,8 +127,8 @@ fn root_of(
 
 impl Board {
     /// A board with one root for each assertion, on `main` with no condition and this budget, and
-    /// with all the room that it ever needs. `asserts` is at most 64, and the budget between 1 and
-    /// 20,000 steps.
+    /// with all the room that it ever needs. There are at most 64 graphs and 64 assertions, and the
+    /// budget is between 1 and 20,000 steps.
     pub fn begin(
         alloc: Global,
         graphs: Arc<Graphs>,
@@ -124,6 +136,7 @@ impl Board {
         asserts: u32,
         budget: u32,
     ) -> Result<Board, OutOfMemory>
+        requires small { length graphs.value.graphs ≤ MAX_PROCEDURES }
         requires main { (g : AGraph) × (slice_get graphs.value.graphs main ≡ Some g) }
         requires asserts { asserts ≤ 64 }
         requires some { 1 ≤ budget }
@@ -134,7 +147,8 @@ impl Board {
     }
 
     /// The same with summaries that are known to hold: its table opens with them, in order, and has
-    /// room for all that may come besides. They are at most 2,000,000.
+    /// room for all that may come besides. They are at most 2,000,000, each of a procedure of these
+    /// graphs, and where it tells of a failure, of one of these assertions.
     pub fn begin_with(
         alloc: Global,
         graphs: Arc<Graphs>,
@@ -143,11 +157,14 @@ impl Board {
         budget: u32,
         kept: Vec<Arc<Summary>>,
     ) -> Result<Board, OutOfMemory>
+        requires small { length graphs.value.graphs ≤ MAX_PROCEDURES }
         requires main { (g : AGraph) × (slice_get graphs.value.graphs main ≡ Some g) }
         requires asserts { asserts ≤ 64 }
         requires some { 1 ≤ budget }
         requires most { budget ≤ 20000 }
         requires few { length kept.items ≤ 2000000 }
+        requires named { AllOf (IsOneOf (length graphs.value.graphs) asserts)
+            (map (λ a. a.value) kept.items) }
         requires hold { AllOf (HoldsBy (reads graphs.value.graphs))
             (map (λ a. a.value) kept.items) }
         ensures { IfOk result
@@ -162,6 +179,7 @@ impl Board {
         for place in 0..kept.len() {
             table.push(kept[place].clone()?);
         }
+        let origins = Vec::with_capacity(alloc, room as usize)?;
         let events = Vec::with_capacity(alloc, 16 * (room as usize))?;
         for id in 0..asserts {
             let (query, state) = root_of(alloc, &graphs, main, id)?;
@@ -185,6 +203,7 @@ impl Board {
             slots,
             table,
             kept,
+            origins,
             events,
             stopped: false,
         })

@@ -1,13 +1,14 @@
 //! Queries that are closed, and what is published of them.
 
-ghost use Rattle.std.specs.Prelude.{◌≡◌, ℕ, suc, ◌<◌, ◌≤◌, ◌^◌, ◌++◌, List, [], length, map, Some, false, slice_get, IfOk, MatchResult};
+ghost use Rattle.std.specs.Prelude.{◌≡◌, ℕ, suc, ◌<◌, ◌≤◌, ◌^◌, ◌++◌, List, [], ◌∷◌, length, map, Some, false, slice_get, vec_capacity, IfOk, MatchResult};
 ghost use Rattle.std.specs.Option.{option_map};
 ghost use Rattle.query_tree.specs.Forest.{changed, is_place};
 ghost use Rattle.bolt_core.specs.Boards.{HandsIn, IsClosedBy, IsGone, IsStored, MayBeClosed, SameProgram, node_of};
 ghost use Rattle.bolt_core.specs.Groups.{group, leans_within};
 ghost use Rattle.bolt_core.specs.Keeps.{IsNow};
+ghost use Rattle.bolt_core.specs.Origins.{closed_ids};
 ghost use Rattle.bolt_core.specs.declared.slot.Slot.{Slot as ASlot};
-ghost use Rattle.bolt_core.specs.steps.Closes.{IsGroupOf, Settles, appended_by, closed_as, done, is_below, joins_now, kept_slot, members_on, only_at, settled_slot, shown_slot, summaries_in, told_of, value_of};
+ghost use Rattle.bolt_core.specs.steps.Closes.{IsGroupOf, MayBeAdded, Settles, appended_by, closed_as, done, is_below, joins_now, kept_slot, members_on, only_at, settled_slot, shown_slot, summaries_in, told_of, value_of};
 
 use crate::board::Board;
 use crate::event::Event;
@@ -44,7 +45,8 @@ fn keep(slots: &mut [Slot], id: QueryId, how: ClosedAs, summary: Option<Arc<Summ
 
 /// The summary goes into the table, if there is one.
 fn add(table: &mut Table, summary: Option<Arc<Summary>>)
-    requires { length table.old.summaries < table.old.room }
+    requires room { length table.old.summaries < table.old.room }
+    requires numbers { MayBeAdded (value_of summary) }
     ensures room { table.new.room ≡ table.old.room }
     ensures table { table.new.summaries
         ≡ table.old.summaries ++ summaries_in (value_of summary) }
@@ -54,19 +56,25 @@ fn add(table: &mut Table, summary: Option<Arc<Summary>>)
     }
 }
 
-/// The summary of the query goes into the table.
-fn show(slots: &mut [Slot], table: &mut Table, id: QueryId, place: u64)
+/// The summary of the query goes into the table, and its number behind the origins.
+fn show(slots: &mut [Slot], table: &mut Table, origins: &mut Vec<QueryId>, id: QueryId, place: u64)
     requires here { id < length slots.old }
     requires room { length table.old.summaries < table.old.room }
+    requires numbers { (s : ASlot) → slice_get slots.old id ≡ Some s →
+        MayBeAdded (value_of s.summary) }
+    requires space { length origins.old.items < vec_capacity origins.old }
     ensures slots { slots.new ≡ changed (only_at id (shown_slot place)) slots.old }
     ensures room { table.new.room ≡ table.old.room }
     ensures table { (s : ASlot) → slice_get slots.old id ≡ Some s → table.new.summaries
         ≡ table.old.summaries ++ summaries_in (value_of s.summary) }
+    ensures space { vec_capacity origins.new ≡ vec_capacity origins.old }
+    ensures origins { origins.new.items ≡ origins.old.items ++ id ∷ [] }
 {
     let slot = &mut slots[id as usize];
     slot.published = Some(place);
     let summary = slot.summary.take();
     add(table, summary);
+    origins.push_reserved(id);
 }
 
 /// Whether the query is published at this place.
@@ -124,6 +132,7 @@ fn joins(slots: &[Slot], id: QueryId, level: u32, at: u32, place: u64) -> bool
 fn show_level(
     slots: &mut [Slot],
     table: &mut Table,
+    origins: &mut Vec<QueryId>,
     lead: QueryId,
     level: u32,
     at: u32,
@@ -137,16 +146,21 @@ fn show_level(
     requires room { length (table.old.summaries
         ++ told_of (map node_of base) (members_on (map node_of base) lead level at))
         ≤ table.old.room }
+    requires space { length (origins.old.items ++ members_on (map node_of base) lead level at)
+        ≤ vec_capacity origins.old }
     ensures slots { slots.new ≡ done base lead level at (length base) place }
     ensures room { table.new.room ≡ table.old.room }
     ensures table { table.new.summaries ≡ table.old.summaries
         ++ told_of (map node_of base) (members_on (map node_of base) lead level at) }
+    ensures space { vec_capacity origins.new ≡ vec_capacity origins.old }
+    ensures origins { origins.new.items
+        ≡ origins.old.items ++ members_on (map node_of base) lead level at }
     ensures none { result ≡ false → members_on (map node_of base) lead level at ≡ [] }
 {
     let mut any = false;
     for id in lead + 1..slots.len() as u32 {
         if joins(slots, id, level, at, place) {
-            show(slots, table, id, place);
+            show(slots, table, origins, id, place);
             any = true;
         }
     }
@@ -155,29 +169,42 @@ fn show_level(
 
 /// The group of the leader goes into the table, in order of level: where one level has no member,
 /// no deeper one has.
-fn show_group(slots: &mut [Slot], table: &mut Table, lead: QueryId, level: u32, place: u64)
+fn show_group(
+    slots: &mut [Slot],
+    table: &mut Table,
+    origins: &mut Vec<QueryId>,
+    lead: QueryId,
+    level: u32,
+    place: u64,
+)
     ghost base: { List ASlot }
     requires group { IsGroupOf base lead level place }
     requires few { length base < 2 ^ 32 }
     requires slots { slots.old ≡ done base lead level (suc level) 0 place }
     requires room { length (table.old.summaries
         ++ told_of (map node_of base) (group (map node_of base) lead level)) ≤ table.old.room }
+    requires space { length (origins.old.items ++ group (map node_of base) lead level)
+        ≤ vec_capacity origins.old }
     ensures slots { slots.new ≡ done base lead level (length base) 0 place }
     ensures room { table.new.room ≡ table.old.room }
     ensures table { table.new.summaries ≡ table.old.summaries
         ++ told_of (map node_of base) (group (map node_of base) lead level) }
+    ensures space { vec_capacity origins.new ≡ vec_capacity origins.old }
+    ensures origins { origins.new.items
+        ≡ origins.old.items ++ group (map node_of base) lead level }
 {
     for at in level + 1..slots.len() as u32 {
-        if !show_level(slots, table, lead, level, at, place) {
+        if !show_level(slots, table, origins, lead, level, at, place) {
             return;
         }
     }
 }
 
-/// What a close makes of the query's slot, of its group and of the table.
+/// What a close makes of the query's slot, of its group, of the table and of the origins.
 fn settle(
     slots: &mut [Slot],
     table: &mut Table,
+    origins: &mut Vec<QueryId>,
     id: QueryId,
     level: u32,
     how: ClosedAs,
@@ -190,23 +217,28 @@ fn settle(
     requires slots { slots.old ≡ base }
     requires settles { Settles base id level how (value_of summary) table.old.summaries
         table.old.room }
+    requires space { length (origins.old.items ++ closed_ids (map node_of base) id level how)
+        ≤ vec_capacity origins.old }
     ensures slots { slots.new
         ≡ changed (settled_slot (map node_of base) id level how summary place) base }
     ensures room { table.new.room ≡ table.old.room }
     ensures table { (own : ASlot) → slice_get base id ≡ Some own → table.new.summaries
         ≡ table.old.summaries
         ++ appended_by (map node_of base) id level own.query.value how (value_of summary) }
+    ensures space { vec_capacity origins.new ≡ vec_capacity origins.old }
+    ensures origins { origins.new.items
+        ≡ origins.old.items ++ closed_ids (map node_of base) id level how }
 {
     keep(slots, id, how, summary);
     match how {
         ClosedAs::NotMay { lowest } => match lowest {
             None => {
-                show(slots, table, id, place);
-                show_group(slots, table, id, level, place);
+                show(slots, table, origins, id, place);
+                show_group(slots, table, origins, id, level, place);
             }
             Some(_) => {}
         },
-        ClosedAs::Must => show(slots, table, id, place),
+        ClosedAs::Must => show(slots, table, origins, id, place),
         ClosedAs::Stuck(_) => {}
     }
 }
@@ -256,6 +288,7 @@ impl Board {
         settle(
             &mut self.slots,
             &mut self.table,
+            &mut self.origins,
             id,
             level,
             closed,

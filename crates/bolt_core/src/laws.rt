@@ -1,5 +1,7 @@
 //! What events keep. The functions do nothing: their contracts are the laws.
 
+ghost use Rattle.bolt_core.specs.Anchors.{BoardsHaveOrigins};
+ghost use Rattle.bolt_core.specs.Leads.{AnchoredAreClosed, ClosedAreGrounded, KillsLead, RootsAreAnchored};
 ghost use Rattle.bolt_core.specs.KeptBoards.{BoardsAreKept, BoardsKeep, BoardsOpen, JobsMayBeTold, JobsStaySound};
 ghost use Rattle.bolt_core.specs.KeptBoards.{MovesStay, OpeningGrants, OverByRoots, ReserveSuffices, RootsHaveBudget, TableHasRoom, TableIsWithin, TakenJobsAreSound};
 ghost use Rattle.bolt_core.specs.LawfulStates.{StatesAreLawful};
@@ -68,4 +70,30 @@ pub fn roots_have_budget()
 /// The states of queries are what the machine needs.
 pub fn states_are_lawful()
     ensures { StatesAreLawful }
+{}
+
+/// Each place behind the opening table has the query whose summary was appended there; a not-may
+/// that a close appended is of a query that is anchored.
+pub fn boards_have_origins()
+    ensures { BoardsHaveOrigins }
+{}
+
+/// An anchored query closed without a path, and its state is stored.
+pub fn anchored_are_closed()
+    ensures { AnchoredAreClosed }
+{}
+
+/// Where a history has no Publish, the kills of an anchored query lead to anchored queries.
+pub fn kills_lead()
+    ensures { KillsLead }
+{}
+
+/// A root that is proved is anchored.
+pub fn roots_are_anchored()
+    ensures { RootsAreAnchored }
+{}
+
+/// The state of a query that closed without a path is a lawful one, and has no live path.
+pub fn closed_are_grounded()
+    ensures { ClosedAreGrounded }
 {}

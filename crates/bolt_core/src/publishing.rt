@@ -3,7 +3,8 @@
 ghost use Rattle.std.specs.Prelude.{◌≡◌, ◌<◌, length, Some, false, slice_get, true};
 ghost use Rattle.bolt_core.specs.Boards.{MayBeSaid, Publishes, SameProgram};
 ghost use Rattle.bolt_core.specs.Groups.{Node as ANode};
-ghost use Rattle.bolt_core.specs.Machine.{HoldsBy, exit_of, proc_of};
+ghost use Rattle.summary_table.specs.Tables.{exit_of, proc_of};
+ghost use Rattle.bolt_core.specs.Machine.{HoldsBy};
 ghost use Rattle.bolt_core.specs.States.{reads};
 
 use crate::board::Board;
@@ -35,8 +36,8 @@ impl Board {
         requires here { gone.now.job.id < length self.old.core.nodes }
         requires holds { HoldsBy (reads self.old.graphs) summary.value }
         requires fits { (n : ANode) → slice_get self.old.core.nodes gone.now.job.id ≡ Some n →
-            (proc_of (reads self.old.graphs) summary.value ≡ n.query.proc)
-            × (exit_of (reads self.old.graphs) summary.value ≡ n.query.exit) }
+            (proc_of summary.value ≡ n.query.proc)
+            × (exit_of summary.value ≡ n.query.exit) }
         ensures same { SameProgram self.old self.new }
         ensures published { Publishes self.old worker gone.now.job.id summary.value self.new }
     {
@@ -49,5 +50,6 @@ impl Board {
         self.table.push(summary);
         self.events
             .push_reserved(Event::Publish { worker, id, place });
+        self.origins.push_reserved(id);
     }
 }

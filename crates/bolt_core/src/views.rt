@@ -1,11 +1,12 @@
 //! What callers read of a board.
 
-ghost use Rattle.std.specs.Prelude.{◌≡◌, ◌≤◌, length};
+ghost use Rattle.std.specs.Prelude.{◌≡◌, ◌-◌, ◌<◌, ◌≤◌, Some, length, slice_get};
 ghost use Rattle.bolt_core.specs.Boards.{IsBoard, most_summaries};
+ghost use Rattle.bolt_core.specs.Origins.{origins_of};
 
 use crate::board::Board;
 use query_rules::state::QueryState;
-use query_tree::Forest;
+use query_tree::{Forest, QueryId};
 use summary_table::table::Table;
 
 impl Board {
@@ -36,5 +37,17 @@ impl Board {
         ensures within { length self.now.core.table ≤ result }
     {
         self.asserts * self.budget + self.asserts + self.kept.len() as u32
+    }
+
+    /// The query whose summary a close or a publish appended at this place of the table: where a
+    /// close appended a group, the member itself and not its leader. The summaries with which the
+    /// board opened have none.
+    pub fn origin(&self, place: u32) -> QueryId
+        requires behind { length self.now.core.kept ≤ place }
+        requires here { place < length self.now.core.table }
+        ensures { slice_get (origins_of self.now) (place - length self.now.core.kept)
+            ≡ Some result }
+    {
+        self.origins[place as usize - self.kept.len()]
     }
 }

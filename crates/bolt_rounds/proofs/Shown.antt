@@ -20,7 +20,8 @@ use Rattle.bolt_core.specs.Groups.{Node}
 use Rattle.bolt_core.specs.Histories.{Told, has_said, table_of}
 use Rattle.bolt_core.specs.Keeps.{Keeps}
 use Rattle.bolt_core.specs.Lawful.{GivenFrom, IsLawful, levels_of}
-use Rattle.bolt_core.specs.Machine.{AllOf, Core, HoldsBy, Reached, Reads, exit_of, proc_of}
+use Rattle.summary_table.specs.Tables.{exit_of, proc_of}
+use Rattle.bolt_core.specs.Machine.{AllOf, Core, HoldsBy, Reached, Reads}
 use Rattle.bolt_core.specs.States.{reads}
 use Rattle.bolt_core.proofs.BoardKeeps.{board_keeps, event_keeps}
 use Rattle.bolt_core.proofs.Sounds.{event_stay}
@@ -34,7 +35,7 @@ use Rattle.bolt_rounds.specs.Moves.{MayBeShown, MayMove, MovesKeep, spare, spare
 pub may_publish : (b : Shown) (j : Given) (s : Summary) → MayBeShown b j s →
     (j.id < length b.core.nodes) × HoldsBy (reads b.graphs) s
     × ((n : Node) → slice_get b.core.nodes j.id ≡ Some n →
-    (proc_of (reads b.graphs) s ≡ n.query.proc) × (exit_of (reads b.graphs) s ≡ n.query.exit))
+    (proc_of s ≡ n.query.proc) × (exit_of s ≡ n.query.exit))
 may_publish b j s m = (
   within b.core.nodes j.id m.node m.at,
   m.holds,
@@ -45,8 +46,8 @@ may_publish b j s m = (
 
 -- What a close hands in
 module _ (b : Shown) (h : IsBoard b) (j : Given) where
-  of_own : (s : IsSoundFor b j) (x : Summary) → proc_of (reads b.graphs) x ≡ j.state.query.proc →
-      exit_of (reads b.graphs) x ≡ j.state.query.exit → HoldsBy (reads b.graphs) x → MayBeShown b j x
+  of_own : (s : IsSoundFor b j) (x : Summary) → proc_of x ≡ j.state.query.proc →
+      exit_of x ≡ j.state.query.exit → HoldsBy (reads b.graphs) x → MayBeShown b j x
   of_own s x p e holds = record {
     node = s.node;
     at = s.node_at;

@@ -11,11 +11,12 @@ use Rattle.summary_form.specs.declared.summary.Summary.{Summary}
 use Rattle.summary_table.specs.Tables.{StartsWith}
 use Rattle.bolt_core.specs.declared.job.Gone.{Gone as GoneJob}
 use Rattle.bolt_core.specs.declared.job.Job.{Job as Given}
-use Rattle.bolt_core.specs.Boards.{IsBegun, IsBoard, IsBusy, IsGone, IsTaken, SameProgram, Shown, most_queries, most_summaries}
-use Rattle.bolt_core.specs.Histories.{Told, WasTaken, asked, closed, fed, gives_back, parked, said, stopped, took}
+use Rattle.bolt_core.specs.Boards.{IsBegun, IsBoard, IsBusy, IsDone, IsGone, IsTaken, SameProgram, Shown, most_queries, most_summaries}
+use Rattle.bolt_core.specs.Histories.{Told, WasTaken, asked, closed, fed, gives_back, has_said, parked, said, says_of, stopped, took}
 use Rattle.bolt_core.specs.Keeps.{IsNow}
 use Rattle.bolt_core.specs.Machine.{Core, Event, Reached, Reads, closed_how, first_board, opening}
 use Rattle.bolt_core.specs.States.{reads}
+use Rattle.bolt_core.proofs.Agreeing.{says_not}
 use Rattle.bolt_core.proofs.BoardKeeps.{board_keeps, nodes_of}
 use Rattle.bolt_core.proofs.Ending.{end_more, event_frame}
 use Rattle.bolt_core.proofs.Going.{board_queries, goes_on}
@@ -24,7 +25,7 @@ use Rattle.bolt_core.proofs.Reserve.{event_history}
 use Rattle.bolt_rounds.specs.declared.moves.Move.{Move}
 use Rattle.bolt_rounds.specs.declared.moves.Move.TheVariants as move
 use Rattle.bolt_rounds.specs.Moves.{IsJustTaken, IsMoved}
-use Rattle.bolt_rounds.specs.steps.Turning.{AreBack, AreBackBut, GivesBack, HasTurned, IsBack}
+use Rattle.bolt_rounds.specs.steps.Turning.{AreBack, AreBackBut, GivesBack, HasTurned, IsBack, IsTurned}
 
 -- What is given back
 module _ (old new : Shown) (w : ℕ) (j : Given) where
@@ -217,6 +218,16 @@ module _ {S : Type 0} (R : Reads S) (old new : Core S) where
   back_going i (closed w k n how ss) t g = ap (λ (c : Core S). c.is_stopped) t.new_is
   back_going i (stopped w) t g = absurd (cc)
 
+  -- it isn't a Publish
+  pub back_silent : (i : ℕ) (e : Told) → gives_back i e ≡ true → (k : ℕ) → says_of k e ≡ false
+  back_silent i (took w j left steps waiting) g k = refl
+  back_silent i (said w j s) g k = absurd (cc)
+  back_silent i (asked w j n c q) g k = refl
+  back_silent i (fed w j n c) g k = refl
+  back_silent i (parked w j n r) g k = refl
+  back_silent i (closed w j n how ss) g k = refl
+  back_silent i (stopped w) g k = refl
+
   grown_by : (ss : List Summary) → new.table ≡ old.table ++ ss → StartsWith new.table old.table
   grown_by ss e = record { rest = ss; is = e }
 
@@ -276,7 +287,19 @@ module _ (old mid new : Shown) (w : ℕ) (j : Given) (known : List Summary) (h :
         (event_front (reads mid.graphs) mid.core new.core g.told g.event);
     more = omega (arith, mid_length, new_length);
     few = omega (arith, new_length, g.fits, same_most mid new same);
+    said = λ i. ap (λ (l : List Told). has_said l i) event_is
+        ∙ (says_not mid.core.history g.told i (back_silent (reads mid.graphs) mid.core new.core j.id g.told g.back i)
+        ∙ (ap (λ (l : List Told). has_said l i) (history_is old mid w j h t)
+        ∙ says_not old.core.history (took w j.id j.left t.stored t.waiting) i refl));
   }
+
+-- a board that is over takes no query
+pub over_turned : (old new : Shown) (known : List Summary) → IsDone old new → old.core.is_stopped ≡ false → IsTurned old known false new
+over_turned old new known d going = subst (λ (b : Shown). IsTurned old known false b) (sym d.same) (
+  ⊎_elim (λ e. e) (λ e. let f : true ≡ false = sym e ∙ going in absurd (cc)) d.done,
+  going,
+  λ i. refl,
+)
 
 -- A board without history
 

@@ -14,7 +14,8 @@ use Rattle.bolt_core.specs.declared.job.Job.{Job as Given}
 use Rattle.bolt_core.specs.Boards.{HandsIn, IsBoard, IsClosedBy, IsFedBy, IsSoundFor, MayAsk, MayBeClosed, MayBeParked, MayFeed, Shown}
 use Rattle.bolt_core.specs.Groups.{Node}
 use Rattle.bolt_core.specs.Histories.{Told, asked, parked}
-use Rattle.bolt_core.specs.Machine.{Event, HoldsBy, Reached, exit_of, proc_of}
+use Rattle.summary_table.specs.Tables.{exit_of, proc_of}
+use Rattle.bolt_core.specs.Machine.{Event, HoldsBy, Reached}
 use Rattle.bolt_core.specs.States.{reads}
 use Rattle.bolt_rounds.specs.declared.moves.Made.{Made}
 use Rattle.bolt_rounds.specs.declared.moves.Move.{Move}
@@ -53,8 +54,8 @@ pub record MayBeShown (b : Shown) (j : Given) (s : Summary) : Type 0 where
   pub node : Node
   pub at : slice_get b.core.nodes j.id ≡ Some node
   pub holds : HoldsBy (reads b.graphs) s
-  pub proc : proc_of (reads b.graphs) s ≡ node.query.proc
-  pub exit : exit_of (reads b.graphs) s ≡ node.query.exit
+  pub proc : proc_of s ≡ node.query.proc
+  pub exit : exit_of s ≡ node.query.exit
 
 -- the must of a close, or its not-may, where that leans on no level
 abbrev pub spare_at : Query → (lowest : Option ℕ) → Closing → Option Summary

@@ -1,8 +1,9 @@
 //! One worker.
 
-ghost use Rattle.std.specs.Prelude.{◌≡◌, [], IfOk, OnOk, false, true};
+ghost use Rattle.std.specs.Prelude.{◌≡◌, ℕ, [], IfOk, OnOk, false, true};
 ghost use Rattle.summary_table.specs.Tables.{StartsWith};
 ghost use Rattle.bolt_core.specs.Boards.{SameProgram, Shown, most_summaries};
+ghost use Rattle.bolt_core.specs.Histories.{has_said};
 ghost use Rattle.bolt_core.specs.Keeps.{IsNow};
 ghost use Rattle.bolt_core.specs.Machine.{is_over};
 ghost use Rattle.bolt_core.specs.States.{reads};
@@ -72,13 +73,14 @@ fn turn(
     }
 }
 
-/// Works at a board without history until it is over. Want of memory stops the board, which is then
-/// dropped.
+/// Works at a board without history until it is over. No query is dropped while it is at work, so
+/// nothing is published of one. Want of memory stops the board, which is then dropped.
 pub fn alone(alloc: Global, mut board: Board) -> Result<Board, OutOfMemory>
     requires { board.core.history ≡ [] }
     ensures same { IfOk result (λ b. SameProgram board b) }
     ensures over { IfOk result (λ b. is_over (reads b.graphs) b.core ≡ true) }
     ensures going { IfOk result (λ b. b.core.is_stopped ≡ false) }
+    ensures said { IfOk result (λ b. (i : ℕ) → has_said b.core.history i ≡ false) }
 {
     board.reached();
     let mut known = Table::with_room(alloc, board.room())?;

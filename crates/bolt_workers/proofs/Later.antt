@@ -89,6 +89,7 @@ passed_by old new l =
     reached_history R b.opened p.0 old.core.history p.1 ∙ ap (λ (xs : List Told). xs ++ old.core.history) none in
     let board : IsBoard (record old { core = p.0 }) = record {
       linked = b.linked;
+      small = b.small;
       graph = b.graph;
       main = b.main;
       few = b.few;

@@ -39,7 +39,7 @@ fn opened(alloc: Global, graphs: Graphs, main: u32, asserts: usize) -> Result<(B
     if main as usize >= graphs.graphs.as_slice().len() {
         return Err(Fail::new("no main"));
     }
-    if asserts > 64 {
+    if asserts > 64 || graphs.graphs.as_slice().len() > 64 {
         return Err(Fail::new("past a limit"));
     }
     let graphs = Arc::new(alloc, graphs)?;

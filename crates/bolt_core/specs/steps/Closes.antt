@@ -1,5 +1,5 @@
 -- As what a query is closed, and what its close makes of the slots.
-use Rattle.std.specs.Prelude.{◌≡◌, ◌≤◌, ℕ, List, [], ◌∷◌, ◌++◌, length, map, filter, Bool, true, false, cond, ◌&&◌, ◌||◌, ◌==◌, nat_lt, Option, Some, None, slice_get}
+use Rattle.std.specs.Prelude.{◌≡◌, ◌≤◌, ℕ, List, [], ◌∷◌, ◌++◌, length, map, filter, Bool, false, cond, ◌&&◌, ◌||◌, ◌==◌, nat_lt, Option, Some, None, slice_get}
 use Rattle.std.specs.Global.{Global}
 use Rattle.std.specs.Option.{option_map}
 use Rattle.std.specs.declared.sync.Arc.{Arc}
@@ -9,11 +9,12 @@ use Rattle.summary_form.specs.declared.summary.Summary.{Summary}
 use Rattle.summary_form.specs.declared.summary.Summary.TheVariants as summary
 use Rattle.query_rules.specs.declared.step.Closing.{Closing}
 use Rattle.query_rules.specs.declared.step.Closing.TheVariants as closing
+use Rattle.summary_table.specs.Tables.{IsNumbered, exit_of, proc_of}
 use Rattle.bolt_core.specs.declared.slot.ClosedAs.{ClosedAs}
 use Rattle.bolt_core.specs.declared.slot.ClosedAs.TheVariants as how
 use Rattle.bolt_core.specs.declared.slot.Slot.{Slot}
 use Rattle.bolt_core.specs.Boards.{node_of}
-use Rattle.bolt_core.specs.Groups.{Node, discharged, group, is_member, leads, leans_within, level_in, places_from, queries_at}
+use Rattle.bolt_core.specs.Groups.{Node, discharged, group, is_member, leads, leans_within, level_in, places_from, publishes, queries_at}
 use Rattle.bolt_core.specs.Keeps.{AreLevelled}
 
 abbrev pub closed_as : (level : ℕ) → Option ℕ → Closing → ClosedAs
@@ -38,6 +39,10 @@ summaries_in (Some s) = s ∷ []
 
 abbrev pub value_of : Option (Arc Summary Global) → Option Summary
 value_of o = option_map (λ a. a.value) o
+
+-- a table takes it
+abbrev pub MayBeAdded : Option Summary → Type 0
+MayBeAdded o = (s : Summary) → o ≡ Some s → IsNumbered (proc_of s) (exit_of s)
 
 -- Which slots join
 
@@ -96,14 +101,10 @@ pub record IsGroupOf (base : List Slot) (lead l place : ℕ) : Type 0 where
   pub handed : (i : ℕ) (s : Slot) → slice_get base i ≡ Some s → (low : Option ℕ) →
       s.closed ≡ Some (how.NotMay low) → s.published ≡ None →
       value_of s.summary ≡ Some (summary.NotMay s.query.value)
+  pub numbered : (i : ℕ) (s : Slot) → slice_get base i ≡ Some s →
+      IsNumbered s.query.value.proc s.query.value.exit
 
 -- Closes
-
--- its summary is published by its close
-abbrev pub publishes : ClosedAs → Bool
-publishes (how.NotMay low) = is_none low
-publishes how.Must = true
-publishes (how.Stuck kind) = false
 
 abbrev pub settled_slot : List Node → (i l : ℕ) → ClosedAs → Option (Arc Summary Global) →
     (place : ℕ) → ℕ → Slot → Slot
@@ -123,9 +124,10 @@ pub record HandsInFor (q : Query) (shut : ClosedAs) (s : Option Summary) : Type 
   pub not_may : (low : Option ℕ) → shut ≡ how.NotMay low → s ≡ Some (summary.NotMay q)
   pub must : shut ≡ how.Must → (m : Summary) × (s ≡ Some m)
 
--- what the close hands in, and that there is room for what it appends
+-- what the close hands in, that a table takes it, and that there is room for what it appends
 pub record Settles (base : List Slot) (i l : ℕ) (shut : ClosedAs) (s : Option Summary)
     (table : List Summary) (room : ℕ) : Type 0 where
   pub hands : (own : Slot) → slice_get base i ≡ Some own → HandsInFor own.query.value shut s
   pub fits : (own : Slot) → slice_get base i ≡ Some own →
       length (table ++ appended_by (map node_of base) i l own.query.value shut s) ≤ room
+  pub numbered : MayBeAdded s

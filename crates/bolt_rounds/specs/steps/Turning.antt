@@ -4,7 +4,7 @@ use Rattle.query_rules.specs.Seen.{Seen}
 use Rattle.summary_form.specs.declared.summary.Summary.{Summary}
 use Rattle.summary_table.specs.Tables.{StartsWith}
 use Rattle.bolt_core.specs.Boards.{Shown, most_queries}
-use Rattle.bolt_core.specs.Histories.{Told, gives_back, took}
+use Rattle.bolt_core.specs.Histories.{Told, gives_back, has_said, took}
 use Rattle.bolt_core.specs.Keeps.{IsEnd}
 use Rattle.bolt_core.specs.Machine.{Core, Event, is_over}
 use Rattle.bolt_core.specs.States.{reads}
@@ -31,15 +31,17 @@ pub record GivesBack (old : Shown) (id : ℕ) (new : Shown) : Type 0 where
   pub back : gives_back id told ≡ true
   pub fits : length old.core.history < 16 * most_queries old
 
--- two events, the second of which gives back what the first took
+-- two events, the second of which gives back what the first took, and none a Publish
 pub record HasTurned (old : Shown) (known : List Summary) (new : Shown) : Type 0 where
   pub back : AreBack new.core
   pub going : new.core.is_stopped ≡ false
   pub front : StartsWith new.core.table known
   pub more : length new.core.history ≡ suc (suc (length old.core.history))
   pub few : length new.core.history ≤ 16 * most_queries new
+  pub said : (i : ℕ) → has_said new.core.history i ≡ has_said old.core.history i
 
 abbrev pub IsTurned : Shown → (known : List Summary) → (more : Bool) → Shown → Type 0
 IsTurned old known true new = HasTurned old known new
 IsTurned old known false new =
     (is_over (reads new.graphs) new.core ≡ true) × (new.core.is_stopped ≡ false)
+    × ((i : ℕ) → has_said new.core.history i ≡ has_said old.core.history i)

@@ -12,9 +12,9 @@ begin_with-requires-clause-main c =
     present c.in_ok-graphs.graphs.value.graphs c.args.main
     (omega (
       arith,
-      ap (λ (l : List Graph). length l) c.as_slice.ensures,
+      ap (λ (l : List Graph). length l) c.as_slice-procedures.ensures,
       ap (λ (g : Graphs). length g.graphs) c.deref.ensures,
-      c.if-main-as_slice.false,
+      c.if-main-procedures.false,
     ))
 
 pub begin_with-requires-clause-hold : goal.begin_with-requires-clause-hold

@@ -11,6 +11,6 @@ begin-requires-clause-main c =
     (omega (arith, ap (λ (l : List Graph). length l) c.as_slice.ensures, c.if-main-as_slice.false)) in
     subst (λ (l : List Graph). (g : Graph) × (slice_get l c.args.main ≡ Some g)) (sym (ap (λ g. g.graphs) c.in_ok-graphs.ensures.ok)) there
 
-pub returns : goal.returns
-returns c =
+pub returns-clause-opened : goal.returns-clause-opened
+returns-clause-opened c =
     opened c.in_ok-graphs.graphs.value.graphs c.args.main c.args.asserts c.args.budget [] c.in_ok-board.board c.in_ok-board.ensures

@@ -1,5 +1,5 @@
 use Rattle.std.proofs.Common.{◌≡◌, suc, ◌+◌, ◌-◌, ◌++◌, length, map}
-use Rattle.std.specs.Prelude.{flat_map}
+use Rattle.std.specs.Prelude.{flat_map, vec_capacity}
 use Rattle.bolt_core.specs.Boards.{node_of}
 use Rattle.bolt_core.specs.Groups.{group, places_from}
 use Rattle.bolt_core.specs.steps.Closes.{done, members_on, told_of}
@@ -16,4 +16,9 @@ invariant-loop-at g l = record {
       ++ told_of (map node_of g.base) (flat_map (members_on (map node_of g.base) l.lead l.level)
       (places_from l.at ((suc l.level + length (map node_of g.base)) - l.at)))
       ≡ l.fn.table.summaries ++ told_of (map node_of g.base) (group (map node_of g.base) l.lead l.level);
+  space : vec_capacity l.origins ≡ vec_capacity l.fn.origins;
+  origins : l.origins.items
+      ++ flat_map (members_on (map node_of g.base) l.lead l.level)
+      (places_from l.at ((suc l.level + length (map node_of g.base)) - l.at))
+      ≡ l.fn.origins.items ++ group (map node_of g.base) l.lead l.level;
 }

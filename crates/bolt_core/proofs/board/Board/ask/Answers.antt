@@ -1,4 +1,5 @@
 use Rattle.std.proofs.Common.{◌≡◌, false, suc, ◌+◌, ◌-◌, ◌<◌, List, ◌∷◌, [], ◌++◌, Some, None, length, refl, sym, ap, ◌∙◌, subst, arith}
+use Rattle.std.specs.Prelude.{vec_capacity}
 use Rattle.std.proofs.lemmas.List.{length-map}
 use Rattle.query_tree.specs.Forest.{after_ask}
 use Rattle.query_tree.specs.Woods.{Went}
@@ -21,6 +22,7 @@ use Rattle.bolt_core.proofs.BoardKeeps.{board_keeps}
 use Rattle.bolt_core.proofs.Going.{most_small, roomy_query, said_stays, told_length}
 use Rattle.bolt_core.proofs.Parking.{sound_here, sound_lent}
 use Rattle.bolt_core.proofs.Storing.{ask_stores}
+use Rattle.bolt_core.proofs.Tracing.{traced_quiet}
 use Rattle.bolt_core.proofs.board.Board.ask.Goals as goal
 
 pub ended-requires-clause-here : goal.ended-requires-clause-here
@@ -250,6 +252,7 @@ invariant_of-self c =
           c.self.invariant.1 refl refl (omega (arith, place)) refl refl refl c.ask.ensures.room c.push_reserved.ensures.capacity
           c.push_reserved-2.ensures.capacity (said_stays p _ _ g (λ i. refl))
           (next_unsaid p c.self.invariant.0 (length b.slots.items) len),
+      traced_quiet p c.self.invariant.0 _ _ g b.origins.items (vec_capacity b.origins) c.self.invariant.2 refl refl,
     )
 
 pub returns-clause-asked : goal.returns-clause-asked

@@ -1,5 +1,8 @@
 use Rattle.std.proofs.Common.{◌≡◌, ◌+◌, ◌<◌, ◌≤◌, suc, List, [], ◌∷◌, ◌++◌, length, map, take, Global, Some, None, false, refl, sym, ap, ◌∙◌, subst, arith}
 use Rattle.std.specs.Prelude.{slice_get}
+use Rattle.std.specs.Arc.{arc_value}
+use Rattle.std.specs.Option.{option_map}
+use Rattle.std.proofs.lemmas.Option.{slice_get-map}
 use Rattle.std.specs.declared.sync.Arc.{Arc}
 use Rattle.std.proofs.lemmas.List.{length-map, length-take-le, take_all}
 use Rattle.flow_graph.specs.declared.graphs.Graphs.{Graphs}
@@ -8,8 +11,11 @@ use Rattle.query_tree.specs.Forest.{after_root}
 use Rattle.query_tree.proofs.Lists.{at_place}
 use Rattle.summary_form.specs.declared.summary.Summary.{Summary}
 use Rattle.bolt_core.specs.declared.slot.Slot.{Slot}
-use Rattle.bolt_core.specs.Boards.{IsRootOf, node_of}
-use Rattle.bolt_core.proofs.Beginning.{AreBegun, begun_board, begun_roomy, begun_with, map_next, none_begun, one_begun}
+use Rattle.summary_table.specs.Tables.{IsNumbered, exit_of, proc_of}
+use Rattle.bolt_core.specs.Boards.{IsOneOf, IsRootOf, node_of}
+use Rattle.bolt_core.proofs.Numbered.{numbered_one}
+use Rattle.bolt_core.proofs.Telling.{all_at}
+use Rattle.bolt_core.proofs.Beginning.{AreBegun, begun_board, begun_roomy, begun_traced, begun_with, map_next, none_begun, one_begun}
 use Rattle.bolt_core.proofs.board.Board.begin_with.Goals as goal
 
 pub root_of-requires : goal.root_of-requires
@@ -23,8 +29,8 @@ loop-place-init c = (
   omega (arith, c.in_ok-table.ensures.room, c.len.ensures, c.args.kept.ok.0),
 )
 
-pub push-requires : goal.push-requires
-push-requires c =
+pub push-requires-clause-room : goal.push-requires-clause-room
+push-requires-clause-room c =
     let i = c.loop-place.place in
     let lt : i < length c.args.kept.items = omega (arith, c.loop-place-test.true, c.len-place-end.ensures, c.args.kept.ok.0) in
     omega (
@@ -35,6 +41,18 @@ push-requires c =
       length-map (take i c.args.kept.items) (λ a. a.value),
       length-take-le i c.args.kept.items (omega (arith, lt)),
     )
+
+pub push-requires-clause-numbers : goal.push-requires-clause-numbers
+push-requires-clause-numbers c =
+    let i = c.loop-place.place in
+    let items = c.args.kept.items in
+    let x : Summary = c.index.result.now.value in
+    let lt : i < length items = omega (arith, c.loop-place-test.true, c.len-place-end.ensures, c.args.kept.ok.0) in
+    let at : slice_get (map arc_value items) i ≡ Some x =
+    slice_get-map arc_value items i ∙ ap (option_map arc_value) (at_place items i c.index.result.now lt ∙ ap Some (sym c.index.ensures)) in
+    let one = all_at (IsOneOf (length c.args.graphs.value.graphs) c.args.asserts) (map arc_value items) i x c.requires.named at in
+    subst (λ (s : Summary). IsNumbered (proc_of s) (exit_of s)) (sym c.in_ok-clone.ensures.cases)
+    (numbered_one (length c.args.graphs.value.graphs) c.args.asserts x c.requires.small c.requires.asserts one)
 
 pub loop-place-preserved : goal.loop-place-preserved
 loop-place-preserved c =
@@ -110,11 +128,13 @@ invariant_of-result c =
     len)
     in
     let many : length ks ≡ length c.args.kept.items = length-map c.args.kept.items (λ a. a.value) in
-    rw (full, c.in_ok-events.ensures.items) (
+    rw (full, c.in_ok-events.ensures.items, c.in_ok-origins.ensures.items) (
       begun_board gs c.args.main c.args.asserts c.args.budget l.id ks l.forest.entries l.slots.items i.0 all c.args.graphs.value.well_formed
-          g.0 g.1 c.requires.asserts c.requires.some c.requires.most (omega (arith, c.requires.few, many)) c.requires.hold,
+          c.requires.small g.0 g.1 c.requires.asserts c.requires.some c.requires.most (omega (arith, c.requires.few, many)) c.requires.hold,
       begun_roomy gs c.args.main c.args.asserts c.args.budget l.id ks l.forest.entries l.slots.items i.0 all _ _ _ _ i.1 i.2
           (omega (arith, c.loop-place.invariant.1, many)) c.in_ok-events.ensures.capacity,
+      begun_traced gs c.args.main c.args.asserts c.args.budget l.id ks l.forest.entries l.slots.items i.0 all _
+          c.in_ok-origins.ensures.capacity,
     )
 
 pub returns : goal.returns

@@ -1,6 +1,6 @@
 use Rattle.std.proofs.Common.{◌≡◌, ◌+◌, ◌-◌, ◌<◌, ◌++◌, List, Some, length, map, take, drop, refl, sym, ap, ◌∙◌, subst, arith}
 use Rattle.std.proofs.lemmas.List.{length-append, length-map, take_at}
-use Rattle.std.specs.Prelude.{slice_get}
+use Rattle.std.specs.Prelude.{slice_get, vec_capacity}
 use Rattle.query_tree.specs.Forest.{changed}
 use Rattle.query_tree.proofs.Lists.{at_place}
 use Rattle.summary_form.specs.declared.summary.Summary.{Summary}
@@ -9,7 +9,7 @@ use Rattle.bolt_core.specs.Boards.{IsClosedBy, MayBeClosed, Shown, core_of, node
 use Rattle.bolt_core.specs.Keeps.{IsNow}
 use Rattle.bolt_core.specs.contracts.board.Board.{the_view}
 use Rattle.bolt_core.proofs.BoardKeeps.{board_keeps}
-use Rattle.bolt_core.proofs.ClosesOn.{close_goes, close_group, close_is, close_room, close_settles, roomy_close}
+use Rattle.bolt_core.proofs.ClosesOn.{close_goes, close_group, close_is, close_room, close_settles, ids_fit, roomy_close, traced_close}
 use Rattle.bolt_core.proofs.Going.{board_queries, most_small, said_stays, summaries_small, told_length}
 use Rattle.bolt_core.proofs.Parking.{sound_here, sound_lent}
 use Rattle.bolt_core.specs.steps.Closes.{appended_by, closed_as, settled_slot, value_of}
@@ -101,9 +101,14 @@ settle-requires c =
         omega (arith, len, board_queries p c.self.invariant.0, most_small p c.self.invariant.0),
         (
           refl,
-          close_settles p b.forest.entries b.slots.items b.table.summaries b.events.items b.stopped c.self.invariant.0 _ _ _ _
-              c.self.invariant.1 c.args.worker c.args.job c.args.how m v own at c.closed_as-closed.result is c.args.summary
-              c.requires.summary c.len-place.result here,
+          (
+            close_settles p b.forest.entries b.slots.items b.table.summaries b.events.items b.stopped c.self.invariant.0 _ _ _ _
+                c.self.invariant.1 c.args.worker c.args.job c.args.how m v own at c.closed_as-closed.result is c.args.summary
+                c.requires.summary c.len-place.result here,
+            ids_fit p b.forest.entries b.slots.items b.table.summaries b.events.items b.stopped c.self.invariant.0 _ _ _ _
+                c.self.invariant.1 c.args.worker c.args.job c.args.how m v own at c.closed_as-closed.result is c.args.summary
+                c.requires.summary c.len-place.result here b.origins.items (vec_capacity b.origins) c.self.invariant.2,
+          ),
         ),
       ),
     )
@@ -243,6 +248,12 @@ invariant_of-self c =
           (length c.all.result.now) (length c.all-2.result.now - length c.all.result.now) from total c.push_reserved.ensures.items
           _ _ _ _ _ refl refl c.close.ensures.room c.settle.ensures.room (omega arith) c.push_reserved.ensures.capacity
           (said_stays p _ _ g (λ j. refl)),
+      traced_close p b.forest.entries b.slots.items b.table.summaries b.events.items b.stopped c.self.invariant.0 _ _ _ _
+          c.self.invariant.1 c.args.worker c.args.job c.args.how m v own at c.closed_as-closed.result is c.args.summary c.requires.summary
+          c.len-place.result here c.settle.new.slots are c.settle.new.table.summaries table c.push_reserved.new.self.items
+          (length c.all.result.now) (length c.all-2.result.now - length c.all.result.now) from total c.push_reserved.ensures.items
+          c.close.new.self.entries went b.origins.items (vec_capacity b.origins) (vec_capacity c.settle.new.origins) c.self.invariant.2
+          c.settle.new.origins.items (rw c.deref_mut.ensures.value at c.settle.ensures.origins) c.settle.ensures.space,
     )
 
 pub returns-clause-closed : goal.returns-clause-closed

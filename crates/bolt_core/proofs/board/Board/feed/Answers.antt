@@ -1,5 +1,5 @@
 use Rattle.std.proofs.Common.{◌≡◌, ◌<◌, List, Some, length, refl, sym, ap, subst, arith}
-use Rattle.std.specs.Prelude.{slice_get, slice_index_or}
+use Rattle.std.specs.Prelude.{slice_get, slice_index_or, vec_capacity}
 use Rattle.bolt_core.specs.declared.event.Event.{Event as Stored}
 use Rattle.bolt_core.specs.Boards.{IsFedBy, MayFeed, Shown, core_of}
 use Rattle.bolt_core.specs.Histories.{fed}
@@ -13,6 +13,7 @@ use Rattle.query_tree.proofs.Lists.{at_place}
 use Rattle.bolt_core.proofs.LastFeeds.{feeds_within}
 use Rattle.bolt_core.proofs.Parking.{feed_child, feed_on, sound_here, sound_lent}
 use Rattle.bolt_core.proofs.Storing.{feed_stores}
+use Rattle.bolt_core.proofs.Tracing.{traced_quiet}
 use Rattle.bolt_core.proofs.board.Board.feed.Goals as goal
 
 pub bounds-asked-asked : goal.bounds-asked-asked
@@ -133,6 +134,7 @@ invariant_of-self c =
       g.board,
       roomy_event p _ b.slots.items b.events.items _ _ _ _ _ _ _ c.self.invariant.1 refl refl tt c.feed.ensures.room
           c.push_reserved.ensures.capacity (said_stays p _ _ g (λ i. refl)),
+      traced_quiet p c.self.invariant.0 _ _ g b.origins.items (vec_capacity b.origins) c.self.invariant.2 refl refl,
     )
 
 pub returns-clause-fed : goal.returns-clause-fed

@@ -1,4 +1,5 @@
 use Rattle.std.proofs.Common.{◌<◌, List, length, refl, sym, subst, arith}
+use Rattle.std.specs.Prelude.{vec_capacity}
 use Rattle.bolt_core.specs.declared.event.Event.{Event as Stored}
 use Rattle.bolt_core.specs.Boards.{MayBeParked, Shown, core_of}
 use Rattle.bolt_core.specs.Histories.{parked}
@@ -9,6 +10,7 @@ use Rattle.bolt_core.specs.contracts.board.Board.{the_view}
 use Rattle.bolt_core.proofs.Going.{roomy_event, said_stays, told_length}
 use Rattle.bolt_core.proofs.Parking.{park_gives, park_on, sound_here, sound_lent}
 use Rattle.bolt_core.proofs.Storing.{back_stores}
+use Rattle.bolt_core.proofs.Tracing.{traced_quiet}
 use Rattle.bolt_core.proofs.board.Board.park.Goals as goal
 
 pub ended-requires-clause-here : goal.ended-requires-clause-here
@@ -73,6 +75,7 @@ invariant_of-self c =
       g.board,
       roomy_event p _ b.slots.items b.events.items _ _ _ _ _ _ _ c.self.invariant.1 refl refl tt c.give_back.ensures.room
           c.push_reserved.ensures.capacity (said_stays p _ _ g (λ i. refl)),
+      traced_quiet p c.self.invariant.0 _ _ g b.origins.items (vec_capacity b.origins) c.self.invariant.2 refl refl,
     )
 
 pub returns-clause-parked : goal.returns-clause-parked

@@ -1,10 +1,11 @@
 use Rattle.std.proofs.Common.{◌≡◌, false, refl, sym, ap, ◌∙◌, arith}
-use Rattle.std.specs.Prelude.{not}
+use Rattle.std.specs.Prelude.{not, vec_capacity}
 use Rattle.query_tree.specs.Forest.{has_live}
 use Rattle.bolt_core.specs.Boards.{Shown}
 use Rattle.bolt_core.specs.contracts.board.Board.{the_view}
 use Rattle.bolt_core.proofs.Going.{roomy_event, said_stays, told_length}
 use Rattle.bolt_core.proofs.Parking.{stop_on}
+use Rattle.bolt_core.proofs.Tracing.{traced_quiet}
 use Rattle.bolt_core.proofs.board.Board.stop.Goals as goal
 
 pub push_reserved-requires : goal.push_reserved-requires
@@ -29,4 +30,5 @@ invariant_of-self c =
       g.board,
       roomy_event p _ b.slots.items b.events.items _ _ _ _ _ _ _ c.self.invariant.1 refl refl tt refl c.push_reserved.ensures.capacity
           (said_stays p _ _ g (λ i. refl)),
+      traced_quiet p c.self.invariant.0 _ _ g b.origins.items (vec_capacity b.origins) c.self.invariant.2 refl refl,
     )

@@ -1,5 +1,5 @@
 use Rattle.std.proofs.Common.{◌≡◌, List, length, false, refl, sym, ap, ◌∙◌, subst, arith}
-use Rattle.std.specs.Prelude.{not}
+use Rattle.std.specs.Prelude.{not, vec_capacity}
 use Rattle.query_tree.specs.Forest.{has_live}
 use Rattle.query_rules.specs.declared.step.Step.{Step}
 use Rattle.bolt_core.specs.declared.event.Event.{Event as Stored}
@@ -7,6 +7,7 @@ use Rattle.bolt_core.specs.Boards.{CanHear, Shown, core_of}
 use Rattle.bolt_core.specs.contracts.board.Board.{the_view}
 use Rattle.bolt_core.proofs.Going.{roomy_event, said_stays, told_length}
 use Rattle.bolt_core.proofs.JobsTaken.{idle_on, steps_small, take_hears, take_on, take_taken}
+use Rattle.bolt_core.proofs.Tracing.{traced_quiet}
 use Rattle.bolt_core.proofs.board.Board.take.Goals as goal
 
 pub returns-in_default-clause-taken : goal.returns-in_default-clause-taken
@@ -47,6 +48,7 @@ invariant_of-self-2 c =
       g.board,
       roomy_event p _ b.slots.items b.events.items _ _ _ _ _ _ _ c.self.invariant.1 refl refl tt c.take.ensures.room
           c.push_reserved.ensures.capacity (said_stays p _ _ g (λ i. refl)),
+      traced_quiet p c.self.invariant.0 _ _ g b.origins.items (vec_capacity b.origins) c.self.invariant.2 refl refl,
     )
 
 pub hear-requires : goal.hear-requires
