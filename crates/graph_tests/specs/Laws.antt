@@ -1,14 +1,12 @@
 -- The laws of programs and their graphs.
-use Rattle.std.specs.Prelude.{◌↔◌, List, slice_get, IsTrue}
+use Rattle.std.specs.Prelude.{List, slice_get, IsTrue}
 use Rattle.c_tree.specs.Syntax.{PureProgram}
 use Rattle.c_tree.specs.WellFormed.{takes}
 use Rattle.flow_graph.specs.Columns.{AreAllValues}
 use Rattle.flow_graph.specs.declared.graph.Graph.{Graph}
 use Rattle.flow_build.specs.Promises.{AreBounded}
 use Rattle.flow_graph.specs.ProgramGraphs.{SameRuns}
-use Rattle.summary_form.specs.declared.summary.Summary.{Summary}
-use Rattle.summary_form.specs.Instances.{graph_runs, arity_in, program_runs, arity_of_program}
-use Rattle.summary_form.specs.Answering.{SummaryHolds}
+use Rattle.summary_form.specs.Instances.{program_runs}
 use Rattle.summary_form.specs.Laws.{HasValues, AnsweredHasNoRun}
 
 -- as `build` promises of the graphs that it makes, for a program whose `main` has no parameters and
@@ -22,12 +20,6 @@ pub record AreGraphsOf (P : PureProgram) (gs : List Graph) : Type 0 where
 abbrev pub ProgramsReturnValues : Type 0
 ProgramsReturnValues =
     (P : PureProgram) (gs : List Graph) → AreGraphsOf P gs → HasValues (program_runs P)
-
-abbrev pub OneMeaning : Type 0
-OneMeaning =
-    (P : PureProgram) (gs : List Graph) → AreGraphsOf P gs → (summary : Summary) →
-    (SummaryHolds (program_runs P) (arity_of_program P) summary
-    ↔ SummaryHolds (graph_runs gs) (arity_in gs) summary)
 
 abbrev pub AnsweredInPrograms : Type 0
 AnsweredInPrograms =

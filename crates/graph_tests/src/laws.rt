@@ -1,16 +1,11 @@
 //! Laws of programs and their graphs. These functions compute nothing: their contracts say what
 //! holds.
 
-ghost use Rattle.graph_tests.specs.Laws.{ProgramsReturnValues, OneMeaning, AnsweredInPrograms};
+ghost use Rattle.graph_tests.specs.Laws.{ProgramsReturnValues, AnsweredInPrograms};
 
 /// Runs of a program that has graphs take and return values.
 pub fn programs_return_values()
     ensures { ProgramsReturnValues }
-{}
-
-/// A summary holds of a program's runs exactly where it holds of those of its graphs.
-pub fn one_meaning()
-    ensures { OneMeaning }
 {}
 
 /// A query that a not-may answers has no run in a program that has graphs.

@@ -4,6 +4,8 @@
 #[cfg(test)]
 mod edits;
 #[cfg(test)]
+mod keeping;
+#[cfg(test)]
 mod made;
 #[cfg(test)]
 mod sources;

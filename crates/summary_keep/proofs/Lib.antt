@@ -10,3 +10,4 @@ pub mod Globals
 pub mod Matched
 pub mod Kepts
 pub mod Pairs
+pub mod SameMeaning

@@ -1,11 +1,15 @@
 -- Matched procedures have the same runs.
-use Rattle.std.specs.Prelude.{◌≡◌, ℕ, IsTrue, List, ℤ, Option, Some}
+use Rattle.std.specs.Prelude.{◌≡◌, ◌↔◌, ℕ, IsTrue, List, ℤ, Option, Some, slice_get}
 use Rattle.c_tree.specs.Syntax.{PureProgram}
 use Rattle.c_tree.specs.Meaning.{Outcome, Returned, Stopped, Failed, Runs}
-use Rattle.c_tree.specs.WellFormed.{IsWellFormed}
+use Rattle.c_tree.specs.WellFormed.{IsWellFormed, takes}
+use Rattle.flow_graph.specs.Columns.{AreAllValues}
+use Rattle.flow_graph.specs.ProgramGraphs.{SameRuns}
+use Rattle.flow_graph.specs.declared.graph.Graph.{Graph}
+use Rattle.summary_form.specs.ProgramGraphs.{SameArities}
 use Rattle.summary_form.specs.declared.summary.Summary.{Summary}
 use Rattle.summary_form.specs.Answering.{SummaryHolds}
-use Rattle.summary_form.specs.Instances.{program_runs, arity_of_program}
+use Rattle.summary_form.specs.Instances.{arity_in, arity_of_program, graph_runs, program_runs}
 use Rattle.summary_keep.specs.Matching.{Related, IsMatching, CorrespondIn}
 use Rattle.summary_keep.specs.Keeping.{IsMatchingOf, renumbered}
 
@@ -41,3 +45,17 @@ KeptHold =
     IsMatchingOf P Q procs asserts → (s t : Summary) → renumbered procs asserts s ≡ Some t →
     SummaryHolds (program_runs P) (arity_of_program P) s →
     SummaryHolds (program_runs Q) (arity_of_program Q) t
+
+-- Graphs of a program whose `main` has no parameters, and whose globals open with values
+pub record HasGraphs (P : PureProgram) (gs : List Graph) : Type 0 where
+  pub runs : SameRuns P gs
+  pub arities : SameArities P gs
+  pub main_takes_none : IsTrue (takes (slice_get P.procedures P.main) 0)
+  pub opening : AreAllValues P.globals
+
+-- a summary holds of a program exactly where it holds of its graphs
+abbrev pub OneMeaning : Type 0
+OneMeaning =
+    (P : PureProgram) (gs : List Graph) → HasGraphs P gs → (summary : Summary) →
+    (SummaryHolds (program_runs P) (arity_of_program P) summary
+    ↔ SummaryHolds (graph_runs gs) (arity_in gs) summary)
