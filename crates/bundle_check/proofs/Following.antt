@@ -48,7 +48,7 @@ use Rattle.bundle_check.specs.Made.{AreNamed, HasClaim, IsNamed}
 use Rattle.bundle_check.specs.RightClaims as right
 use Rattle.bundle_check.specs.RightClaims.{AllMove, AreShown, Between, HasAsked, IsRightClaim, Moves, is_among, asked_query, missing, moved, moved_all}
 use Rattle.bundle_check.specs.Walked.{kept}
-use Rattle.bundle_check.proofs.Travelling.{edge_self}
+use Rattle.may_partition.proofs.ByRegion.{same_itself}
 use Rattle.bundle_check.proofs.OwnRegions.{AreOwn, begin_own, call_own, call_terms, step_own}
 
 -- Certificates
@@ -161,7 +161,7 @@ module _ (g : Graph) (killed : ℕ → Bool) where
   dead_kill p k x h = record { dead = rw h.dead refl; from = h.from; to = h.to }
 
   killed_here : (p : Parted) (k : RegionEdge) → k.from < length p.regions → k.to < length p.regions → IsDead (kill_edge k p) k
-  killed_here p k hf ht = record { dead = none (p.live k) (same_edge k k) (edge_self k); from = hf; to = ht } where
+  killed_here p k hf ht = record { dead = none (p.live k) (same_edge k k) (same_itself k); from = hf; to = ht } where
     none : (t u : Bool) → u ≡ true → (t && not u) ≡ false
     none true true e = refl
     none true false e = absurd cc

@@ -1,6 +1,7 @@
 -- Paths over numbered edges, over a list of edges, and over the live edges of a partition.
-use Rattle.std.proofs.Common.{◌≡◌, ◌↔◌, ℕ, zero, suc, ◌<◌, ◌≤◌, Bool, true, false, not, ◌||◌, ◌==◌, IsTrue, List, [], ◌∷◌, map, replicate, Some, arith, refl, sym, ap, ◌∙◌, subst, slice_get}
+use Rattle.std.proofs.Common.{◌≡◌, ◌↔◌, ℕ, zero, suc, ◌<◌, ◌≤◌, Bool, true, false, not, nat_lt, ◌&&◌, ◌||◌, IsTrue, List, [], ◌∷◌, map, replicate, Some, arith, refl, sym, ap, ◌∙◌, subst, slice_get}
 use Rattle.std.proofs.lemmas.Option.{same_Some, none-some}
+use borrow.Author.Tests.{lt-ltb}
 use Rattle.flow_graph.specs.declared.graph.Graph.{Graph}
 use Rattle.summary_form.specs.declared.query.Query.{Query}
 use Rattle.may_partition.proofs.Kept.{same_is}
@@ -10,14 +11,10 @@ use Rattle.may_partition.specs.Shown.{Shown, Shows, have_regions, is_live}
 use Rattle.abstract_path.specs.Routes.{IsRoute, is_at}
 use Rattle.query_rules.proofs.AppliedSteps.{ends_within}
 use Rattle.query_rules.specs.Paths.{HasNoPath, IsPath, target_region}
+use Rattle.may_partition.proofs.ByRegion.{same_itself}
 use Rattle.bundle_check.specs.steps.Checks.{Decides}
 use Rattle.bundle_check.specs.steps.Roads.{IsJoined, IsRoad, ends_of}
 use Rattle.bundle_check.proofs.Deciding.{untrue}
-
-pub edge_self : (a : RegionEdge) → same_edge a a ≡ true
-edge_self a = rw (self a.edge) (rw (self a.from) (self a.to)) where
-  self : (n : ℕ) → (n == n) ≡ true
-  self n = grind arith
 
 pub or_true : (c d : Bool) → d ≡ true → (c || d) ≡ true
 or_true true d h = refl
@@ -37,7 +34,7 @@ edge_at (x ∷ edges) zero a b h = record {
   item = x;
   starts = ap (λ p. p.0) (same_Some _ _ h);
   ends = ap (λ p. p.1) (same_Some _ _ h);
-  listed = ap (λ c. c || is_live edges x) (edge_self x);
+  listed = ap (λ c. c || is_live edges x) (same_itself x);
 }
 edge_at (x ∷ edges) (suc n) a b h =
     let r = edge_at edges n a b h in
@@ -93,6 +90,28 @@ joined_is edges pairs shut count from to r e s h = (
       (subst (λ x. IsRoute x shut from w.0 to) e w.1)),
   λ k. let w = route_of edges count k.0 from to k.1 in
       h.1 (w.0, subst (λ x. IsRoute x shut from w.0 to) (sym e) (subst (λ x. IsRoute (map ends_of edges) x from w.0 to) (sym s) w.1)),
+)
+
+-- Edges, region by region
+
+-- those of all regions that exist
+pub live_all : (edges xs : List RegionEdge) (n : ℕ) → IsTrue (have_regions n edges) →
+    ((e : RegionEdge) → is_live xs e ≡ (is_live edges e && nat_lt e.from n)) → (e : RegionEdge) → is_live xs e ≡ is_live edges e
+live_all edges xs n w h e = h e ∙ by (is_live edges e) refl where
+  by : (c : Bool) → is_live edges e ≡ c → (c && nat_lt e.from n) ≡ c
+  by true s = lt-ltb e.from n (ends_within n edges e w s).0
+  by false s = refl
+
+road_same : (edges xs : List RegionEdge) → ((e : RegionEdge) → is_live xs e ≡ is_live edges e) → (es : List RegionEdge) (a b : ℕ) →
+    IsRoad xs a es b → IsRoad edges a es b
+road_same edges xs h [] a b r = r
+road_same edges xs h (e ∷ es) a b r = (sym (h e) ∙ r.0, r.1, road_same edges xs h es e.to b r.2)
+
+pub joined_same : (edges xs : List RegionEdge) (a b : ℕ) (r : Bool) → ((e : RegionEdge) → is_live xs e ≡ is_live edges e) →
+    IsTrue r ↔ IsJoined xs a b → IsTrue r ↔ IsJoined edges a b
+joined_same edges xs a b r h k = (
+  λ t. let w = k.0 t in (w.0, road_same edges xs h w.0 a b w.1),
+  λ w. k.1 (w.0, road_same xs edges (λ e. sym (h e)) w.0 a b w.1),
 )
 
 -- Live edges

@@ -242,7 +242,7 @@ all_append : (g : Graph) (exit : ExitKind) (claims : List Query) (ms ns : List P
 all_append g exit claims [] ns p h k = k
 all_append g exit claims (m ∷ ms) ns p h k = (h.0, all_append g exit claims ms ns (moved m p) h.1 k)
 
-moved_append : (ms ns : List PureMove) (p : Parted) → moved_all (ms ++ ns) p ≡ moved_all ns (moved_all ms p)
+pub moved_append : (ms ns : List PureMove) (p : Parted) → moved_all (ms ++ ns) p ≡ moved_all ns (moved_all ms p)
 moved_append [] ns p = refl
 moved_append (m ∷ ms) ns p = moved_append ms ns (moved m p)
 

@@ -2,7 +2,8 @@
 
 ghost use Rattle.std.specs.Prelude.{◌≡◌, ◌<◌, ◌^◌, ◌↔◌, IfOk, IsTrue, length, map, replicate, false, true};
 ghost use Rattle.query_rules.specs.Paths.{HasNoPath, target_region};
-ghost use Rattle.may_partition.specs.Shown.{have_regions};
+ghost use Rattle.may_partition.specs.Shown.{have_regions, is_live};
+ghost use Rattle.may_partition.specs.declared.region.RegionEdge.{RegionEdge as AnEdge};
 ghost use Rattle.bundle_check.specs.steps.Checks.{Decides};
 ghost use Rattle.bundle_check.specs.steps.Roads.{IsJoined, ends_of};
 
@@ -65,6 +66,25 @@ fn is_joined(
     is_reached(alloc, regions, &pairs, &shut, from, to)
 }
 
+/// The live edges, region by region.
+fn live_edges(
+    alloc: Global,
+    partition: &Partition,
+    regions: u32,
+) -> Result<Vec<RegionEdge>, OutOfMemory>
+    requires { regions ≡ length partition.now.regions }
+    ensures live { IfOk result (λ v. (e : AnEdge) →
+        is_live v.items e ≡ is_live partition.now.edges e) }
+    ensures within { IfOk result (λ v. IsTrue (have_regions regions v.items)) }
+{
+    partition.live_within();
+    let mut edges = Vec::new(alloc);
+    for region in 0..regions {
+        edges.extend_from_slice(partition.edges_from(region))?;
+    }
+    Ok(edges)
+}
+
 /// Whether no live edges lead from the outside to the region at which the query's runs end. Where
 /// there are too many regions or edges for their numbers, memory is said to be out.
 pub fn has_no_path(
@@ -75,16 +95,17 @@ pub fn has_no_path(
 ) -> Result<bool, OutOfMemory>
     ensures { IfOk result (Decides partition.now (HasNoPath graph.now query.now)) }
 {
-    let edges = partition.live_edges();
-    let (Ok(regions), Ok(_)) = (
-        u32::try_from(partition.regions().len()),
-        u32::try_from(edges.len()),
-    ) else {
+    partition.live_within();
+    let Ok(regions) = u32::try_from(partition.regions().len()) else {
         return Err(AllocError);
     };
     let target = target_of(graph, query);
     if target >= regions {
         return Ok(true);
     }
-    Ok(!is_joined(alloc, regions, edges, 0, target)?)
+    let edges = live_edges(alloc, partition, regions)?;
+    if u32::try_from(edges.len()).is_err() {
+        return Err(AllocError);
+    }
+    Ok(!is_joined(alloc, regions, &edges, 0, target)?)
 }

@@ -4,4 +4,8 @@
 #[cfg(test)]
 mod graphs;
 #[cfg(test)]
+mod sources;
+#[cfg(test)]
+mod sums;
+#[cfg(test)]
 mod swept;
