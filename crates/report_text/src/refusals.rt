@@ -43,7 +43,8 @@ fn parse_line(alloc: Global, error: ParseError) -> Result<String, OutOfMemory>
     }
 }
 
-fn refusal_text(alloc: Global, why: Refusal) -> Result<String, OutOfMemory>
+/// The text of a refusal.
+pub fn refusal_text(alloc: Global, why: Refusal) -> Result<String, OutOfMemory>
     requires { IsOfSource why }
     ensures { IfOk result (λ text. string_bytes text ≡ refusal_text why) }
 {

@@ -35,6 +35,19 @@ fn push_lines(
     Ok(())
 }
 
+/// The line of one assertion.
+pub fn verdict_line(
+    alloc: Global,
+    place: &AssertPlace,
+    verdict: &Verdict,
+) -> Result<Vec<u8>, OutOfMemory>
+    ensures { IfOk result (λ text. text.items ≡ line_of place.now verdict.now) }
+{
+    let mut text = String::new(alloc);
+    push_line(&mut text, *place, verdict)?;
+    Ok(text.into_bytes())
+}
+
 fn proved_count(verdicts: &[Verdict]) -> usize
     ensures { result ≡ count_by is_proved verdicts.now }
 {

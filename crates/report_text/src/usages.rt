@@ -7,6 +7,10 @@ const USAGE: &str = "\
 usage: smash check [--budget n] [--workers n]
        smash replay [--fuel n] list
        smash workload n [--budget n] [--workers n]
+       smash bundle k [--budget n]
+       smash recheck
+       smash sweep [--edges n]
+       smash edit n [--budget n] [--workers n]
 ";
 
 /// What is told of words that are no command.

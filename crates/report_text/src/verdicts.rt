@@ -1,7 +1,7 @@
 //! The texts of verdicts.
 
-ghost use Rattle.std.specs.Prelude.{◌≡◌, ◌++◌, OnOk, string_bytes};
-ghost use Rattle.report_text.specs.Report.{is_proved, is_found, is_unknown, kind_text, verdict_text};
+ghost use Rattle.std.specs.Prelude.{◌≡◌, ◌++◌, OnOk, codes, string_bytes};
+ghost use Rattle.report_text.specs.Report.{is_proved, is_found, is_unknown, kind_text, list_text, verdict_text};
 
 use crate::OutOfMemory;
 use bolt_core::job::Verdict;
@@ -38,6 +38,22 @@ fn kind_text(kind: LimitKind) -> &'static str
     }
 }
 
+/// Appends inputs on which an assertion fails.
+pub fn push_found(text: &mut String, list: &[i64]) -> Result<(), OutOfMemory>
+    ensures { OnOk result (string_bytes text.new
+        ≡ string_bytes text.old ++ (codes "found " ++ list_text list.now)) }
+{
+    write!(text, "found {list:?}")
+}
+
+/// Appends that a solver limit was met, and which.
+pub fn push_limit(text: &mut String, kind: LimitKind) -> Result<(), OutOfMemory>
+    ensures { OnOk result (string_bytes text.new ≡ string_bytes text.old
+        ++ (codes "unknown (solver limit: " ++ (kind_text kind ++ codes ")"))) }
+{
+    write!(text, "unknown (solver limit: {})", kind_text(kind))
+}
+
 /// Appends the text of a verdict.
 pub fn push_verdict(text: &mut String, verdict: &Verdict) -> Result<(), OutOfMemory>
     ensures { OnOk result (string_bytes text.new
@@ -45,8 +61,8 @@ pub fn push_verdict(text: &mut String, verdict: &Verdict) -> Result<(), OutOfMem
 {
     match verdict {
         Verdict::Proved => write!(text, "proved"),
-        Verdict::Found(list) => write!(text, "found {list:?}"),
+        Verdict::Found(list) => push_found(text, list),
         Verdict::Budget(steps) => write!(text, "unknown (budget {steps} spent)"),
-        Verdict::Limit(kind) => write!(text, "unknown (solver limit: {})", kind_text(*kind)),
+        Verdict::Limit(kind) => push_limit(text, *kind),
     }
 }
