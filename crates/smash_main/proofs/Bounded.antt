@@ -1,32 +1,36 @@
--- A command takes one byte more than a source may have at most.
+-- A command takes one byte more than it may read at most.
 use Rattle.std.proofs.Common.{◌≡◌, subst, ℕ, ◌+◌, ◌≤◌, List, [], length, Option, refl, arith, inl, inr}
 use Rattle.std.specs.Io.KnownBytes.{Consumes}
 use Rattle.std.proofs.KnownBytes.{Consumes-nil}
 use Rattle.outer_io.specs.Causes.{TookAtMost}
 use Rattle.smash_main.specs.Source.{source_limit}
 use Rattle.smash_main.specs.Analysis.{Witness}
-use Rattle.smash_main.specs.Words.{Command, check, replay, workload}
-use Rattle.smash_main.specs.Run.{Change, Obeys, ObeysSource, TakesAtMost}
+use Rattle.smash_main.specs.Words.{Command, check, replay, workload, bundle, recheck, sweep, edit}
+use Rattle.smash_main.specs.Run.{Change, limit_of, Obeys, ObeysSource, TakesAtMost}
 
 -- nothing is taken from what stays as it was
 pub took_none : (a : Option (List ℕ)) (most : ℕ) → TookAtMost a a most
 took_none a most = (0, omega arith, ([], Consumes-nil a, refl))
 
-pub took_whole : (a b : Option (List ℕ)) (bytes : List ℕ) → Consumes a b bytes → length bytes ≤ source_limit →
-    TookAtMost a b (source_limit + 1)
-took_whole a b bytes h fits = (length bytes, omega (arith, fits), (bytes, h, refl))
+pub took_whole : (a b : Option (List ℕ)) (bytes : List ℕ) (most : ℕ) → Consumes a b bytes → length bytes ≤ most → TookAtMost a b (most + 1)
+took_whole a b bytes most h fits = (length bytes, omega (arith, fits), (bytes, h, refl))
 
 source_bounded : (c : Command) (status : ℕ) (source sink : Change) (w : Witness) → ObeysSource c status source sink w →
-    TakesAtMost source (source_limit + 1)
-source_bounded c status source sink w (inl e) = took_whole source.before source.after e.bytes e.read.consumed e.read.fits
-source_bounded c status source sink w (inr (inl l)) = (source_limit + 1, omega arith, l.taken)
+    TakesAtMost source (limit_of c + 1)
+source_bounded c status source sink w (inl e) =
+    took_whole source.before source.after e.bytes (limit_of c) e.read.consumed e.read.fits
+source_bounded c status source sink w (inr (inl l)) = (limit_of c + 1, omega arith, l.taken)
 source_bounded c status source sink w (inr (inr (inl b))) = (b.taken.0, omega (arith, b.taken.1), b.taken.2)
 source_bounded c status source sink w (inr (inr (inr m))) = m.taken
 
 -- a source that is as it was gave nothing
 pub bounded : (c : Command) (status : ℕ) (source sink : Change) (w : Witness) →
-    ((n b v : ℕ) → c ≡ workload n b v → source.before ≡ source.after) → Obeys c status source sink w → TakesAtMost source (source_limit + 1)
-bounded (check b v) status source sink w same h = source_bounded (check b v) status source sink w h
-bounded (replay f zs) status source sink w same h = source_bounded (replay f zs) status source sink w h
+    ((n b v : ℕ) → c ≡ workload n b v → source.before ≡ source.after) → Obeys c status source sink w → TakesAtMost source (limit_of c + 1)
 bounded (workload n b v) status source sink w same h =
     subst (λ a. TookAtMost source.before a (source_limit + 1)) (same n b v refl) (took_none source.before (source_limit + 1))
+bounded (check b v) status source sink w same h = source_bounded (check b v) status source sink w h
+bounded (replay f zs) status source sink w same h = source_bounded (replay f zs) status source sink w h
+bounded (bundle k b) status source sink w same h = source_bounded (bundle k b) status source sink w h
+bounded recheck status source sink w same h = source_bounded recheck status source sink w h
+bounded (sweep e) status source sink w same h = source_bounded (sweep e) status source sink w h
+bounded (edit n b v) status source sink w same h = source_bounded (edit n b v) status source sink w h

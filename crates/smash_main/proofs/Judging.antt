@@ -8,16 +8,17 @@ use Rattle.c_tree.specs.Syntax.{PureProcedure, PureProgram}
 use Rattle.c_tree.specs.WellFormed.{IsWellFormed, takes}
 use Rattle.linear_formula.specs.LinearSum.{valuation}
 use Rattle.flow_build.specs.Promises.{AreBounded}
-use Rattle.flow_graph.specs.ProgramGraphs.{MayTake}
+use Rattle.flow_graph.specs.ProgramGraphs.{MayTake, SameRuns}
 use Rattle.flow_graph.specs.Columns.{AreAllValues}
 use Rattle.flow_graph.specs.Runs.{GraphRuns, end_of, entry_list, failed}
 use Rattle.flow_graph.specs.declared.graph.Graph.{Graph}
 use Rattle.summary_form.specs.Instances.{arity_in, arity_of, graph_runs}
 use Rattle.summary_form.specs.Musts.{values_of}
 use Rattle.summary_form.specs.NotMays.{NotMayHolds}
+use Rattle.summary_form.specs.declared.summary.Summary.{Summary}
 use Rattle.query_rules.specs.Seen.{Seen}
 use Rattle.query_tree.proofs.Lists.{from_pushed, present}
-use Rattle.bolt_core.specs.Boards.{IsBegun, Shown, root_query}
+use Rattle.bolt_core.specs.Boards.{IsBegunWith, Shown, root_query}
 use Rattle.bolt_core.specs.Machine.{Core, Reads, first_board, opening}
 use Rattle.bolt_core.specs.States.{reads}
 use Rattle.bolt_core.specs.Verdicts.{HasVerdict, IsFoundIn}
@@ -60,8 +61,9 @@ opens_empty : {S : Type 0} (R : Reads S) (grant : ℕ) (ss : List S) (c : Core S
 opens_empty R grant [] c = refl
 opens_empty R grant (s ∷ ss) c = opens_empty R grant ss _
 
-pub begun_empty : (gs : List Graph) (main asserts budget : ℕ) (b : Shown) → IsBegun gs main asserts budget b → b.core.history ≡ []
-begun_empty gs main asserts budget b h =
+pub begun_empty : (gs : List Graph) (main asserts budget : ℕ) (kept : List Summary) (b : Shown) →
+    IsBegunWith gs main asserts budget kept b → b.core.history ≡ []
+begun_empty gs main asserts budget kept b h =
     let o = h.opening in
     ap (λ (c : Core Seen). c.history) o.is ∙ opens_empty (reads b.graphs) b.budget o.roots (first_board (reads b.graphs) b.core.kept)
 
@@ -91,7 +93,26 @@ module _ (P : PureProgram) (fine : IsWellFormed P) (opening : AreAllValues P.glo
     global_values = opening;
   }
 
-  module _ (budget : ℕ) (b : Shown) (is : IsBoardOf P budget b) (id : ℕ) where
+  module _ (gs : List Graph) (runs : SameRuns P gs) (id : ℕ) (ins : List ℤ) where
+    -- inputs that reach an assertion make `main` fail there in the graphs
+    pub fails_in_graphs : Reaches P id ins → (d : ℕ) × GraphRuns gs d P.main [] ins (failed id)
+    fails_in_graphs w = (
+      w.0,
+      subst (λ xs. GraphRuns gs w.0 P.main xs ins (failed id)) enters_none
+          (runs.program_to_graphs w.0 P.main [] P.globals ins (Failed id) w.1 may_take w.2),
+    )
+
+    -- and the reverse
+    pub reaches_in_program : (d : ℕ) → GraphRuns gs d P.main [] ins (failed id) → Reaches P id ins
+    reaches_in_program d run =
+        let o = runs.graphs_to_program d P.main [] P.globals ins (failed id) may_take
+        (subst (λ xs. GraphRuns gs d P.main xs ins (failed id)) (sym enters_none) run) in (
+          d,
+          o.1,
+          subst (λ out. Runs P d P.main [] P.globals ins out o.1) (failed_of id o.0 o.1 o.2) o.3,
+        )
+
+  module _ (budget : ℕ) (kept : List Summary) (b : Shown) (is : IsBoardOf P budget kept b) (id : ℕ) where
     main_has_none : (arity_in b.graphs P.main).entries ≡ 0
     main_has_none =
         let w = main_graph P b.graphs fine is.bounds in
@@ -100,11 +121,11 @@ module _ (P : PureProgram) (fine : IsWellFormed P) (opening : AreAllValues P.glo
     -- no run of `main` fails at the assertion
     never : NotMayHolds (graph_runs b.graphs) (root_query b.main id) → (ins : List ℤ) → ¬ Reaches P id ins
     never none ins w =
-        subst (λ m. NotMayHolds (graph_runs b.graphs) (root_query m id)) is.main none w.0 [] ins [] (record {
+        let f = fails_in_graphs b.graphs is.runs id ins w in
+        subst (λ m. NotMayHolds (graph_runs b.graphs) (root_query m id)) is.main none f.0 [] ins [] (record {
           count = sym main_has_none;
           values = λ i. refl;
-          run = subst (λ xs. GraphRuns b.graphs w.0 P.main xs ins (failed id)) enters_none
-              (is.runs.program_to_graphs w.0 P.main [] P.globals ins (Failed id) w.1 may_take w.2);
+          run = f.1;
         }) tt
 
     -- on these inputs `main` fails there
@@ -113,12 +134,8 @@ module _ (P : PureProgram) (fine : IsWellFormed P) (opening : AreAllValues P.glo
         let args = values_of (valuation f.mark.point) f.trail.entry in
         let run = subst (λ m. graph_runs b.graphs f.depth m args list (failed id)) is.main f.run in
         let none = none_long args (run.count ∙ main_has_none) in
-        let o = is.runs.graphs_to_program f.depth P.main [] P.globals list (failed id) may_take
-        (subst (λ xs. GraphRuns b.graphs f.depth P.main xs list (failed id)) (none ∙ sym enters_none) run.run) in (
-          f.depth,
-          o.1,
-          subst (λ out. Runs P f.depth P.main [] P.globals list out o.1) (failed_of id o.0 o.1 o.2) o.3,
-        )
+        reaches_in_program b.graphs is.runs id list f.depth
+        (subst (λ xs. GraphRuns b.graphs f.depth P.main xs list (failed id)) none run.run)
 
     pub judged : (v : Verdict) → HasVerdict b id v → IsVerdict P b id v
     judged verdict.Proved h = (never h.none, h)
@@ -126,12 +143,12 @@ module _ (P : PureProgram) (fine : IsWellFormed P) (opening : AreAllValues P.glo
     judged (verdict.Budget n) h = (tt, h)
     judged (verdict.Limit kind) h = (tt, h)
 
-pub analysed : (P : PureProgram) (budget : ℕ) (b : Shown) (vs : List Verdict) → IsWellFormed P → AreAllValues P.globals →
-    IsBoardOf P budget b → AreVerdicts b (length P.asserts) vs → IsAnalysis P budget b vs
-analysed P budget b vs fine opening is are = record {
+pub analysed : (P : PureProgram) (budget : ℕ) (kept : List Summary) (b : Shown) (vs : List Verdict) → IsWellFormed P →
+    AreAllValues P.globals → IsBoardOf P budget kept b → AreVerdicts b (length P.asserts) vs → IsAnalysis P budget kept b vs
+analysed P budget kept b vs fine opening is are = record {
   board = is;
   each = are.each;
-  right = λ id v there. judged P fine opening budget b is id v (are.right id v there);
+  right = λ id v there. judged P fine opening budget kept b is id v (are.right id v there);
 }
 
 -- Verdicts that are pushed one after the other

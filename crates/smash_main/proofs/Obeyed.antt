@@ -1,21 +1,20 @@
 -- How commands end.
 use Rattle.std.proofs.Common.{◌≡◌, ◌⊎◌, ℕ, ◌+◌, ◌≤◌, List, arith, subst, sym, inl, inr}
 use Rattle.outer_io.specs.Causes.{Took, TookAtMost}
-use Rattle.report_text.specs.Refused.{too_long_text}
 use Rattle.workload_gen.specs.Workload.{text_of, workload_lines}
 use Rattle.smash_main.specs.Analysis.{Witness, no_witness}
-use Rattle.smash_main.specs.Run.{Change, EndsEmpty, EndsWith, EndsWorkload, Obeys, ObeysSource, StaysAsItWas}
-use Rattle.smash_main.specs.Source.{IsAccepted, source_limit}
-use Rattle.smash_main.specs.Words.{Command, check, replay, workload}
+use Rattle.smash_main.specs.Run.{Change, limit_of, long_text_of, EndsEmpty, EndsWith, EndsWorkload, Obeys, ObeysSource, StaysAsItWas}
+use Rattle.smash_main.specs.Source.{IsAccepted}
+use Rattle.smash_main.specs.Words.{Command, check, replay, workload, bundle, recheck, sweep, edit}
 use Rattle.smash_main.specs.steps.Handing.{EndsAsked, EndsSilent}
 use Rattle.smash_main.proofs.Bounded.{took_none}
 use Rattle.smash_main.proofs.WorkloadAccepted.{workload_accepted}
 
 -- memory ran out, and the source is as it was
-pub silently : (status : ℕ) (source sink : Change) (w : Witness) → source.before ≡ source.after → EndsSilent status sink w →
-    EndsEmpty status source sink w
-silently status source sink w same m = record {
-  taken = subst (λ a. TookAtMost source.before a (source_limit + 1)) same (took_none source.before (source_limit + 1));
+pub silently : (c : Command) (status : ℕ) (source sink : Change) (w : Witness) → source.before ≡ source.after →
+    EndsSilent status sink w → EndsEmpty c status source sink w
+silently c status source sink w same m = record {
+  taken = subst (λ a. TookAtMost source.before a (limit_of c + 1)) same (took_none source.before (limit_of c + 1));
   is_seven = m.is_seven;
   silent = m.silent;
   nothing = m.nothing;
@@ -25,8 +24,8 @@ module _ (n b v status : ℕ) (source sink : Change) (w : Witness) (same : sourc
   -- the text of a workload is never refused
   pub workload_ends : (bytes : List ℕ) → 1 ≤ n → n ≤ 60 → bytes ≡ text_of (workload_lines n) →
       EndsAsked (workload n b v) bytes status sink w ⊎ EndsSilent status sink w →
-      EndsWorkload n b status sink w ⊎ EndsEmpty status source sink w
-  workload_ends bytes some few is (inr m) = inr (silently status source sink w same m)
+      EndsWorkload n b status sink w ⊎ EndsEmpty (workload n b v) status source sink w
+  workload_ends bytes some few is (inr m) = inr (silently (workload n b v) status source sink w same m)
   workload_ends bytes some few is (inl e) =
       let a = workload_accepted n some few in
       inl (record {
@@ -43,13 +42,17 @@ module _ (n b v status : ℕ) (source sink : Change) (w : Witness) (same : sourc
 pub nothing_read : (c : Command) (status : ℕ) (source sink : Change) (w : Witness) → source.before ≡ source.after →
     EndsSilent status sink w →
     Obeys c status source sink w
-nothing_read (check b v) status source sink w same m = inr (inr (inr (silently status source sink w same m)))
-nothing_read (replay f zs) status source sink w same m = inr (inr (inr (silently status source sink w same m)))
-nothing_read (workload n b v) status source sink w same m = inr (silently status source sink w same m)
+nothing_read (workload n b v) status source sink w same m = inr (silently (workload n b v) status source sink w same m)
+nothing_read (check b v) status source sink w same m = inr (inr (inr (silently (check b v) status source sink w same m)))
+nothing_read (replay f zs) status source sink w same m = inr (inr (inr (silently (replay f zs) status source sink w same m)))
+nothing_read (bundle k b) status source sink w same m = inr (inr (inr (silently (bundle k b) status source sink w same m)))
+nothing_read recheck status source sink w same m = inr (inr (inr (silently recheck status source sink w same m)))
+nothing_read (sweep e) status source sink w same m = inr (inr (inr (silently (sweep e) status source sink w same m)))
+nothing_read (edit n b v) status source sink w same m = inr (inr (inr (silently (edit n b v) status source sink w same m)))
 
 -- the source was too long
-pub refused_long : (c : Command) (status : ℕ) (source sink : Change) (w : Witness) → Took source.before source.after (source_limit + 1) →
-    w ≡ no_witness → EndsWith status sink 3 too_long_text ⊎ ((status ≡ 7) × StaysAsItWas sink) → ObeysSource c status source sink w
+pub refused_long : (c : Command) (status : ℕ) (source sink : Change) (w : Witness) → Took source.before source.after (limit_of c + 1) →
+    w ≡ no_witness → EndsWith status sink 3 (long_text_of c) ⊎ ((status ≡ 7) × StaysAsItWas sink) → ObeysSource c status source sink w
 refused_long c status source sink w took nothing (inl e) = inr (inl (record { taken = took; ends = e; nothing = nothing }))
 refused_long c status source sink w took nothing (inr (seven, silent)) =
-    inr (inr (inr (record { taken = (source_limit + 1, omega arith, took); is_seven = seven; silent = silent; nothing = nothing })))
+    inr (inr (inr (record { taken = (limit_of c + 1, omega arith, took); is_seven = seven; silent = silent; nothing = nothing })))

@@ -1,5 +1,5 @@
--- What a source asks for under a command: a status, a whole text, and what is handed back.
-use Rattle.std.specs.Prelude.{◌≡◌, ℕ, List, ◌⊎◌, ℤ, Some, if◌then◌else◌}
+-- What checks and replays answer, and the refusal of a source.
+use Rattle.std.specs.Prelude.{◌≡◌, ℕ, List, [], ℤ, if◌then◌else◌}
 use Rattle.std.specs.List.{list_any}
 use Rattle.c_tree.specs.declared.tree.Pos.{Pos}
 use Rattle.c_tree.specs.Syntax.{PureProgram}
@@ -9,9 +9,8 @@ use Rattle.bolt_core.specs.declared.job.Verdict.{Verdict}
 use Rattle.report_text.specs.Refused.{refusal_line}
 use Rattle.report_text.specs.Replay.{replay_text}
 use Rattle.report_text.specs.Report.{is_found, is_unknown, report_of}
-use Rattle.smash_main.specs.Words.{Command, check, replay, workload}
-use Rattle.smash_main.specs.Source.{IsAccepted, IsRefused}
-use Rattle.smash_main.specs.Analysis.{IsAnalysis, Witness, no_witness}
+use Rattle.smash_main.specs.Source.{IsRefused}
+use Rattle.smash_main.specs.Analysis.{IsAnalysis, Witness, board_alone, no_witness}
 
 -- the first refusal of the bytes
 pub record AsksRefusal (bytes : List ℕ) (status : ℕ) (text : List ℕ) (w : Witness) : Type 0 where
@@ -33,8 +32,8 @@ pub record IsReported (program : PureProgram) (budget status : ℕ) (text : List
     Type 0 where
   pub verdicts : List Verdict
   pub board : Shown
-  pub handed : w ≡ Some board
-  pub judged : IsAnalysis program budget board verdicts
+  pub handed : w ≡ board_alone board
+  pub judged : IsAnalysis program budget [] board verdicts
   pub ended : status ≡ status_of verdicts
   pub told : text ≡ report_of program.asserts verdicts
 
@@ -56,21 +55,3 @@ pub record IsReplayed (program : PureProgram) (fuel : ℕ) (list : List ℤ) (st
   pub ended : status ≡ replay_status outcome
   pub told : text ≡ replay_text program fuel outcome used
   pub nothing : w ≡ no_witness
-
--- the answer to a program under a command
-abbrev pub Answers : Command → PureProgram → ℕ → List ℕ → Witness → Type 0
-Answers (check budget workers) program status text w = IsReported program budget status text w
-Answers (replay fuel list) program status text w = IsReplayed program fuel list status text w
-Answers (workload number budget workers) program status text w =
-    IsReported program budget status text w
-
--- an accepted source, and the answer to its program
-pub record AsksAnswer (c : Command) (bytes : List ℕ) (status : ℕ) (text : List ℕ) (w : Witness) :
-    Type 0 where
-  pub program : PureProgram
-  pub accepted : IsAccepted bytes program
-  pub answers : Answers c program status text w
-
--- what the source asks for under the command
-abbrev pub AsksFor : Command → List ℕ → ℕ → List ℕ → Witness → Type 0
-AsksFor c bytes status text w = AsksRefusal bytes status text w ⊎ AsksAnswer c bytes status text w

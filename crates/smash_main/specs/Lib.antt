@@ -1,7 +1,12 @@
 pub mod Analysis
+pub mod Answers
 pub mod Asked
+pub mod Bundled
+pub mod Bundling
+pub mod Edited
 pub mod Run
 pub mod Source
+pub mod Swept
 pub mod Verdict
 pub mod Words
 pub mod steps

@@ -4,12 +4,15 @@ use Rattle.std.specs.declared.option.Option.{Option}
 use Rattle.std.specs.Io.KnownBytes.{Consumes, Appends, IsAtEnd, Keeps}
 use Rattle.outer_io.specs.Causes.{Rose, Took, TookAtMost, WritesFront}
 use Rattle.c_tree.specs.Syntax.{PureProgram}
+use Rattle.report_text.specs.Bundles.{long_bundle_text}
 use Rattle.report_text.specs.Refused.{too_long_text}
 use Rattle.report_text.specs.Usage.{usage_text}
-use Rattle.smash_main.specs.Words.{Command, check, replay, workload}
+use Rattle.smash_main.specs.Words.{Command, workload, recheck, edit}
 use Rattle.smash_main.specs.Source.{IsAccepted, source_limit}
 use Rattle.smash_main.specs.Analysis.{Witness, no_witness}
-use Rattle.smash_main.specs.Asked.{AsksFor, Answers, IsReported}
+use Rattle.smash_main.specs.Answers.{AsksFor, IsGood, Settles}
+use Rattle.smash_main.specs.Asked.{IsReported}
+use Rattle.smash_main.specs.Bundled.{bundle_limit}
 use Rattle.workload_gen.specs.Workload.{text_of, workload_lines}
 
 -- a source or a sink before and after: what is known of its bytes, and its count of faults
@@ -39,41 +42,55 @@ EndsWith status sink due text =
     ((status ≡ due) × Appends sink.before sink.after text) ⊎
     ((status ≡ 6) × HasFault sink × WritesFront sink.before sink.after text)
 
--- all the bytes of the source, as many as it may have at most, were read
-pub record IsWhole (source : Change) (bytes : List ℕ) : Type 0 where
+-- the most bytes that a command reads of its source, beside one more that shows that it is longer
+abbrev pub limit_of : Command → ℕ
+limit_of recheck = bundle_limit
+limit_of (edit old_length budget workers) = old_length + source_limit
+limit_of c = source_limit
+
+-- the refusal of a longer one
+abbrev pub long_text_of : Command → List ℕ
+long_text_of recheck = long_bundle_text
+long_text_of c = too_long_text
+
+-- all the bytes of the source, at most so many, were read
+pub record IsWhole (most : ℕ) (source : Change) (bytes : List ℕ) : Type 0 where
   pub consumed : Consumes source.before source.after bytes
   pub at_end : IsAtEnd source.after
-  pub fits : length bytes ≤ source_limit
+  pub fits : length bytes ≤ most
 
 -- The source was read whole, and the end is what its bytes ask for, with what is handed back beside
--- it. An accepted source is never refused.
+-- it. What is accepted is never refused.
 pub record EndsWhole (c : Command) (status : ℕ) (source sink : Change) (w : Witness) :
     Type 0 where
   pub bytes : List ℕ
-  pub read : IsWhole source bytes
+  pub read : IsWhole (limit_of c) source bytes
   pub due : ℕ
   pub text : List ℕ
   pub asked : AsksFor c bytes due text w
-  pub settled : (P : PureProgram) → IsAccepted bytes P → Answers c P due text w
+  pub settled : Settles c bytes due text w
   pub ends : EndsWith status sink due text
 
--- one byte more than a source may have was taken, and it is refused
-pub record EndsTooLong (status : ℕ) (source sink : Change) (w : Witness) : Type 0 where
-  pub taken : Took source.before source.after (source_limit + 1)
-  pub ends : EndsWith status sink 3 too_long_text
+-- one byte more than the command's source may have was taken, and it is refused
+pub record EndsTooLong (c : Command) (status : ℕ) (source sink : Change) (w : Witness) :
+    Type 0 where
+  pub taken : Took source.before source.after (limit_of c + 1)
+  pub ends : EndsWith status sink 3 (long_text_of c)
   pub nothing : w ≡ no_witness
 
 -- a read failed, and nothing was written
-pub record EndsFaulty (status : ℕ) (source sink : Change) (w : Witness) : Type 0 where
+pub record EndsFaulty (c : Command) (status : ℕ) (source sink : Change) (w : Witness) :
+    Type 0 where
   pub failed : HasFault source
-  pub taken : TakesAtMost source source_limit
+  pub taken : TakesAtMost source (limit_of c)
   pub is_five : status ≡ 5
   pub silent : StaysAsItWas sink
   pub nothing : w ≡ no_witness
 
 -- memory ran out, and nothing was written
-pub record EndsEmpty (status : ℕ) (source sink : Change) (w : Witness) : Type 0 where
-  pub taken : TakesAtMost source (source_limit + 1)
+pub record EndsEmpty (c : Command) (status : ℕ) (source sink : Change) (w : Witness) :
+    Type 0 where
+  pub taken : TakesAtMost source (limit_of c + 1)
   pub is_seven : status ≡ 7
   pub silent : StaysAsItWas sink
   pub nothing : w ≡ no_witness
@@ -97,32 +114,29 @@ pub record EndsWorkload (number budget status : ℕ) (sink : Change) (w : Witnes
 -- how a command ends that reads a source
 abbrev pub ObeysSource : Command → ℕ → Change → Change → Witness → Type 0
 ObeysSource c status source sink w =
-    EndsWhole c status source sink w ⊎ (EndsTooLong status source sink w ⊎
-    (EndsFaulty status source sink w ⊎ EndsEmpty status source sink w))
+    EndsWhole c status source sink w ⊎ (EndsTooLong c status source sink w ⊎
+    (EndsFaulty c status source sink w ⊎ EndsEmpty c status source sink w))
 
 -- how a command ends
 abbrev pub Obeys : Command → ℕ → Change → Change → Witness → Type 0
-Obeys (check budget workers) status source sink w =
-    ObeysSource (check budget workers) status source sink w
-Obeys (replay fuel list) status source sink w =
-    ObeysSource (replay fuel list) status source sink w
 Obeys (workload number budget workers) status source sink w =
-    EndsWorkload number budget status sink w ⊎ EndsEmpty status source sink w
+    EndsWorkload number budget status sink w
+    ⊎ EndsEmpty (workload number budget workers) status source sink w
+Obeys c status source sink w = ObeysSource c status source sink w
 
 -- a command that goes well ends with 0, 1 or 2
 abbrev pub IsVerdictStatus : ℕ → Type 0
 IsVerdictStatus status = (status ≡ 0) ⊎ ((status ≡ 1) ⊎ ((status ≡ 2) ⊎ (status ≡ 7)))
 
--- where an accepted source is told and no count of faults rises, the command ends with a verdict,
--- or memory runs out
-abbrev pub CompletesSource : ℕ → Change → Change → Type 0
-CompletesSource status source sink =
-    (bytes : List ℕ) (P : PureProgram) → source.before ≡ Some bytes → length bytes ≤ source_limit →
-    IsAccepted bytes P → (HasFault source → ⊥) → (HasFault sink → ⊥) → IsVerdictStatus status
+-- where input that the command accepts is told and no count of faults rises, the command ends with
+-- a verdict, or memory runs out
+abbrev pub CompletesSource : Command → ℕ → Change → Change → Type 0
+CompletesSource c status source sink =
+    (bytes : List ℕ) → source.before ≡ Some bytes → length bytes ≤ limit_of c → IsGood c bytes →
+    (HasFault source → ⊥) → (HasFault sink → ⊥) → IsVerdictStatus status
 
 -- so it does, and a workload wherever the sink's count of faults doesn't rise
 abbrev pub Completes : Command → ℕ → Change → Change → Type 0
-Completes (check budget workers) status source sink = CompletesSource status source sink
-Completes (replay fuel list) status source sink = CompletesSource status source sink
 Completes (workload number budget workers) status source sink =
     (HasFault sink → ⊥) → IsVerdictStatus status
+Completes c status source sink = CompletesSource c status source sink

@@ -9,6 +9,10 @@ pub data Command : Type 0 where
   check : (budget workers : ℕ) → Command
   replay : (fuel : ℕ) (list : List ℤ) → Command
   workload : (number budget workers : ℕ) → Command
+  bundle : (number budget : ℕ) → Command
+  recheck : Command
+  sweep : (edges : ℕ) → Command
+  edit : (old_length budget workers : ℕ) → Command
 
 -- Numbers
 
@@ -136,7 +140,24 @@ abbrev pub GivesWorkers : List (Text × Text) → ℕ → Type 0
 GivesWorkers options n =
     IsGivenOr default_workers max_workers (texts_of (codes "workers") options) n
 
+abbrev pub max_edges : ℕ
+max_edges = 5000
+
+abbrev pub default_edges : ℕ
+default_edges = 2000
+
+abbrev pub GivesEdges : List (Text × Text) → ℕ → Type 0
+GivesEdges options n = IsGivenOr default_edges max_edges (texts_of (codes "edges") options) n
+
 -- Commands
+
+-- the most assertions of a program
+abbrev pub max_asserts : ℕ
+max_asserts = 64
+
+-- the most bytes of the old source of an edit
+abbrev pub max_old_length : ℕ
+max_old_length = 65536
 
 -- the most procedures of a workload, beside `main`
 abbrev pub max_number : ℕ
@@ -147,6 +168,12 @@ replay_options = codes "fuel" ∷ []
 
 abbrev pub check_options : List Text
 check_options = codes "budget" ∷ codes "workers" ∷ []
+
+abbrev pub bundle_options : List Text
+bundle_options = codes "budget" ∷ []
+
+abbrev pub sweep_options : List Text
+sweep_options = codes "edges" ∷ []
 
 pub data AreWords : List Text → Command → Type 0 where
   is_check : {words : List Text} {options : List (Text × Text)} {b w : ℕ} →
@@ -159,6 +186,19 @@ pub data AreWords : List Text → Command → Type 0 where
       AreParted check_options false words options (number ∷ []) → IsNumber 1 max_number number n →
       GivesBudget options b → GivesWorkers options w →
       AreWords (codes "workload" ∷ words) (workload n b w)
+  is_bundle : {words : List Text} {options : List (Text × Text)} {number : Text} {k b : ℕ} →
+      AreParted bundle_options false words options (number ∷ []) →
+      IsNumber 1 max_asserts number k → GivesBudget options b →
+      AreWords (codes "bundle" ∷ words) (bundle k b)
+  is_recheck : {words : List Text} {options : List (Text × Text)} →
+      AreParted [] false words options [] → AreWords (codes "recheck" ∷ words) recheck
+  is_sweep : {words : List Text} {options : List (Text × Text)} {e : ℕ} →
+      AreParted sweep_options false words options [] → GivesEdges options e →
+      AreWords (codes "sweep" ∷ words) (sweep e)
+  is_edit : {words : List Text} {options : List (Text × Text)} {number : Text} {n b w : ℕ} →
+      AreParted check_options false words options (number ∷ []) →
+      IsNumber 1 max_old_length number n → GivesBudget options b → GivesWorkers options w →
+      AreWords (codes "edit" ∷ words) (edit n b w)
 
 -- the words are this command
 abbrev pub IsCommand : List (String Global) → Command → Type 0

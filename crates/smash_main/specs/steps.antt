@@ -1,5 +1,12 @@
 pub mod Accepting
+pub mod Claims
+pub mod Growing
 pub mod Handing
 pub mod Judging
+pub mod Killing
+pub mod Leading
+pub mod Listing
+pub mod Making
+pub mod Ranges
 pub mod WordsLine
 pub mod WordsView

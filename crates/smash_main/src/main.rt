@@ -3,9 +3,23 @@
 
 mod accept;
 mod analysis;
+mod bundles;
+mod bundling;
+mod claiming;
+mod edits;
+mod kept;
+mod killing;
+mod leads;
+mod listing;
+mod making;
+mod moving;
+mod ranges;
+mod rechecks;
+mod replies;
 mod reply;
 mod run;
 mod statuses;
+mod sweeps;
 #[cfg(test)]
 mod tests;
 mod words;

@@ -1,22 +1,21 @@
 //! The top call: words, a source and a sink.
 
-ghost use Rattle.std.specs.Prelude.{◌≡◌, ◌+◌, ◌≤◌, ℕ, length, ◌⊎◌};
+ghost use Rattle.std.specs.Prelude.{◌≡◌, ◌+◌, ◌≤◌, ℕ, IfOk, length, ◌⊎◌};
 ghost use Rattle.outer_io.specs.Causes.{TookAtMost};
-ghost use Rattle.report_text.specs.Refused.{too_long_text};
 ghost use Rattle.smash_main.specs.Analysis.{handed_by, no_witness};
-ghost use Rattle.smash_main.specs.Source.{source_limit};
 ghost use Rattle.smash_main.specs.Words.{IsCommand, IsNoCommand, Command as PureCommand, workload};
 ghost use Rattle.smash_main.specs.steps.Handing.{EndsAsked, EndsSilent, handed_in};
 ghost use Rattle.smash_main.specs.steps.WordsView.{FitsCommand, command_of};
-ghost use Rattle.smash_main.specs.Run.{change, EndsWith, EndsUsage, StaysAsItWas, Obeys, ObeysSource, Completes};
+ghost use Rattle.smash_main.specs.Run.{change, limit_of, long_text_of, EndsWith, EndsUsage, StaysAsItWas, Obeys, ObeysSource, Completes};
 
-use crate::reply::{Reply, reply_to};
+use crate::replies::Reply;
+use crate::reply::reply_to;
 use crate::words::{Command, command_from};
 use bolt_core::board::Board;
 use outer_io::{Gate, ReadError, Sink, Source, read_all, write_all};
 use report_text::fault::Refusal;
-use report_text::{refusal, usage};
-use std::alloc::Global;
+use report_text::{long_bundle, refusal, usage};
+use std::alloc::{AllocError, Global};
 use std::sync::Wait;
 use std::thread::Threads;
 use workload_gen::program_of;
@@ -24,13 +23,18 @@ use workload_gen::program_of;
 /// The most bytes that a source may have, `source_limit` of the clauses.
 const SOURCE_LIMIT: usize = 65_536;
 
+/// The most bytes that the text of a bundle may have, `bundle_limit` of the clauses.
+const BUNDLE_LIMIT: usize = 16_777_216;
+
 /// How the program ended: 0, 1 and 2 are verdicts, 3 is a refusal of the source, 4 of the words, 5
 /// a failed read, 6 a failed write, 7 want of memory. Where an analysis came to its end, its board
-/// is handed back, which is over; the root of each assertion has its number.
+/// is handed back, which is over; the root of each assertion has its number. Beside it, of an edit,
+/// the board of the old source.
 #[derive(Drop)]
 pub struct Finish {
     pub status: u8,
     pub board: Option<Board>,
+    pub old: Option<Board>,
 }
 
 /// Ends with a status alone.
@@ -41,6 +45,7 @@ fn end(status: u8) -> Finish
     Finish {
         status,
         board: None,
+        old: None,
     }
 }
 
@@ -65,22 +70,46 @@ fn tell_reply<K: Sink>(sink: &mut K, reply: Reply) -> Finish
         status,
         text,
         board,
+        old,
     } = reply;
     Finish {
         status: tell(sink, status, &text),
         board,
+        old,
     }
 }
 
-/// Refuses a source that is too long, unless memory runs out.
-fn tell_too_long<K: Sink>(alloc: Global, sink: &mut K) -> Finish
+/// The most bytes that a command reads, beside one more that shows that there are more.
+fn limit(command: &Command) -> usize
+    requires { FitsCommand (command_of command.now) }
+    ensures { result ≡ limit_of (command_of command.now) }
+{
+    match command {
+        Command::Recheck => BUNDLE_LIMIT,
+        Command::Edit { old_length, .. } => *old_length as usize + SOURCE_LIMIT,
+        _ => SOURCE_LIMIT,
+    }
+}
+
+/// What is told where there are more, unless memory runs out.
+fn too_long(alloc: Global, command: &Command) -> Result<Vec<u8>, AllocError>
+    ensures { IfOk result (λ text. text.items ≡ long_text_of (command_of command.now)) }
+{
+    match command {
+        Command::Recheck => long_bundle().to_vec(alloc),
+        _ => refusal(alloc, &Refusal::Long),
+    }
+}
+
+/// Refuses what is too long for a command, unless memory runs out.
+fn tell_too_long<K: Sink>(alloc: Global, command: &Command, sink: &mut K) -> Finish
     ensures ends { EndsWith result.status (change (K.taken sink.old) (K.taken sink.new)
-        (K.faults sink.old) (K.faults sink.new)) 3 too_long_text
+        (K.faults sink.old) (K.faults sink.new)) 3 (long_text_of (command_of command.now))
         ⊎ ((result.status ≡ 7) × StaysAsItWas (change (K.taken sink.old) (K.taken sink.new)
         (K.faults sink.old) (K.faults sink.new))) }
     ensures nothing { handed_by result ≡ no_witness }
 {
-    match refusal(alloc, &Refusal::Long) {
+    match too_long(alloc, command) {
         Ok(text) => end(tell(sink, 3, &text)),
         Err(_) => end(7),
     }
@@ -95,7 +124,7 @@ fn reply_with<R: Threads + Wait + Sync, K: Sink, G: Gate>(
     sink: &mut K,
     gate: &G,
 ) -> Finish
-    requires fits { length bytes.now ≤ source_limit }
+    requires fits { length bytes.now ≤ limit_of (command_of command.now) }
     requires numbers { FitsCommand (command_of command.now) }
     ensures { EndsAsked (command_of command.now) bytes.now result.status
         (change (K.taken sink.old) (K.taken sink.new) (K.faults sink.old) (K.faults sink.new))
@@ -125,9 +154,9 @@ fn obey_source<R: Threads + Wait + Sync, S: Source, K: Sink, G: Gate>(
         (change (K.taken sink.old) (K.taken sink.new) (K.faults sink.old) (K.faults sink.new))
         (handed_by result) }
 {
-    match read_all(alloc, source, SOURCE_LIMIT) {
+    match read_all(alloc, source, limit(command)) {
         Ok(bytes) => reply_with(rt, alloc, command, &bytes, sink, gate),
-        Err(ReadError::TooLong) => tell_too_long(alloc, sink),
+        Err(ReadError::TooLong) => tell_too_long(alloc, command, sink),
         Err(ReadError::ReadFault) => end(5),
         Err(ReadError::Memory) => end(7),
     }
@@ -176,8 +205,9 @@ pub fn run<R: Threads + Wait + Sync, S: Source, K: Sink, G: Gate>(
         (handed_by result) }
     ensures unread { IsNoCommand words.now → source.new ≡ source.old }
 
-    // Whatever the words are and however it ends, it takes one byte more than the limit at most.
-    ensures bounded { TookAtMost (S.left source.old) (S.left source.new) (source_limit + 1) }
+    // However a command ends, it takes one byte more than its limit at most.
+    ensures bounded { (c : PureCommand) → IsCommand words.now c →
+        TookAtMost (S.left source.old) (S.left source.new) (limit_of c + 1) }
 
     // A command reads the source; what its bytes ask for is written. Each fault has its cause.
     ensures obeys { (c : PureCommand) → IsCommand words.now c → Obeys c result.status

@@ -1,5 +1,6 @@
 //! Tables of commands on sources and sinks in memory, each with its status and its whole output.
 
+mod afterwards;
 mod agreement;
 mod analyses;
 mod command_lines;
@@ -9,15 +10,16 @@ mod meeting;
 mod tables;
 mod worked;
 
+use self::afterwards::{AFTERWARDS, BUNDLED};
 use self::agreement::{tally_alone, tally_calling, tally_dividing, tally_sharing};
 use self::analyses::{ANALYSES, CALLS, OPEN, Open};
-use self::command_lines::{CHECK_WORDS, REPLAY_WORDS, WORKLOAD_WORDS};
+use self::command_lines::{AFTERWARDS_WORDS, CHECK_WORDS, REPLAY_WORDS, WORKLOAD_WORDS};
 use self::divisions::{DIVIDED, DIVISION_CHECKS, DIVISIONS};
 use self::globals::{GLOBAL_CHECKS, GLOBALS};
 use self::meeting::Meeting;
 use self::tables::{
-    BLANKS, BODIES, CHECKS, FAULTS, Fault, LIMITS, Limit, NO_COMMANDS, REFUSALS, REPLAYS, Row, SUM,
-    WORKLOADS,
+    BLANKS, BODIES, CHECKS, FAULTS, Fault, LIMITS, Limit, NESTINGS, NO_COMMANDS, Nesting, REFUSALS,
+    REPLAYS, Row, SUM, SUM_REPORT, WORKLOADS,
 };
 use self::worked::WORKED;
 use crate::run::run;
@@ -226,6 +228,41 @@ fn answers_worked_examples(rt: HostRuntime) -> Result<(), Fail> {
 }
 
 #[test]
+fn answers_afterwards(rt: HostRuntime) -> Result<(), Fail> {
+    agree(&rt, rt.alloc(), &AFTERWARDS)
+}
+
+/// What is told of the bundle that words make of a text.
+fn rechecked<R: Threads + Wait + Sync>(
+    rt: &R,
+    alloc: Global,
+    line: &str,
+    text: &str,
+) -> Result<String, Fail> {
+    let made = told(
+        rt,
+        alloc,
+        line,
+        source_of(alloc, text, 4096, 1000)?,
+        1 << 20,
+    )?;
+    match made.as_str().strip_prefix("0 ") {
+        Some(bundle) => told_of(rt, alloc, "recheck", bundle),
+        None => Ok(made),
+    }
+}
+
+/// The bundle of each row is told so.
+#[test]
+fn accepts_what_it_bundles(rt: HostRuntime) -> Result<(), Fail> {
+    for (line, text, wanted) in BUNDLED {
+        let got = rechecked(&rt, rt.alloc(), line, text)?;
+        assert_eq!(&rt; got.as_str(), wanted, "{line} of {text}");
+    }
+    Ok(())
+}
+
+#[test]
 fn refuses_the_first_fault(rt: HostRuntime) -> Result<(), Fail> {
     agree(&rt, rt.alloc(), &REFUSALS)
 }
@@ -261,6 +298,63 @@ fn agree_on_faults<R: Abort + Threads + Wait + Sync>(
 #[test]
 fn tells_of_faults(rt: HostRuntime) -> Result<(), Fail> {
     agree_on_faults(&rt, rt.alloc(), &FAULTS)
+}
+
+/// The 61 bytes take 16 calls, and one more sees the end.
+#[test]
+fn tells_of_each_failed_read(rt: HostRuntime) -> Result<(), Fail> {
+    for failing in 0..17 {
+        let got = of_faults(&rt, rt.alloc(), failing, 4096)?;
+        assert_eq!(rt; got.as_str(), "5 ", "call {failing}");
+    }
+    Ok(())
+}
+
+/// Whether the status is 6, behind a front of the report of this length.
+fn is_front(told: &str, room: usize) -> bool {
+    match told.strip_prefix("6 ") {
+        Some(front) => front.len() == room && SUM_REPORT.starts_with(front),
+        None => false,
+    }
+}
+
+#[test]
+fn tells_of_each_room(rt: HostRuntime) -> Result<(), Fail> {
+    for room in 0..SUM_REPORT.len() {
+        let got = of_faults(&rt, rt.alloc(), 17, room)?;
+        assert!(rt; is_front(got.as_str(), room), "room {room}: {got}");
+    }
+    Ok(())
+}
+
+fn push_times(text: &mut String, part: &str, count: usize) -> Result<(), Fail> {
+    for _ in 0..count {
+        text.push_str(part)?;
+    }
+    Ok(())
+}
+
+/// What is told of a source that nests so deep.
+fn of_nesting<R: Threads + Wait + Sync>(
+    rt: &R,
+    alloc: Global,
+    nesting: &Nesting,
+) -> Result<String, Fail> {
+    let (head, (open, close), tail, count, _) = *nesting;
+    let mut text = String::from_str(alloc, head)?;
+    push_times(&mut text, open, count)?;
+    text.push_str(tail)?;
+    push_times(&mut text, close, count)?;
+    told_of(rt, alloc, "check", text.as_str())
+}
+
+#[test]
+fn bounds_nesting(rt: HostRuntime) -> Result<(), Fail> {
+    for nesting in &NESTINGS {
+        let got = of_nesting(&rt, rt.alloc(), nesting)?;
+        assert_eq!(rt; got.as_str(), nesting.4, "{}", nesting.3);
+    }
+    Ok(())
 }
 
 /// What is told of so many blanks.
@@ -374,6 +468,18 @@ fn command_of(alloc: Global, line: &str) -> Result<String, Fail> {
                 workers,
             },
         ) => Ok(format!(in alloc; "workload {number} {budget} {workers}")?),
+        Some(Command::Bundle { number, budget }) => {
+            Ok(format!(in alloc; "bundle {number} {budget}")?)
+        }
+        Some(Command::Recheck) => Ok(String::from_str(alloc, "recheck")?),
+        Some(Command::Sweep { edges }) => Ok(format!(in alloc; "sweep {edges}")?),
+        Some(
+            Command::Edit {
+                old_length,
+                budget,
+                workers,
+            },
+        ) => Ok(format!(in alloc; "edit {old_length} {budget} {workers}")?),
     }
 }
 
@@ -400,6 +506,11 @@ fn replays_of_words(rt: HostRuntime) -> Result<(), Fail> {
 #[test]
 fn workloads_of_words(rt: HostRuntime) -> Result<(), Fail> {
     agree_on_commands(&rt, rt.alloc(), &WORKLOAD_WORDS)
+}
+
+#[test]
+fn bundles_sweeps_and_edits_of_words(rt: HostRuntime) -> Result<(), Fail> {
+    agree_on_commands(&rt, rt.alloc(), &AFTERWARDS_WORDS)
 }
 
 /// Whether a replay may have a list of so many values.

@@ -2,12 +2,12 @@
 
 ghost use Rattle.std.specs.Prelude.{◌≡◌, ◌≢◌, ℕ, ◌+◌, ◌-◌, ◌*◌, ◌≤◌, ◌<◌, ◌==◌, List, [], ◌∷◌, length, map, string_bytes, ℤ, IfOk, IfSome, IfNone, true, false, option_map, codes};
 ghost use Rattle.std.specs.List.{list_all};
-ghost use Rattle.clap.specs.Words.{app_of, fault_of, rule_of};
+ghost use Rattle.clap.specs.Words.{app_of, fault_of, rule_of, with_subcommand};
 ghost use Rattle.clap.specs.declared.builder.command.Command.TheViews.{out-Command};
 ghost use Rattle.smash_main.specs.Words as spec;
 ghost use Rattle.smash_main.specs.Words.{AreWords, IsCommand, Command as PureCommand, Text, IsNumber, IsValue, IsPiece, ArePieces, IsList, IsGivenOr, HasOneCommand, value_from, max_inputs};
 ghost use Rattle.smash_main.specs.steps.WordsView.{FitsCommand, command_of, test_of, IsRun, IsNegative, Encloses};
-ghost use Rattle.smash_main.specs.steps.WordsLine.{Gives, GivesBudget, GivesWorkers, IsTaken, check_app, line_app, listed, name_of, option_rule, replay_app, texts_in, top_app, word_rule, workload_app};
+ghost use Rattle.smash_main.specs.steps.WordsLine.{Gives, GivesBudget, GivesEdges, GivesWorkers, IsTaken, bundle_app, check_app, edit_app, line_app, listed, name_of, option_rule, recheck_app, replay_app, sweep_app, texts_in, top_app, word_rule, workload_app};
 
 use clap::error::ErrorKind;
 use clap::{Arg, ArgAction, ArgMatches, Command as Line};
@@ -32,6 +32,14 @@ const DEFAULT_WORKERS: u64 = 4;
 
 const MAX_NUMBER: u64 = 60;
 
+const MAX_ASSERTS: u64 = 64;
+
+const MAX_EDGES: u64 = 5000;
+
+const DEFAULT_EDGES: u64 = 2000;
+
+const MAX_OLD_LENGTH: u64 = 65_536;
+
 /// A command. A budget is from 1 to `MAX_BUDGET`, and workers are from 1 to `MAX_WORKERS`.
 #[derive(Drop)]
 pub enum Command {
@@ -47,6 +55,22 @@ pub enum Command {
     /// The number is from 1 to `MAX_NUMBER`.
     Workload {
         number: u32,
+        budget: u32,
+        workers: u32,
+    },
+    /// The number of an assertion is from 1 to `MAX_ASSERTS`.
+    Bundle {
+        number: u32,
+        budget: u32,
+    },
+    Recheck,
+    /// The edges are from 1 to `MAX_EDGES`.
+    Sweep {
+        edges: u32,
+    },
+    /// The old source has from 1 to `MAX_OLD_LENGTH` bytes.
+    Edit {
+        old_length: u32,
         budget: u32,
         workers: u32,
     },
@@ -288,6 +312,39 @@ fn workload_line<'a>(alloc: Global) -> Result<Line<'a>, AllocError>
         .arg(word(alloc, "number"))
 }
 
+/// The line of a bundle.
+fn bundle_line<'a>(alloc: Global) -> Result<Line<'a>, AllocError>
+    ensures { IfOk result (λ l. (app_of l ≡ bundle_app) × ((out-Command l).has_globals ≡ false)) }
+{
+    Line::new(alloc, "bundle")
+        .arg(option(alloc, "budget"))?
+        .arg(word(alloc, "number"))
+}
+
+/// The line of a recheck.
+fn recheck_line<'a>(alloc: Global) -> Line<'a>
+    ensures { (app_of result ≡ recheck_app) × ((out-Command result).has_globals ≡ false) }
+{
+    Line::new(alloc, "recheck")
+}
+
+/// The line of a sweep.
+fn sweep_line<'a>(alloc: Global) -> Result<Line<'a>, AllocError>
+    ensures { IfOk result (λ l. (app_of l ≡ sweep_app) × ((out-Command l).has_globals ≡ false)) }
+{
+    Line::new(alloc, "sweep").arg(option(alloc, "edges"))
+}
+
+/// The line of an edit.
+fn edit_line<'a>(alloc: Global) -> Result<Line<'a>, AllocError>
+    ensures { IfOk result (λ l. (app_of l ≡ edit_app) × ((out-Command l).has_globals ≡ false)) }
+{
+    Line::new(alloc, "edit")
+        .arg(option(alloc, "budget"))?
+        .arg(option(alloc, "workers"))?
+        .arg(word(alloc, "length"))
+}
+
 /// A line without commands, and with no flag of `clap`'s own.
 fn bare_line<'a>(alloc: Global) -> Line<'a>
     ensures { app_of result ≡ top_app }
@@ -300,14 +357,26 @@ fn bare_line<'a>(alloc: Global) -> Line<'a>
         .subcommand_required(true)
 }
 
-/// The line of any command.
-fn line<'a>(alloc: Global) -> Result<Line<'a>, AllocError>
-    ensures { IfOk result (λ l. app_of l ≡ line_app) }
+/// The line of a check, a replay or a workload.
+fn short_line<'a>(alloc: Global) -> Result<Line<'a>, AllocError>
+    ensures { IfOk result (λ l. app_of l ≡ with_subcommand (with_subcommand
+        (with_subcommand top_app check_app.top) replay_app.top) workload_app.top) }
 {
     bare_line(alloc)
         .subcommand(check_line(alloc)?)?
         .subcommand(replay_line(alloc)?)?
         .subcommand(workload_line(alloc)?)
+}
+
+/// The line of any command.
+fn line<'a>(alloc: Global) -> Result<Line<'a>, AllocError>
+    ensures { IfOk result (λ l. app_of l ≡ line_app) }
+{
+    short_line(alloc)?
+        .subcommand(bundle_line(alloc)?)?
+        .subcommand(recheck_line(alloc))?
+        .subcommand(sweep_line(alloc)?)?
+        .subcommand(edit_line(alloc)?)
 }
 
 /// What the words give by the command line, or none where they don't fit it.
@@ -351,6 +420,14 @@ fn workers(given: &ArgMatches) -> Option<u32>
 {
     let workers = number_or(DEFAULT_WORKERS, MAX_WORKERS, given.get_str("workers"))?;
     Some(workers as u32)
+}
+
+fn edges(given: &ArgMatches) -> Option<u32>
+    ensures some { IfSome result (λ n. GivesEdges (texts_in given.now) n) }
+    ensures none { IfNone result ((n : ℕ) → GivesEdges (texts_in given.now) n → ⊥) }
+{
+    let edges = number_or(DEFAULT_EDGES, MAX_EDGES, given.get_str("edges"))?;
+    Some(edges as u32)
 }
 
 fn check(given: &ArgMatches) -> Option<Command>
@@ -399,6 +476,72 @@ fn workload(given: &ArgMatches) -> Option<Command>
     })
 }
 
+fn bundle(given: &ArgMatches) -> Option<Command>
+    ensures some { IfSome result (λ c. (name_of (command_of c) ≡ codes "bundle")
+        × Gives (command_of c) (texts_in given.now)) }
+    ensures none { IfNone result ((c : PureCommand) → name_of c ≡ codes "bundle" →
+        Gives c (texts_in given.now) → ⊥) }
+{
+    let text = given.get_str("number")?;
+    let number = number(text.as_bytes(), 1, MAX_ASSERTS)?;
+    let budget = budget(given)?;
+    Some(Command::Bundle {
+        number: number as u32,
+        budget,
+    })
+}
+
+fn sweep(given: &ArgMatches) -> Option<Command>
+    ensures some { IfSome result (λ c. (name_of (command_of c) ≡ codes "sweep")
+        × Gives (command_of c) (texts_in given.now)) }
+    ensures none { IfNone result ((c : PureCommand) → name_of c ≡ codes "sweep" →
+        Gives c (texts_in given.now) → ⊥) }
+{
+    let edges = edges(given)?;
+    Some(Command::Sweep { edges })
+}
+
+fn edit(given: &ArgMatches) -> Option<Command>
+    ensures some { IfSome result (λ c. (name_of (command_of c) ≡ codes "edit")
+        × Gives (command_of c) (texts_in given.now)) }
+    ensures none { IfNone result ((c : PureCommand) → name_of c ≡ codes "edit" →
+        Gives c (texts_in given.now) → ⊥) }
+{
+    let text = given.get_str("length")?;
+    let old_length = number(text.as_bytes(), 1, MAX_OLD_LENGTH)?;
+    let budget = budget(given)?;
+    let workers = workers(given)?;
+    Some(Command::Edit {
+        old_length: old_length as u32,
+        budget,
+        workers,
+    })
+}
+
+/// The command of this name that is given, if it takes no list.
+fn plain_command(name: &str, given: &ArgMatches) -> Option<Command>
+    ensures some { IfSome result (λ c. (name_of (command_of c) ≡ name.now)
+        × Gives (command_of c) (texts_in given.now)) }
+    ensures none { IfNone result ((c : PureCommand) → name_of c ≡ name.now →
+        (name.now ≡ codes "replay" → ⊥) → Gives c (texts_in given.now) → ⊥) }
+{
+    if name == "check" {
+        check(given)
+    } else if name == "workload" {
+        workload(given)
+    } else if name == "bundle" {
+        bundle(given)
+    } else if name == "recheck" {
+        Some(Command::Recheck)
+    } else if name == "sweep" {
+        sweep(given)
+    } else if name == "edit" {
+        edit(given)
+    } else {
+        None
+    }
+}
+
 /// The command that matches are of, if they are of one.
 fn command_in(alloc: Global, matches: &ArgMatches) -> Result<Option<Command>, AllocError>
     ensures some { IfOk result (λ o. IfSome o (λ c. (words : List Text) →
@@ -409,14 +552,10 @@ fn command_in(alloc: Global, matches: &ArgMatches) -> Result<Option<Command>, Al
     let Some((name, given)) = matches.subcommand() else {
         return Ok(None)
     };
-    if name == "check" {
-        Ok(check(given))
-    } else if name == "replay" {
+    if name == "replay" {
         replay(alloc, given)
-    } else if name == "workload" {
-        Ok(workload(given))
     } else {
-        Ok(None)
+        Ok(plain_command(name, given))
     }
 }
 

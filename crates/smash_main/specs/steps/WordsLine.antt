@@ -6,8 +6,8 @@ use Rattle.clap.specs.Faults.{fault_of}
 use Rattle.clap.specs.declared.parser.matches.ArgMatches.{ArgMatches}
 use Rattle.clap.specs.Walk.{Rule}
 use Rattle.clap.specs.declared.builder.action.ArgAction.TheVariants.{Set}
-use Rattle.smash_main.specs.Words.{Command, Text, check, replay, workload, IsGivenOr, IsList, IsNumber}
-use Rattle.smash_main.specs.Words.{default_budget, default_fuel, default_workers, max_budget, max_fuel, max_number, max_workers}
+use Rattle.smash_main.specs.Words.{Command, Text, check, replay, workload, bundle, recheck, sweep, edit, IsGivenOr, IsList, IsNumber}
+use Rattle.smash_main.specs.Words.{default_budget, default_edges, default_fuel, default_workers, max_asserts, max_budget, max_edges, max_fuel, max_number, max_old_length, max_workers}
 
 -- The command line
 
@@ -27,6 +27,20 @@ abbrev pub replay_app : App
 replay_app = with_rule (with_rule (new_app (codes "replay")) (option_rule (codes "fuel")))
     (word_rule (codes "list"))
 
+abbrev pub bundle_app : App
+bundle_app = with_rule (with_rule (new_app (codes "bundle")) (option_rule (codes "budget")))
+    (word_rule (codes "number"))
+
+abbrev pub recheck_app : App
+recheck_app = new_app (codes "recheck")
+
+abbrev pub sweep_app : App
+sweep_app = with_rule (new_app (codes "sweep")) (option_rule (codes "edges"))
+
+abbrev pub edit_app : App
+edit_app = with_rule (with_rule (with_rule (new_app (codes "edit"))
+    (option_rule (codes "budget"))) (option_rule (codes "workers"))) (word_rule (codes "length"))
+
 abbrev pub workload_app : App
 workload_app = with_rule (with_rule (with_rule (new_app (codes "workload"))
     (option_rule (codes "budget"))) (option_rule (codes "workers"))) (word_rule (codes "number"))
@@ -42,8 +56,9 @@ top_app = on_top (λ s. record s {
 }) (new_app (codes "smash"))
 
 abbrev pub line_app : App
-line_app = with_subcommand (with_subcommand (with_subcommand top_app check_app.top) replay_app.top)
-    workload_app.top
+line_app = with_subcommand (with_subcommand (with_subcommand (with_subcommand (with_subcommand
+    (with_subcommand (with_subcommand top_app check_app.top) replay_app.top) workload_app.top)
+    bundle_app.top) recheck_app.top) sweep_app.top) edit_app.top
 
 -- the words fit the command line, and these are the name and the matches of the subcommand
 abbrev pub IsTaken : List Text → ArgMatches → Type 0
@@ -70,6 +85,9 @@ abbrev pub GivesWorkers : (Text → Option Text) → ℕ → Type 0
 GivesWorkers text_of n =
     IsGivenOr default_workers max_workers (listed (text_of (codes "workers"))) n
 
+abbrev pub GivesEdges : (Text → Option Text) → ℕ → Type 0
+GivesEdges text_of n = IsGivenOr default_edges max_edges (listed (text_of (codes "edges"))) n
+
 -- the texts of the options, and of the word that is none, by their names, are those of the command
 abbrev pub Gives : Command → (Text → Option Text) → Type 0
 Gives (check budget workers) text_of = GivesBudget text_of budget × GivesWorkers text_of workers
@@ -78,8 +96,21 @@ Gives (replay fuel list) text_of = GivesFuel text_of fuel
 Gives (workload number budget workers) text_of =
     ((text : Text) × (text_of (codes "number") ≡ Some text) × IsNumber 1 max_number text number)
     × GivesBudget text_of budget × GivesWorkers text_of workers
+Gives (bundle number budget) text_of =
+    ((text : Text) × (text_of (codes "number") ≡ Some text) × IsNumber 1 max_asserts text number)
+    × GivesBudget text_of budget
+Gives recheck text_of = Unit {0}
+Gives (sweep edges) text_of = GivesEdges text_of edges
+Gives (edit old_length budget workers) text_of =
+    ((text : Text) × (text_of (codes "length") ≡ Some text)
+    × IsNumber 1 max_old_length text old_length)
+    × GivesBudget text_of budget × GivesWorkers text_of workers
 
 abbrev pub name_of : Command → Text
 name_of (check budget workers) = codes "check"
 name_of (replay fuel list) = codes "replay"
 name_of (workload number budget workers) = codes "workload"
+name_of (bundle number budget) = codes "bundle"
+name_of recheck = codes "recheck"
+name_of (sweep edges) = codes "sweep"
+name_of (edit old_length budget workers) = codes "edit"

@@ -166,3 +166,28 @@ pub const REPLAY_WORDS: [(&str, &str); 45] = [
     ("replay|", "none"),
     ("replay|--fuel|--|[1]", "none"),
 ];
+
+pub const AFTERWARDS_WORDS: [(&str, &str); 22] = [
+    ("bundle|1", "bundle 1 2000"),
+    ("bundle|--budget|7|64", "bundle 64 7"),
+    ("bundle|64|--budget=20000", "bundle 64 20000"),
+    ("bundle", "none"),
+    ("bundle|0", "none"),
+    ("bundle|65", "none"),
+    ("bundle|1|--workers|2", "none"),
+    ("bundle|1|2", "none"),
+    ("recheck", "recheck"),
+    ("recheck|--", "recheck"),
+    ("recheck|x", "none"),
+    ("recheck|--budget|1", "none"),
+    ("sweep", "sweep 2000"),
+    ("sweep|--edges|1", "sweep 1"),
+    ("sweep|--edges=5000", "sweep 5000"),
+    ("sweep|--edges|0", "none"),
+    ("sweep|--edges|5001", "none"),
+    ("edit|1", "edit 1 2000 4"),
+    ("edit|--budget|3|65536|--workers|2", "edit 65536 3 2"),
+    ("edit|65537", "none"),
+    ("edit|0", "none"),
+    ("edit", "none"),
+];

@@ -17,6 +17,10 @@ pub const USAGE: &str = "\
 4 usage: smash check [--budget n] [--workers n]
        smash replay [--fuel n] list
        smash workload n [--budget n] [--workers n]
+       smash bundle k [--budget n]
+       smash recheck
+       smash sweep [--edges n]
+       smash edit n [--budget n] [--workers n]
 ";
 
 pub const CHECKS: [Row; 18] = [
@@ -425,21 +429,47 @@ pub const NO_COMMANDS: [Row; 17] = [
 /// told.
 pub type Fault = (u32, usize, &'static str);
 
-pub const FAULTS: [Fault; 6] = [
-    (1, 4096, "5 "),
-    (15, 4096, "5 "),
+pub const FAULTS: [Fault; 2] = [
     (
         17,
         51,
         "0 1:35: proved\nsummary: 1 proved, 0 found, 0 unknown\n",
     ),
     (
-        17,
-        50,
-        "6 1:35: proved\nsummary: 1 proved, 0 found, 0 unknown",
+        18,
+        51,
+        "0 1:35: proved\nsummary: 1 proved, 0 found, 0 unknown\n",
     ),
-    (17, 10, "6 1:35: prov"),
-    (17, 0, "6 "),
+];
+
+/// What `check` writes of `SUM`.
+pub const SUM_REPORT: &str = "1:35: proved\nsummary: 1 proved, 0 found, 0 unknown\n";
+
+/// A head, what is opened and closed so many times, a tail between, and what is told.
+pub type Nesting<'a> = (&'a str, (&'a str, &'a str), &'a str, usize, &'a str);
+
+pub const NESTINGS: [Nesting; 3] = [
+    (
+        "int main()",
+        ("{", "}"),
+        "",
+        64,
+        "0 summary: 0 proved, 0 found, 0 unknown\n",
+    ),
+    (
+        "int main(){ return ",
+        ("!", ""),
+        "0; }",
+        256,
+        "0 summary: 0 proved, 0 found, 0 unknown\n",
+    ),
+    (
+        "int main(){ return ",
+        ("!", ""),
+        "0; }",
+        257,
+        "3 refused 1:276: nested too deep\n",
+    ),
 ];
 
 /// A body of `main`, beside a procedure `f`, and what is told of it.

@@ -2,6 +2,7 @@ use Rattle.std.proofs.Common.{◌⊎◌, ◌∙◌, subst, sym, refl, inr, rules
 use Rattle.smash_main.specs.Run.{Change, Obeys, change}
 use Rattle.smash_main.specs.Analysis.{handed_by}
 use Rattle.smash_main.specs.steps.Handing.{EndsAsked, EndsSilent}
+use Rattle.smash_main.specs.Words.{workload}
 use Rattle.smash_main.specs.steps.WordsView.{FitsCommand, command_of}
 use Rattle.smash_main.proofs.Obeyed.{silently, workload_ends}
 use Rattle.smash_main.proofs.run.obey.Goals as goal
@@ -36,4 +37,4 @@ returns-in-Err-clause-obeys g c =
     let m : EndsSilent status sink w =
     record { is_seven = c.end.ensures.status; silent = search rules; nothing = c.end.ensures.nothing } in
     subst (λ k. Obeys (command_of k) status source sink w) (sym c.in-Workload.is)
-    (inr (silently status source sink w refl m))
+    (inr (silently (workload c.in-Workload.number c.in-Workload.budget c.in-Workload.workers) status source sink w refl m))

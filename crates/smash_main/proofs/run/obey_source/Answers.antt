@@ -1,4 +1,5 @@
-use Rattle.std.proofs.Common.{Err, ◌∙◌, ap}
+use Rattle.std.proofs.Common.{Err, ◌∙◌, ◌+◌, ap, subst}
+use Rattle.outer_io.specs.Causes.{Took}
 use Rattle.smash_main.specs.Run.{Change, change}
 use Rattle.smash_main.specs.Analysis.{handed_by}
 use Rattle.smash_main.specs.steps.WordsView.{command_of}
@@ -12,5 +13,6 @@ returns-in-Err-TooLong g c =
     let sink : Change = change (g.K.Sink.taken c.args.sink.now) (g.K.Sink.taken c.tell_too_long.new.sink)
     (g.K.Sink.faults c.args.sink.now) (g.K.Sink.faults c.tell_too_long.new.sink) in
     refused_long (command_of c.args.command.now) c.tell_too_long.result.status source sink (handed_by c.tell_too_long.result)
-    (c.read_all.ensures.long (c.in-Err-TooLong.is ∙ ap Err c.in-Err-TooLong.field-0-is)) c.tell_too_long.ensures.nothing
+    (subst (λ most. Took (g.S.Source.left c.args.source.now) (g.S.Source.left c.read_all.new.source) (most + 1)) c.limit.ensures
+    (c.read_all.ensures.long (c.in-Err-TooLong.is ∙ ap Err c.in-Err-TooLong.field-0-is))) c.tell_too_long.ensures.nothing
     c.tell_too_long.ensures.ends

@@ -37,9 +37,9 @@ returns-in-Ok-Some-clause-workload_unread g c n b w is =
     c.in-Ok-Some.ensures.some) is)
 
 pub returns-in-Ok-Some-clause-bounded : goal.returns-in-Ok-Some-clause-bounded
-returns-in-Ok-Some-clause-bounded g c =
-    bounded (command_of c.in-Ok-Some.given) _ _ _ _ (λ n b w is. sym (ap g.S.Source.left (c.obey.ensures.unread n b w is)))
-    c.obey.ensures.obeys
+returns-in-Ok-Some-clause-bounded g c given is =
+    bounded given _ _ _ _ (λ n b w e. sym (ap g.S.Source.left (returns-in-Ok-Some-clause-workload_unread g c n b w
+    (subst (IsCommand c.args.words.now) e is)))) (returns-in-Ok-Some-clause-obeys g c given is)
 
 pub returns-in-Err-clause-obeys : goal.returns-in-Err-clause-obeys
 returns-in-Err-clause-obeys g c given is =
@@ -56,11 +56,8 @@ returns-in-Err-clause-obeys g c given is =
 pub returns-in-Err-clause-complete : goal.returns-in-Err-clause-complete
 returns-in-Err-clause-complete g c given is = completes given _ _ _ _ (returns-in-Err-clause-obeys g c given is)
 
-pub returns-in-Ok-None-clause-bounded : goal.returns-in-Ok-None-clause-bounded
-returns-in-Ok-None-clause-bounded g c = took_none _ _
-
 pub returns-in-Err-clause-bounded : goal.returns-in-Err-clause-bounded
-returns-in-Err-clause-bounded g c = took_none _ _
+returns-in-Err-clause-bounded g c given is = took_none _ _
 
 pub returns-in-Ok-None-clause-usage : goal.returns-in-Ok-None-clause-usage
 returns-in-Ok-None-clause-usage g c _ =

@@ -8,7 +8,7 @@ use Rattle.smash_main.specs.declared.words.Command.{Command}
 use Rattle.smash_main.specs.steps.WordsLine.{IsTaken}
 use Rattle.smash_main.specs.steps.WordsView.{command_of}
 use Rattle.smash_main.proofs.WordsRuns.{ok_as}
-use Rattle.smash_main.proofs.WordsMatches.{IsMet, it_gives, it_is, text_is}
+use Rattle.smash_main.proofs.WordsMatches.{IsMet, it_gives, it_is, not_met, text_is, text_is_not}
 use Rattle.smash_main.proofs.words.command_in.Goals as goal
 
 -- the words of these matches are the command, and no command
@@ -22,50 +22,35 @@ pub returns-then-eq-clause-some : goal.returns-then-eq-clause-some
 returns-then-eq-clause-some c =
     let met : IsMet c.args.matches.now c.in-Some.name.now c.in-Some.given.now =
     record { named = c.in-Some.ensures.name; rows = c.in-Some.ensures.rows } in
-    let is = text_is c.in-Some.name.now (codes "check") c.eq.result c.eq.ensures c.if-eq.true in
-    IfSome_then c.check.result {Q = Becomes c.args.matches.now}
-    c.check.ensures.some (λ k h. it_is c.args.matches.now c.in-Some.name.now c.in-Some.given.now met (command_of k) (h.0 ∙ sym is) h.1)
+    let is = text_is c.in-Some.name.now (codes "replay") c.eq.result c.eq.ensures c.if-eq.true in
+    ok_as _ (λ o. IfSome o (Becomes c.args.matches.now)) c.replay.result (λ o read. IfSome_then o {Q = Becomes c.args.matches.now}
+    read (λ k h. it_is c.args.matches.now c.in-Some.name.now c.in-Some.given.now met (command_of k) (h.0 ∙ sym is) h.1))
+    c.replay.ensures.some
 
 pub returns-then-eq-clause-none : goal.returns-then-eq-clause-none
 returns-then-eq-clause-none c =
     let met : IsMet c.args.matches.now c.in-Some.name.now c.in-Some.given.now =
     record { named = c.in-Some.ensures.name; rows = c.in-Some.ensures.rows } in
-    let is = text_is c.in-Some.name.now (codes "check") c.eq.result c.eq.ensures c.if-eq.true in
-    if_none _ _ c.check.result
-    (λ none ws t k h. let g = it_gives c.args.matches.now c.in-Some.name.now c.in-Some.given.now met ws t k h in none k (g.0 ∙ is) g.1)
-    c.check.ensures.none
-
-pub returns-then-eq-2-clause-some : goal.returns-then-eq-2-clause-some
-returns-then-eq-2-clause-some c =
-    let met : IsMet c.args.matches.now c.in-Some.name.now c.in-Some.given.now =
-    record { named = c.in-Some.ensures.name; rows = c.in-Some.ensures.rows } in
-    let is = text_is c.in-Some.name.now (codes "replay") c.eq-else-eq.result c.eq-else-eq.ensures c.if-eq-2.true in
-    ok_as _ (λ o. IfSome o (Becomes c.args.matches.now)) c.replay.result (λ o read. IfSome_then o {Q = Becomes c.args.matches.now}
-    read (λ k h. it_is c.args.matches.now c.in-Some.name.now c.in-Some.given.now met (command_of k) (h.0 ∙ sym is) h.1))
-    c.replay.ensures.some
-
-pub returns-then-eq-2-clause-none : goal.returns-then-eq-2-clause-none
-returns-then-eq-2-clause-none c =
-    let met : IsMet c.args.matches.now c.in-Some.name.now c.in-Some.given.now =
-    record { named = c.in-Some.ensures.name; rows = c.in-Some.ensures.rows } in
-    let is = text_is c.in-Some.name.now (codes "replay") c.eq-else-eq.result c.eq-else-eq.ensures c.if-eq-2.true in
+    let is = text_is c.in-Some.name.now (codes "replay") c.eq.result c.eq.ensures c.if-eq.true in
     ok_as _ (λ o. IfNone o (Never c.args.matches.now)) c.replay.result (λ o. if_none _ _ o
     (λ none ws t k h. let g = it_gives c.args.matches.now c.in-Some.name.now c.in-Some.given.now met ws t k h in none k (g.0 ∙ is) g.1))
     c.replay.ensures.none
 
-pub returns-then-eq-3-clause-some : goal.returns-then-eq-3-clause-some
-returns-then-eq-3-clause-some c =
+pub returns-else-eq-clause-some : goal.returns-else-eq-clause-some
+returns-else-eq-clause-some c =
     let met : IsMet c.args.matches.now c.in-Some.name.now c.in-Some.given.now =
     record { named = c.in-Some.ensures.name; rows = c.in-Some.ensures.rows } in
-    let is = text_is c.in-Some.name.now (codes "workload") c.eq-else-eq-2.result c.eq-else-eq-2.ensures c.if-eq-3.true in
-    IfSome_then c.workload.result {Q = Becomes c.args.matches.now}
-    c.workload.ensures.some (λ k h. it_is c.args.matches.now c.in-Some.name.now c.in-Some.given.now met (command_of k) (h.0 ∙ sym is) h.1)
+    IfSome_then c.plain_command.result {Q = Becomes c.args.matches.now}
+    c.plain_command.ensures.some (λ k h. it_is c.args.matches.now c.in-Some.name.now c.in-Some.given.now met (command_of k) h.0 h.1)
 
-pub returns-then-eq-3-clause-none : goal.returns-then-eq-3-clause-none
-returns-then-eq-3-clause-none c =
+pub returns-else-eq-clause-none : goal.returns-else-eq-clause-none
+returns-else-eq-clause-none c =
     let met : IsMet c.args.matches.now c.in-Some.name.now c.in-Some.given.now =
     record { named = c.in-Some.ensures.name; rows = c.in-Some.ensures.rows } in
-    let is = text_is c.in-Some.name.now (codes "workload") c.eq-else-eq-2.result c.eq-else-eq-2.ensures c.if-eq-3.true in
-    if_none _ _ c.workload.result
-    (λ none ws t k h. let g = it_gives c.args.matches.now c.in-Some.name.now c.in-Some.given.now met ws t k h in none k (g.0 ∙ is) g.1)
-    c.workload.ensures.none
+    let differs = text_is_not c.in-Some.name.now (codes "replay") c.eq.result c.eq.ensures c.if-eq.false in
+    if_none _ _ c.plain_command.result
+    (λ none ws t k h. let g = it_gives c.args.matches.now c.in-Some.name.now c.in-Some.given.now met ws t k h in none k g.0 differs g.1)
+    c.plain_command.ensures.none
+
+pub returns-in_default-clause-none : goal.returns-in_default-clause-none
+returns-in_default-clause-none c = not_met c.args.matches.now c.in_default.ensures.name
