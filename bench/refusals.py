@@ -8,29 +8,42 @@ import time
 TOP = os.path.dirname(os.path.dirname(os.path.realpath(__file__)))
 # So many runs in a row that no refusal reached end a command: with several workers the order of allocations isn't fixed.
 UNREACHED, SECONDS = 40, 60
-COMMANDS = [
-    ("check, a realistic file, 4 workers", ["check"], "bench/check/realistic.c"),
-    ("check, three calls deep, 1 worker", ["check", "--workers", "1"], "bench/check/deep.c"),
-    ("workload 3", ["workload", "3"], None),
-    ("replay of two inputs", ["replay", "[2, 40]"], "bench/check/deep.c"),
-]
+
+
+def text_of(name):
+    with open(f"{TOP}/{name}", "rb") as it:
+        return it.read()
+
+
+def commands(program):
+    """A name, the words and the bytes of each run."""
+    deep, level = text_of("bench/check/deep.c"), text_of("examples/level.c")
+    bundle = subprocess.run([program, "bundle", "1"], input=level, capture_output=True, check=True).stdout
+    edit = ["edit", "--workers", "1", str(len(level))]
+    return [
+        ("check, a realistic file, 4 workers", ["check"], text_of("bench/check/realistic.c")),
+        ("check, three calls deep, 1 worker", ["check", "--workers", "1"], deep),
+        ("workload 3", ["workload", "3"], b""),
+        ("replay of two inputs", ["replay", "[2, 40]"], deep),
+        ("bundle of a call", ["bundle", "1"], level),
+        ("recheck of it", ["recheck"], bundle),
+        ("sweep, three calls deep", ["sweep"], deep),
+        ("edit of an assertion, 1 worker", edit, level + text_of("examples/level_changed.c")),
+    ]
 
 
 def run(program, library, words, source, refuse):
     """The status and the output of a run, and whether one of its allocations was refused."""
     read, write = os.pipe()
     environment = {"LD_PRELOAD": library, **({} if refuse is None else {"REFUSE": refuse})}
-    stdin = open(f"{TOP}/{source}", "rb") if source else subprocess.DEVNULL
     try:
-        it = subprocess.run([program, *words], stdin=stdin, capture_output=True, env=environment, pass_fds=[9],
+        it = subprocess.run([program, *words], input=source, capture_output=True, env=environment, pass_fds=[9],
                             preexec_fn=lambda: os.dup2(write, 9), timeout=SECONDS)
         status, out = it.returncode, it.stdout + it.stderr
     except subprocess.TimeoutExpired:
         status, out = "none in time", b""
     finally:
         os.close(write)
-        if source:
-            stdin.close()
     os.set_blocking(read, False)
     try:
         was_refused = bool(os.read(read, 1))
@@ -61,7 +74,7 @@ def sweep(program, library, words, source, behind, most):
 def main(program, library, most):
     missed = False
     print("| run | refused | runs | status 7, nothing | as without | else | seconds |\n|---|---|---|---|---|---|---|")
-    for name, words, source in COMMANDS:
+    for name, words, source in commands(program):
         for behind in (False, True):
             begun = time.time()
             n, empty, as_due, wrong = sweep(program, library, words, source, behind, most)

@@ -37,9 +37,9 @@ def folder(program):
     return finished(ends(program, place))
 
 
-def endless(program):
+def endless(program, *words):
     with open("/dev/zero", "rb") as it:
-        return finished(ends(program, it))
+        return finished(ends(program, it, words=words or ("check",)))
 
 
 def endless_blanks(program):
@@ -143,6 +143,10 @@ CASES = [
     ("a connection that is reset", reset_input, 5, b""),
     ("an endless source", endless, 3, TOO_LONG),
     ("an endless source of blanks", endless_blanks, 3, TOO_LONG),
+    ("an endless source of a bundle", lambda it: endless(it, "bundle", "1"), 3, TOO_LONG),
+    ("an endless bundle", lambda it: endless(it, "recheck"), 3, b"refused: bundle longer than 16777216 bytes\n"),
+    ("an endless source of a sweep", lambda it: endless(it, "sweep"), 3, TOO_LONG),
+    ("endless sources of an edit", lambda it: endless(it, "edit", "65536"), 3, TOO_LONG),
     ("a full disk", full_disk, 6, None),
     ("a closed output", closed_output, 6, None),
     ("a pipe whose reader is gone", reader_gone, 6, None),
