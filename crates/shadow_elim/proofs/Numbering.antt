@@ -38,36 +38,22 @@ pub record IsNumbered (first : ℕ) (old : List Derived) (cs : List Candidate) (
   pub rows : rs ≡ numbered (first + length old) cs
   pub steps : ds ≡ old ++ steps_of cs
 
--- one more candidate, which has its number
-pub numbered-known : (first : ℕ) (old : List Derived) (cs : List Candidate) (rows : List Row) (steps : List Derived) (c : Candidate) (n : ℕ)
-    (next : List Row) → IsNumbered first old cs rows steps → c.origin ≡ Known n → next ≡ rows ++ record { term = c.term; number = n } ∷ [] →
-    IsNumbered first old (cs ++ c ∷ []) next steps
-numbered-known first old cs rows steps c n next h o e = record {
-  rows = e ∙ (ap (λ (rs : List Row). rs ++ record { term = c.term; number = n } ∷ []) h.rows
-      ∙ (ap (λ (p : Origin). numbered (first + length old) cs
-      ++ record { term = c.term; number = number_of (first + length old + length (steps_of cs)) p } ∷ []) (sym o) ∙ sym (numbered-push
-      (first + length old) cs c)));
-  steps = h.steps ∙ (none (old ++ steps_of cs) ∙ (ap (λ (p : Origin). (old ++ steps_of cs) ++ with_step p c.term []) (sym o)
-      ∙ (append_assoc old (steps_of cs) (with_step c.origin c.term []) ∙ ap (λ (ds : List Derived). old ++ ds) (sym (steps-push cs c)))));
-} where
-  none : (ds : List Derived) → ds ≡ ds ++ []
-  none [] = refl
-  none (d ∷ ds) = ap (λ (es : List Derived). d ∷ es) (none ds)
+-- nothing is added
+pub none-added : (ds : List Derived) → ds ≡ ds ++ []
+none-added [] = refl
+none-added (d ∷ ds) = ap (λ (es : List Derived). d ∷ es) (none-added ds)
 
--- one more candidate, which is derived
-pub numbered-made : (first : ℕ) (old : List Derived) (cs : List Candidate) (rows : List Row) (steps : List Derived) (c : Candidate)
-    (m : Making) (n : ℕ) (d : Derived) (next : List Row) (more : List Derived) → IsNumbered first old cs rows steps → c.origin ≡ Made m →
-    n ≡ first + length steps → next ≡ rows ++ record { term = c.term; number = n } ∷ [] → d ≡ step_of c.term m → more ≡ steps ++ d ∷ [] →
-    IsNumbered first old (cs ++ c ∷ []) next more
-numbered-made first old cs rows steps c m n d next more h o i e g f = record {
-  rows = e ∙ (ap (λ (rs : List Row). rs ++ record { term = c.term; number = n } ∷ []) h.rows
-      ∙ (ap (λ (k : ℕ). numbered (first + length old) cs ++ record { term = c.term; number = k } ∷ []) number
-      ∙ (ap (λ (p : Origin). numbered (first + length old) cs
-      ++ record { term = c.term; number = number_of (first + length old + length (steps_of cs)) p } ∷ []) (sym o) ∙ sym (numbered-push
-      (first + length old) cs c))));
-  steps = f ∙ (ap (λ (b : Derived). steps ++ b ∷ []) g ∙ (ap (λ (ds : List Derived). ds ++ step_of c.term m ∷ []) h.steps
-      ∙ (ap (λ (p : Origin). (old ++ steps_of cs) ++ with_step p c.term []) (sym o)
-      ∙ (append_assoc old (steps_of cs) (with_step c.origin c.term []) ∙ ap (λ (ds : List Derived). old ++ ds) (sym (steps-push cs c))))));
+-- one more candidate, with its number and its derivation
+pub numbered-more : (first : ℕ) (old : List Derived) (cs : List Candidate) (rows : List Row) (steps : List Derived) (c : Candidate)
+    (row : Row) (next : List Row) (more : List Derived) → IsNumbered first old cs rows steps →
+    row ≡ record { term = c.term; number = number_of (first + length steps) c.origin } → next ≡ rows ++ row ∷ [] →
+    more ≡ steps ++ with_step c.origin c.term [] → IsNumbered first old (cs ++ c ∷ []) next more
+numbered-more first old cs rows steps c row next more h r e f = record {
+  rows = e ∙ (ap (λ (x : Row). rows ++ x ∷ []) (r ∙ ap (λ (k : ℕ). row_from k c) number)
+      ∙ (ap (λ (rs : List Row). rs ++ row_from (first + length old + length (steps_of cs)) c ∷ []) h.rows
+      ∙ sym (numbered-push (first + length old) cs c)));
+  steps = f ∙ (ap (λ (ds : List Derived). ds ++ with_step c.origin c.term []) h.steps
+      ∙ (append_assoc old (steps_of cs) (with_step c.origin c.term []) ∙ ap (λ (ds : List Derived). old ++ ds) (sym (steps-push cs c))));
 } where
-  number : n ≡ first + length old + length (steps_of cs)
-  number = omega (arith, i, ap length h.steps, length-append old (steps_of cs))
+  number : first + length steps ≡ first + length old + length (steps_of cs)
+  number = omega (arith, ap length h.steps, length-append old (steps_of cs))

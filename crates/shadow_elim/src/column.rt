@@ -1,10 +1,10 @@
 //! The elimination of one column.
 
-ghost use Rattle.std.specs.Prelude.{◌≡◌, ◌+◌, ◌<◌, ◌++◌, map, length, false, All, IfOk, OnOk, IsErrOf, IsTrue};
+ghost use Rattle.std.specs.Prelude.{◌≡◌, ◌+◌, ◌<◌, ◌++◌, [], map, length, false, All, IfOk, OnOk, IsErrOf, IsTrue};
 ghost use Rattle.std.specs.List.{list_all};
 ghost use Rattle.linear_formula.specs.LinearSum.{is_within};
 ghost use Rattle.shadow_elim.specs.Elimination.{is_upper, is_lower, pair_sum, pair_sums};
-ghost use Rattle.shadow_elim.specs.steps.Making.{uppers, lowers, frees, known, made, made_of_all, candidates, step_of, steps_of, numbered, AreTerms};
+ghost use Rattle.shadow_elim.specs.steps.Making.{uppers, lowers, frees, known, made, made_of_all, candidates, step_of, steps_of, number_of, numbered, with_step, AreTerms};
 ghost use Rattle.shadow_elim.specs.steps.Lists.{AreAdded, AreTaken, AreTooMany};
 ghost use Rattle.shadow_elim.specs.steps.Marks.{IsSmall, AreMarked};
 ghost use Rattle.shadow_elim.specs.RowSizes.{NoneIsWide};
@@ -166,7 +166,34 @@ fn derived(alloc: Global, term: &Term, making: Making) -> Result<Derived, OutOfM
     })
 }
 
-/// Gives the made rows their numbers from `next` on, and says how each follows.
+/// A row with its number. A made one gets the next number, and its derivation is added.
+fn numbered_row(
+    alloc: Global,
+    candidate: Candidate,
+    first: u32,
+    steps: &mut Vec<Derived>,
+) -> Result<Row, OutOfMemory>
+    ensures row { IfOk result (λ row. row ≡ record {
+      term = candidate.term;
+      number = number_of (first + length steps.old.items) candidate.origin;
+    }) }
+    ensures steps { OnOk result (steps.new.items
+        ≡ steps.old.items ++ with_step candidate.origin candidate.term []) }
+{
+    let Candidate { term, origin } = candidate;
+    match origin {
+        Origin::Known(number) => Ok(Row { term, number }),
+        Origin::Made(making) => {
+            let number = next_number(first, steps)?;
+            let step = derived(alloc, &term, making)?;
+            steps.push(step)?;
+            Ok(Row { term, number })
+        }
+    }
+}
+
+/// Gives the made rows their numbers from `first` and the length of `steps` on, and says how each
+/// follows.
 fn number(
     alloc: Global,
     candidates: Vec<Candidate>,
@@ -179,15 +206,8 @@ fn number(
 {
     let mut rows = Vec::with_capacity(alloc, candidates.len())?;
     for candidate in candidates {
-        let Candidate { term, origin } = candidate;
-        match origin {
-            Origin::Known(number) => rows.push(Row { term, number })?,
-            Origin::Made(making) => {
-                let number = next_number(first, steps)?;
-                steps.push(derived(alloc, &term, making)?)?;
-                rows.push(Row { term, number })?;
-            }
-        }
+        let row = numbered_row(alloc, candidate, first, steps)?;
+        rows.push(row)?;
     }
     Ok(rows)
 }

@@ -14,7 +14,7 @@ use infeasible_cert::certificate::Derived;
 use std::alloc::Global;
 
 /// The rows that bounded a column when it was eliminated.
-#[derive(Debug, Drop)]
+#[derive(Drop)]
 pub struct Stage {
     pub column: u32,
     pub uppers: Vec<Row>,

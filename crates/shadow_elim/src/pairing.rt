@@ -12,7 +12,7 @@ use linear_formula::term::Term;
 use std::alloc::Global;
 
 /// The two rows that a row was made of, with their multiples, and what the sum was divided by.
-#[derive(Clone, Copy, Debug)]
+#[derive(Clone, Copy)]
 pub struct Making {
     pub upper: u32,
     pub upper_multiple: i64,
@@ -21,7 +21,7 @@ pub struct Making {
     pub divide: i64,
 }
 
-#[derive(Clone, Copy, Debug)]
+#[derive(Clone, Copy)]
 pub enum Origin {
     /// The row has this number.
     Known(u32),
@@ -29,7 +29,7 @@ pub enum Origin {
 }
 
 /// A row that may stay.
-#[derive(Debug, Drop)]
+#[derive(Drop)]
 pub struct Candidate {
     pub term: Term,
     pub origin: Origin,
