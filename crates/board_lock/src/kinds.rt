@@ -1,4 +1,4 @@
-//! The kinds of step on a word, and what each tells its seat. The board goes out of the slot and
+//! The kinds of step on a word, and what a seat learns of each. The board goes out of the slot and
 //! back by plain exchanges, which tell nothing.
 
 use crate::chronicle::Chronicle;

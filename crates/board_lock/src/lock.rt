@@ -131,7 +131,7 @@ impl<B: Chronicle + Drop> BoardLock<B> {
             (seat.old.view.places ++ added seat.old.view.seen (B.events board)) }
     {
         let count = board.count();
-        // A store announces no value: what it tells is read from the board in the slot.
+        // A store announces no value: what it says is read from the board in the slot.
         let _nothing = self
             .table
             .shared

@@ -148,7 +148,7 @@ impl Board {
 
     /// The same with summaries that are known to hold: its table opens with them, in order, and has
     /// room for all that may come besides. They are at most 2,000,000, each of a procedure of these
-    /// graphs, and where it tells of a failure, of one of these assertions.
+    /// graphs, and one of a failure is of one of these assertions.
     pub fn begin_with(
         alloc: Global,
         graphs: Arc<Graphs>,
@@ -223,13 +223,14 @@ impl Board {
         self.stopped
     }
 
+    /// The graphs that the board is about.
     pub fn graphs(&self) -> &Arc<Graphs>
         ensures { result.now.value.graphs ≡ self.now.graphs }
     {
         &self.graphs
     }
 
-    /// Brings a table up to the board's. It is no event. After want of memory the table is still a
+    /// Brings a table up to the board's. It is no event. After lack of memory the table is still a
     /// front of the board's.
     pub fn bring(&self, known: &mut Table) -> Result<(), OutOfMemory>
         requires front { StartsWith self.now.core.table known.old.summaries }

@@ -56,7 +56,7 @@ fn add(table: &mut Table, summary: Option<Arc<Summary>>)
     }
 }
 
-/// The summary of the query goes into the table, and its number behind the origins.
+/// The summary of the query goes into the table, and its number after the origins.
 fn show(slots: &mut [Slot], table: &mut Table, origins: &mut Vec<QueryId>, id: QueryId, place: u64)
     requires here { id < length slots.old }
     requires room { length table.old.summaries < table.old.room }

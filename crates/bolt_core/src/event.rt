@@ -4,9 +4,9 @@ use crate::job::Parked;
 use crate::slot::ClosedAs;
 use query_tree::QueryId;
 
-/// An event, with what it tells. `left` is what was left of the query at the take, `steps` its
+/// An event, with what it records. `left` is what was left of the query at the take, `steps` its
 /// stored steps, and `waiting` says whether some child was open and not Starved; `spent` counts the
-/// steps of the job. Summaries are told by their places in the table, and an asked query by its
+/// steps of the job. Summaries are named by their places in the table, and an asked query by its
 /// number.
 #[derive(Clone, Copy, Debug, PartialEq, Eq)]
 pub enum Event {

@@ -135,7 +135,7 @@ impl Board {
         Ok(())
     }
 
-    /// Asks: the child becomes a query, and its number is told to the job's last asked entry.
+    /// Asks: the child becomes a query, and the job's last asked entry gets its number.
     pub fn ask(
         &mut self,
         worker: u32,

@@ -19,8 +19,8 @@ pub struct Program {
     pub kept: LinkedList<Summary>,
 }
 
-/// An event with the queries and the table that it tells of, for contracts alone: no value of it is
-/// made. What it is for them is what it tells.
+/// An event with the queries and the table that it names, for contracts alone: no value of it is
+/// made. To them it is what it records.
 pub struct Telling {
     pub event: Event,
     pub queries: LinkedList<Query>,

@@ -26,12 +26,12 @@ pub fn jobs_stay_sound()
     ensures { JobsStaySound }
 {}
 
-/// What a call asks of a job is kept behind any further events.
+/// What a call asks of a job is kept after any further events.
 pub fn moves_stay()
     ensures { MovesStay }
 {}
 
-/// A sound job may be told as what its children closed.
+/// A sound job may get the news of how its children closed.
 pub fn jobs_may_be_told()
     ensures { JobsMayBeTold }
 {}
@@ -72,7 +72,7 @@ pub fn states_are_lawful()
     ensures { StatesAreLawful }
 {}
 
-/// Each place behind the opening table has the query whose summary was appended there; a not-may
+/// Each place after the opening table has the query whose summary was appended there; a not-may
 /// that a close appended is of a query that is anchored.
 pub fn boards_have_origins()
     ensures { BoardsHaveOrigins }

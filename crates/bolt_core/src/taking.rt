@@ -50,7 +50,7 @@ impl Board {
         }
     }
 
-    /// Takes a Ready query, and tells its state the news of its children. `Over` comes exactly
+    /// Takes a Ready query, and gives its state the news of its children. `Over` comes exactly
     /// where
     /// each root is over or the board was stopped, and `Idle` where it isn't over and no query is
     /// Ready. `known` holds the same list as the board's table.

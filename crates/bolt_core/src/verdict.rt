@@ -65,7 +65,7 @@ impl Board {
     }
 
     /// The verdict of the root of this number, once the board is over: whether its query closed,
-    /// and as what, or was left open with its budget spent.
+    /// and how, or was left open with its budget spent.
     pub fn verdict(&self, alloc: Global, root: u32) -> Result<Verdict, OutOfMemory>
         requires over { is_over (reads self.now.graphs) self.now.core ≡ true }
         requires going { self.now.core.is_stopped ≡ false }

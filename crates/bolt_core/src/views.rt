@@ -24,6 +24,7 @@ impl Board {
         &self.forest
     }
 
+    /// The summaries that were published, in order.
     pub fn table(&self) -> &Table
         ensures { result.now.summaries ≡ self.now.core.table }
     {

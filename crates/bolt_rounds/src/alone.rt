@@ -74,7 +74,7 @@ fn turn(
 }
 
 /// Works at a board without history until it is over. No query is dropped while it is at work, so
-/// nothing is published of one. Want of memory stops the board, which is then dropped.
+/// nothing is published of one. Lack of memory stops the board, which is then dropped.
 pub fn alone(alloc: Global, mut board: Board) -> Result<Board, OutOfMemory>
     requires { board.core.history ≡ [] }
     ensures same { IfOk result (λ b. SameProgram board b) }

@@ -39,7 +39,7 @@ impl Calls {
         Calls { counts: [0; 16] }
     }
 
-    /// Passes the gate before the worker's next call, and tells the number of that call.
+    /// Passes the gate before the worker's next call, and answers the number of that call.
     pub(crate) fn begin<G: Gate>(&mut self, gate: &G, worker: u32) -> u64 {
         let call = match self.counts.get_mut(worker as usize) {
             Some(count) => {

@@ -57,7 +57,7 @@ pub struct Made {
     pub spare: Option<Arc<Summary>>,
 }
 
-/// Brings a table up to the board's, and takes a query. After want of memory none is taken.
+/// Brings a table up to the board's, and takes a query. After lack of memory none is taken.
 pub(crate) fn fetch(board: &mut Board, worker: u32, known: &mut Table) -> Result<Taken, OutOfMemory>
     requires room { known.old.room ≡ most_summaries board.old }
     requires front { StartsWith board.old.core.table known.old.summaries }
@@ -137,7 +137,7 @@ fn move_of(
     }
 }
 
-/// Makes a slice of a job that was just taken of some board, of at most so many steps.
+/// Makes a slice of a job that was just taken of some board, of at most `at_most` steps.
 fn worked_by(
     alloc: Global,
     memos: &mut Memos,
@@ -172,7 +172,7 @@ fn worked_by(
     Ok(Worked { job, next })
 }
 
-/// Makes a slice of a job that was just taken of the board, of at most so many steps. `known` is
+/// Makes a slice of a job that was just taken of the board, of at most `at_most` steps. `known` is
 /// the board's table. What the call of the board needs is made here, so that the call takes no
 /// memory.
 pub fn work_on(
@@ -262,7 +262,7 @@ pub fn make(
     Ok(Made { worked, spare })
 }
 
-/// What a call asks of a job, and what may be published of it, is kept behind any further events.
+/// What a call asks of a job, and what may be published of it, is kept after any further events.
 /// It does nothing.
 pub fn moves_keep()
     ensures { MovesKeep }

@@ -36,7 +36,7 @@ fn stop<G: Gate>(board: &mut Board, gate: &G, calls: &mut Calls, worker: u32)
     gate.pass(worker, call, true);
 }
 
-/// Takes a query for each worker, until there is none. Where a job comes, the pass behind the call
+/// Takes a query for each worker, until there is none. Where a job comes, the pass after the call
 /// is left to the thread of the worker.
 fn take_all<G: Gate>(
     board: &mut Board,
@@ -273,7 +273,7 @@ fn run<R: Threads + Sync, G: Gate>(
 /// Works at a board without history in rounds, until it is over: in each round every worker takes a
 /// query, in order, the slices are made at the same time, and the jobs are given back in the same
 /// order. Where no thread can be made the slices are made one after another. Of a job that is gone
-/// its summary is published, if it holds by itself. Want of memory stops the board, which is then
+/// its summary is published, if it holds by itself. Lack of memory stops the board, which is then
 /// dropped.
 pub fn rounds<R: Threads + Sync, G: Gate>(
     rt: &R,

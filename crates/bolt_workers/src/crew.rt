@@ -20,7 +20,7 @@ use std::thread;
 use std::thread::Threads;
 use summary_table::table::Table;
 
-/// A desk with a seat that has seen as much as this one. Its table has room for so many summaries.
+/// A desk with a seat that has seen as much as this one. Its table has room for `room` summaries.
 fn open_desk(
     alloc: Global,
     lock: &BoardLock<Board>,

@@ -13,7 +13,7 @@ pub fn ends_stay()
 {}
 
 /// A job that is out waits for each later board: it may be given back as it might before, and the
-/// same may be published of it. A table stays a front of the board's.
+/// same may be published of it. A table stays a prefix of the board's.
 pub fn jobs_wait()
     ensures { JobsWait }
 {}

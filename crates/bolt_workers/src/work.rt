@@ -42,8 +42,8 @@ fn work_under<R: Threads + Wait + Sync, G: Gate>(
     finish(rt, lock, desk)
 }
 
-/// Works at a board without history until it is over, with so many workers at once. Each takes a
-/// query, makes its slice while others have the board, and gives it back. Want of memory stops the
+/// Works at a board without history until it is over, with several workers at once. Each takes a
+/// query, makes its slice while others have the board, and gives it back. Lack of memory stops the
 /// board, which is then dropped.
 pub fn work<R: Threads + Wait + Sync, G: Gate>(
     rt: &R,

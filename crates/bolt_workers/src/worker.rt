@@ -68,7 +68,7 @@ fn fetch(board: &mut Board, worker: u32, known: &mut Table) -> Result<Taken, Out
     Ok(board.take(worker, known))
 }
 
-/// A take, with the worker's table brought up to the board's before. Want of memory stops the
+/// A take, with the worker's table brought up to the board's before. Lack of memory stops the
 /// board.
 fn take_once<R: Wait, G: Gate>(
     rt: &R,
@@ -154,7 +154,7 @@ fn publish_once<R: Wait, G: Gate>(
     free(lock, desk, board, all, gate);
 }
 
-/// Stops the board, for want of memory.
+/// Stops the board, for lack of memory.
 fn stop_once<R: Wait, G: Gate>(
     rt: &R,
     lock: &BoardLock<Board>,
@@ -223,7 +223,7 @@ fn make_with(
     }
 }
 
-/// Makes the slice of a job while others have the board, and gives the job back. Want of memory
+/// Makes the slice of a job while others have the board, and gives the job back. Lack of memory
 /// stops the board.
 fn do_job<R: Wait, G: Gate>(
     rt: &R,

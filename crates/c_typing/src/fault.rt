@@ -41,7 +41,7 @@ pub enum Which {
     Assertions,
 }
 
-/// A fault, in the order in which faults at one place are told.
+/// A fault, in the order in which faults at one place are reported.
 #[derive(Clone, Copy, PartialEq, Eq, Debug)]
 pub enum TypeFault {
     UnknownName,

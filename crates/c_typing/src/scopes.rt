@@ -103,7 +103,7 @@ impl<'a> Scopes<'a> {
         self.entries.len()
     }
 
-    /// Takes back all that came behind a mark.
+    /// Takes back all that came after a mark.
     pub fn back_to(&mut self, mark: usize)
         ensures { self.new.entries.items ≡ take mark self.old.entries.items }
     {

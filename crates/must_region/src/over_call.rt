@@ -118,7 +118,7 @@ fn failed_behind(exit: ExitKind, old: Option<AssertId>) -> Option<AssertId>
     }
 }
 
-/// The slots behind the call: where the must returns, the call's results have the outcome terms.
+/// The slots after the call: where the must returns, the call's results have the outcome terms.
 fn slots_behind(
     alloc: Global,
     trail: &Trail,

@@ -41,6 +41,7 @@ impl Model for MemSource {
 }
 
 impl MemSource {
+    /// A source of these bytes, at most `piece` a call, whose calls of the numbers `failing` fail.
     pub fn new(bytes: Vec<u8>, failing: Vec<u32>, piece: usize) -> MemSource
         requires { 1 ≤ piece }
         ensures { result ≡ record {

@@ -22,6 +22,7 @@ pub struct FromReader<R> {
 }
 
 impl<R: Read> FromReader<R> {
+    /// A source of what the reader gives.
     pub fn new(inner: R) -> FromReader<R>
         ensures inner { reader_of result ≡ inner }
         ensures faults { reader_faults result ≡ 0 }

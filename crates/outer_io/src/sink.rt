@@ -9,7 +9,7 @@ use crate::fault::Failed;
 
 /// Where bytes go to.
 pub trait Sink {
-    /// The bytes that it has taken, where it tells them.
+    /// The bytes that it has taken, where they are known.
     ghost taken: { Self → Option (List ℕ) };
 
     /// How often it failed.

@@ -81,7 +81,7 @@ fn read_piece<S: Source>(
     }
 }
 
-/// Writes all bytes, or a front of them and fails.
+/// Writes all bytes, or a prefix of them and fails.
 pub fn write_all<K: Sink>(sink: &mut K, bytes: &[u8]) -> Result<(), Failed>
     ensures ok { OnOk result (Appends (K.taken sink.old) (K.taken sink.new) bytes.now) }
     ensures err { OnErr result (WritesFront (K.taken sink.old) (K.taken sink.new) bytes.now) }

@@ -20,6 +20,7 @@ pub struct ToWriter<W> {
 }
 
 impl<W: Write> ToWriter<W> {
+    /// A sink into the writer.
     pub fn new(inner: W) -> ToWriter<W>
         ensures inner { writer_of result ≡ inner }
         ensures faults { writer_faults result ≡ 0 }

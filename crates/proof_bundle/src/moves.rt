@@ -15,7 +15,7 @@ use may_partition::region::RegionEdge;
 use query_rules::certificates::Certificates;
 use std::alloc::Global;
 
-/// An edge, with the byte `end` behind it.
+/// An edge, with the byte `end` after it.
 #[tactic(auto, unfolding(crate::specs::steps::Bundles::edge_at))]
 fn read_edge(bytes: &[u8], end: u8) -> Result<(RegionEdge, &[u8]), BundleError>
     ensures { Gives (λ r. (r.0, r.1.now)) result (edge_at end bytes.now) }

@@ -5,7 +5,7 @@ ghost use Rattle.proof_bundle.specs.steps.Reading.{Gives, IsFrom, below_zero_at,
 
 use crate::error::BundleError;
 
-/// What is behind a tag.
+/// What follows a tag.
 #[tactic(auto, unfolding(crate::specs::steps::Reading::tag_at))]
 pub fn behind<'a>(bytes: &'a [u8], tag: &[u8]) -> Result<&'a [u8], BundleError>
     ensures { Gives (λ r. r.now) result (tag_at tag.now bytes.now) }
@@ -94,7 +94,7 @@ fn value(digits: &[u8], most: u128) -> Result<u128, BundleError>
     }
 }
 
-/// A number of at most `most`, with the byte `end` behind it.
+/// A number of at most `most`, with the byte `end` after it.
 #[tactic(auto, unfolding(crate::specs::steps::Reading::number_at))]
 pub fn number(bytes: &[u8], end: u8, most: u128) -> Result<(u128, &[u8]), BundleError>
     ensures value { Gives (λ r. (r.0, r.1.now)) result (number_at end most bytes.now) }
@@ -106,7 +106,7 @@ pub fn number(bytes: &[u8], end: u8, most: u128) -> Result<(u128, &[u8]), Bundle
     Ok((value, rest))
 }
 
-/// A number below 0 behind its `-`, from `-most` on.
+/// A number below 0 after its `-`, from `-most` on.
 #[tactic(auto, unfolding(crate::specs::steps::Reading::below_zero_at))]
 fn below_zero(bytes: &[u8], end: u8, most: u128) -> Result<(i128, &[u8]), BundleError>
     requires { most < 2 ^ 127 }
@@ -120,7 +120,7 @@ fn below_zero(bytes: &[u8], end: u8, most: u128) -> Result<(i128, &[u8]), Bundle
     Ok((-(size as i128), rest))
 }
 
-/// A number from `-low` to `high`, with the byte `end` behind it.
+/// A number from `-low` to `high`, with the byte `end` after it.
 #[tactic(auto, unfolding(crate::specs::steps::Reading::signed_at))]
 pub fn signed(bytes: &[u8], end: u8, low: u128, high: u128) -> Result<(i128, &[u8]), BundleError>
     requires low { low < 2 ^ 127 }

@@ -17,7 +17,7 @@ pub trait Part: Drop {
 
     ghost at: { List ℕ → Read Pure };
 
-    /// The part whose text the bytes begin with, and the bytes behind it.
+    /// The part whose text the bytes begin with, and the bytes after it.
     fn read(alloc: Global, bytes: &[u8]) -> Result<(Self, &[u8]), BundleError>
         ensures { Gives (λ r. (pure r.0, r.1.now)) result (at bytes.now) };
 
@@ -27,7 +27,7 @@ pub trait Part: Drop {
             (string_bytes out.new ≡ string_bytes out.old ++ text (pure self.now)) };
 }
 
-/// So many parts, one behind the other. Memory is taken for those alone that are read.
+/// This many parts, one after the other. Memory is taken for those alone that are read.
 pub fn read_list<T: Part>(
     alloc: Global,
     bytes: &[u8],
@@ -45,7 +45,7 @@ pub fn read_list<T: Part>(
     Ok((items, rest))
 }
 
-/// Parts behind the line of their number.
+/// Parts after the line of their number.
 #[tactic(auto, unfolding(crate::specs::steps::Reading::lines_at))]
 pub fn read_lines<T: Part>(alloc: Global, bytes: &[u8]) -> Result<(Vec<T>, &[u8]), BundleError>
     ensures { Gives (λ r. (map T.pure r.0.items, r.1.now)) result (lines_at T.at bytes.now) }
@@ -54,7 +54,7 @@ pub fn read_lines<T: Part>(alloc: Global, bytes: &[u8]) -> Result<(Vec<T>, &[u8]
     read_list::<T>(alloc, rest, count)
 }
 
-/// A list of this kind of lines, behind the words that name it.
+/// A list of this kind of lines, after the words that name it.
 #[tactic(auto, unfolding(crate::specs::steps::Reading::tagged_at))]
 pub fn read_tagged<'a, T: Part>(
     alloc: Global,
@@ -68,7 +68,7 @@ pub fn read_tagged<'a, T: Part>(
     read_lines::<T>(alloc, rest)
 }
 
-/// Puts the texts at the end, one behind the other.
+/// Puts the texts at the end, one after the other.
 pub fn write_list<T: Part>(out: &mut String, items: &[T]) -> Result<(), AllocError>
     ensures { OnOk result
         (string_bytes out.new ≡ string_bytes out.old ++ flat_map T.text (map T.pure items.now)) }

@@ -47,7 +47,7 @@ fn part_of(bytes: &[u8], size: u128) -> Result<(&[u8], &[u8]), BundleError>
     Ok(bytes.split_at(size as usize))
 }
 
-/// The source, behind the bundle's first line and the number of its bytes.
+/// The source, after the bundle's first line and the number of its bytes.
 #[tactic(auto, unfolding(crate::specs::steps::Bundles::source_at))]
 fn read_source(bytes: &[u8]) -> Result<(&[u8], &[u8]), BundleError>
     ensures { Gives (λ r. (r.0.now, r.1.now)) result (source_at bytes.now) }

@@ -5,7 +5,7 @@ use crate::OutOfMemory;
 use std::alloc::Global;
 use std::marker::Model;
 
-/// Of each query its latest child, and its parent's child next before it. `work` has the queries
+/// For each query, its youngest child and its next older sibling. `work` has the queries
 /// to whose children a walk has still to go.
 #[derive(Drop)]
 pub struct Children {

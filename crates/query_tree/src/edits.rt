@@ -86,7 +86,7 @@ fn is_open_at<T>(entries: &[Entry<T>], id: u32) -> bool
     is_open(entries[id as usize].status)
 }
 
-/// Drops a query, and tells what was left of it.
+/// Drops a query, and answers what was left of it.
 fn drop_one<T>(entries: &mut [Entry<T>], live: &mut LiveCounts, id: u32, stamp: u64) -> u32
     requires here { id < length entries.old }
     requires live { Counts entries.old live.old }
@@ -104,7 +104,7 @@ fn drop_one<T>(entries: &mut [Entry<T>], live: &mut LiveCounts, id: u32, stamp: 
     left
 }
 
-/// Drops each open query under the query, and tells what was left of them. The walk goes from what
+/// Drops each open query under the query; answers what was left of them. The walk goes from what
 /// closes and from what it drops to the children.
 pub fn drop_under<T>(
     entries: &mut [Entry<T>],

@@ -39,21 +39,21 @@ pub fn rejected(alloc: Global, claim: u32) -> Result<Vec<u8>, OutOfMemory>
     Ok(text.into_bytes())
 }
 
-/// What is told of a bundle that is longer than one may be.
+/// What is written of a bundle that is longer than one may be.
 pub fn long_bundle() -> &'static [u8]
     ensures { result.now ≡ long_bundle_text }
 {
     LONG_BUNDLE.as_bytes()
 }
 
-/// What is told of bytes that are no bundle.
+/// What is written of bytes that are no bundle.
 pub fn no_bundle() -> &'static [u8]
     ensures { result.now ≡ no_bundle_text }
 {
     NO_BUNDLE.as_bytes()
 }
 
-/// What is told where the program has no assertion of the number that is asked for.
+/// What is written where the program has no assertion of the number that is asked for.
 pub fn no_assertion() -> &'static [u8]
     ensures { result.now ≡ no_assertion_text }
 {

@@ -1,4 +1,4 @@
-//! What is told of an edit beside the report of its new source.
+//! What is written of an edit beside the report of its new source.
 
 ghost use Rattle.std.specs.Prelude.{◌≡◌, IfOk};
 ghost use Rattle.report_text.specs.Edits.{kept_line, old_refusal_text, short_source_text};
@@ -17,7 +17,7 @@ pub fn kept(alloc: Global, kept: u32, all: u32) -> Result<Vec<u8>, OutOfMemory>
     Ok(text.into_bytes())
 }
 
-/// What is told where there are fewer bytes than the old source is to have.
+/// What is written where there are fewer bytes than the old source is to have.
 pub fn short_source(alloc: Global, length: u32) -> Result<Vec<u8>, OutOfMemory>
     ensures { IfOk result (λ text. text.items ≡ short_source_text length) }
 {
@@ -25,7 +25,7 @@ pub fn short_source(alloc: Global, length: u32) -> Result<Vec<u8>, OutOfMemory>
     Ok(text.into_bytes())
 }
 
-/// What is told of an old source that is refused. Want of memory is no refusal.
+/// What is written of an old source that is refused. Lack of memory is no refusal.
 pub fn old_refusal(alloc: Global, why: &Refusal) -> Result<Vec<u8>, OutOfMemory>
     requires { IsOfSource why.now }
     ensures { IfOk result (λ text. text.items ≡ old_refusal_text (refusal_of why.now)) }

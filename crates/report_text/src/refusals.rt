@@ -56,7 +56,7 @@ pub fn refusal_text(alloc: Global, why: Refusal) -> Result<String, OutOfMemory>
     }
 }
 
-/// What is told of a source that is refused. Want of memory is no refusal.
+/// What is written of a source that is refused. Lack of memory is no refusal.
 pub fn refusal(alloc: Global, why: &Refusal) -> Result<Vec<u8>, OutOfMemory>
     requires { IsOfSource why.now }
     ensures { IfOk result (λ text. text.items ≡ refusal_text why.now) }

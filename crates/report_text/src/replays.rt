@@ -39,7 +39,7 @@ fn replay_text(
     }
 }
 
-/// What is told of a replay of a program with this fuel. An assertion that failed is one of the
+/// What is written of a replay of a program with this fuel. An assertion that failed is one of the
 /// program's.
 pub fn replayed(
     alloc: Global,

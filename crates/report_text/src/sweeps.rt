@@ -10,7 +10,7 @@ use c_tree::tree::{AssertPlace, Program};
 use shadow_elim::limit::LimitKind;
 use std::alloc::Global;
 
-/// What is told of the assertions that no counted path reaches.
+/// What is written of the assertions that no counted path reaches.
 #[derive(Clone, Copy, PartialEq, Eq, Debug)]
 pub enum Unfound {
     /// Every path was counted.
@@ -21,7 +21,7 @@ pub enum Unfound {
     Limit(LimitKind),
 }
 
-/// Appends what is told of an assertion that no counted path reaches.
+/// Appends what is written of an assertion that no counted path reaches.
 fn push_unfound(text: &mut String, others: Unfound) -> Result<(), OutOfMemory>
     ensures { OnOk result (string_bytes text.new
         ≡ string_bytes text.old ++ unfound_text others) }
@@ -33,7 +33,7 @@ fn push_unfound(text: &mut String, others: Unfound) -> Result<(), OutOfMemory>
     }
 }
 
-/// Appends what is told of an assertion.
+/// Appends what is written of an assertion.
 fn push_entry(
     text: &mut String,
     entry: &Option<Vec<i64>>,
@@ -92,7 +92,7 @@ fn is_unfound(entry: &Option<Vec<i64>>) -> bool
     matches!(entry, None)
 }
 
-/// Whether `proved` is told of an assertion.
+/// Whether `proved` is written of an assertion.
 fn is_proved(entry: &Option<Vec<i64>>, others: Unfound) -> bool
     ensures { result ≡ is_proved_entry others (entry_of entry.now) }
 {
@@ -102,7 +102,7 @@ fn is_proved(entry: &Option<Vec<i64>>, others: Unfound) -> bool
     }
 }
 
-/// Whether `unknown` is told of an assertion.
+/// Whether `unknown` is written of an assertion.
 fn is_unknown(entry: &Option<Vec<i64>>, others: Unfound) -> bool
     ensures { result ≡ is_unknown_entry others (entry_of entry.now) }
 {
@@ -151,7 +151,7 @@ pub fn is_any_unfound(found: &[Option<Vec<i64>>]) -> bool
 }
 
 /// The text of a sweep: a line for each assertion of the program, with the inputs of a counted path
-/// that reaches it, or what is told of all others, and how many there are of each kind.
+/// that reaches it, or what is written of all others, and how many there are of each kind.
 pub fn swept(
     alloc: Global,
     program: &Program,

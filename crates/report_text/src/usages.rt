@@ -13,7 +13,7 @@ usage: smash check [--budget n] [--workers n]
        smash edit n [--budget n] [--workers n]
 ";
 
-/// What is told of words that are no command.
+/// What is written of words that are no command.
 pub fn usage() -> &'static [u8]
     ensures { result.now ≡ usage_text }
 {

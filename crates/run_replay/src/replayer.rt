@@ -12,7 +12,7 @@ use crate::step::{enter, step};
 use c_tree::tree::Program;
 use std::alloc::Global;
 
-/// Runs `main` on these inputs, with at most so many steps: one step is a statement, a test of a
+/// Runs `main` on these inputs, with at most `fuel` steps: one step is a statement, a test of a
 /// loop or a node of an expression. The result is the only one that there is, by
 /// `c_tree::laws::one_replay`. A call takes memory for its slots and for what waits for it, and no
 /// stack.

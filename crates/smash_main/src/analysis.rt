@@ -159,7 +159,7 @@ pub fn board_by_one(alloc: Global, program: &Program, budget: u32) -> Result<Boa
 }
 
 /// Analyses each assertion of a program, whose divisors are literals, with a budget of legal steps
-/// of its own, by so many workers, where these summaries are known to hold.
+/// of its own, by `effort.workers` workers, where these summaries are known to hold.
 pub fn analyse_with<R: Threads + Wait + Sync, G: Gate>(
     rt: &R,
     alloc: Global,

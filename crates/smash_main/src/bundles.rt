@@ -27,7 +27,7 @@ use std::alloc::{AllocError, Global};
 /// The most bytes that the text of a bundle may have, `bundle_limit` of the clauses.
 const BUNDLE_LIMIT: usize = 16_777_216;
 
-/// A status, and what is told with it.
+/// A status, and the text with it.
 #[derive(Drop)]
 pub struct Told {
     status: u8,
@@ -63,7 +63,7 @@ fn proof_told(
     }
 }
 
-/// What is told of an assertion with its verdict.
+/// What is written of an assertion with its verdict.
 fn verdict_told(
     alloc: Global,
     board: &Board,
@@ -90,7 +90,7 @@ fn verdict_told(
     Ok(Told { status, text })
 }
 
-/// What is told of an assertion of a program at its board.
+/// What is written of an assertion of a program at its board.
 fn assertion_told(
     alloc: Global,
     program: &Program,

@@ -53,7 +53,7 @@ fn follow_step(
     };
     match lead(board, id, state, by) {
         Some(other) => {
-            // (It is told here that there are fewer queries than numbers.)
+            // (It is known here that there are fewer queries than numbers.)
             let _count = board.forest().count();
             listing.add(other)
         }
@@ -84,7 +84,7 @@ fn follow(board: &Board, listing: &mut Listing, id: QueryId) -> Result<(), OutOf
     Ok(())
 }
 
-/// The root is listed, and behind it the queries to which the kills of listed ones lead, until
+/// The root is listed, and after it the queries to which the kills of listed ones lead, until
 /// there is none that isn't.
 fn fill(board: &Board, listing: &mut Listing, root: u32) -> Result<(), OutOfMemory>
     requires bare { IsBare board.now }
@@ -99,7 +99,7 @@ fn fill(board: &Board, listing: &mut Listing, root: u32) -> Result<(), OutOfMemo
     ensures anchored { OnOk result (AreAnchored board.now listing.new.ids.items) }
 {
     board.reached();
-    // (It is told here that there are fewer queries than numbers.)
+    // (It is known here that there are fewer queries than numbers.)
     let _count = board.forest().count();
     listing.add(root)?;
     let mut at = 0;

@@ -142,7 +142,7 @@ fn edit_programs<R: Threads + Wait + Sync, G: Gate>(
     }
 }
 
-/// The reply to a new source, behind an old program.
+/// The reply to a new source, after an old program.
 fn new_reply<R: Threads + Wait + Sync, G: Gate>(
     rt: &R,
     alloc: Global,

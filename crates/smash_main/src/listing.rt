@@ -17,7 +17,7 @@ pub struct Listing {
 }
 
 impl Listing {
-    /// None of so many queries.
+    /// None of `count` queries.
     pub fn begin(alloc: Global, count: u32) -> Result<Listing, OutOfMemory>
         ensures listing { IfOk result (λ l. IsListing count l.ids.items l.numbers.items) }
         ensures empty { IfOk result (λ l. l.ids.items ≡ []) }
@@ -37,7 +37,7 @@ impl Listing {
         self.numbers[id as usize]
     }
 
-    /// The query stands behind the others, unless it is listed.
+    /// The query stands after the others, unless it is listed.
     pub fn add(&mut self, id: QueryId) -> Result<(), OutOfMemory>
         requires listing { IsListing (length self.old.numbers.items) self.old.ids.items
             self.old.numbers.items }

@@ -30,7 +30,7 @@ use std::alloc::AllocError;
 use std::io;
 use std::process::ExitCode;
 
-/// Status 7: want of memory.
+/// Status 7: lack of memory.
 const NO_MEMORY: u8 = 7;
 
 /// The words after the program's name. Words that can't be read, as those that aren't UTF-8, are no

@@ -61,7 +61,7 @@ pub fn closed_state(board: &Board, id: QueryId) -> &QueryState
     }
 }
 
-/// How many queries were asked behind a step.
+/// How many queries were asked after a step.
 pub fn asked_behind(step: &Step, entry: usize) -> usize
     requires { entry + 1 < 2 ^ 64 }
     ensures { result ≡ asked_after step.now entry }
@@ -250,7 +250,7 @@ impl<'a> Maker<'a> {
         }
     }
 
-    /// Puts what a stored step makes behind the moves before it.
+    /// Puts what a stored step makes after the moves before it.
     fn push_step(
         &self,
         alloc: Global,
@@ -275,7 +275,7 @@ impl<'a> Maker<'a> {
         Ok(())
     }
 
-    /// Puts what all stored steps make behind no moves.
+    /// Puts what all stored steps make after no moves.
     fn make_all(
         &self,
         alloc: Global,

@@ -23,7 +23,7 @@ use proof_bundle::read_bundle;
 use report_text::{accepted, no_assertion, no_bundle, rejected};
 use std::alloc::{AllocError, Global};
 
-/// What is told of a bundle that was checked.
+/// What is written of a bundle that was checked.
 fn checked_reply(alloc: Global, place: &AssertPlace, checked: Checked) -> Result<Reply, AllocError>
     ensures { IfOk result (λ a. TellsChecked place.now checked a.status a.text.items
         (handed_in a)) }

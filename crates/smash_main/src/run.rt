@@ -27,7 +27,7 @@ const SOURCE_LIMIT: usize = 65_536;
 const BUNDLE_LIMIT: usize = 16_777_216;
 
 /// How the program ended: 0, 1 and 2 are verdicts, 3 is a refusal of the source, 4 of the words, 5
-/// a failed read, 6 a failed write, 7 want of memory. Where an analysis came to its end, its board
+/// a failed read, 6 a failed write, 7 lack of memory. Where an analysis came to its end, its board
 /// is handed back, which is over; the root of each assertion has its number. Beside it, of an edit,
 /// the board of the old source.
 #[derive(Drop)]
@@ -91,7 +91,7 @@ fn limit(command: &Command) -> usize
     }
 }
 
-/// What is told where there are more, unless memory runs out.
+/// What is written where there are more, unless memory runs out.
 fn too_long(alloc: Global, command: &Command) -> Result<Vec<u8>, AllocError>
     ensures { IfOk result (λ text. text.items ≡ long_text_of (command_of command.now)) }
 {

@@ -17,7 +17,7 @@ use report_text::sweeps::Unfound;
 use report_text::{is_any_found, is_any_unfound, swept};
 use std::alloc::{AllocError, Global};
 
-/// What is told of the assertions that a sweep of so many edges didn't find.
+/// What is written of the assertions that a sweep of at most `edges` edges didn't find.
 fn unfound(end: &SweepEnd, edges: u32) -> Unfound
     ensures { result ≡ unfound_at edges end.now }
 {
@@ -41,7 +41,7 @@ fn status(others: Unfound, found: &[Option<Vec<i64>>]) -> u8
     }
 }
 
-/// What is told of a sweep of at most so many edges.
+/// What is written of a sweep of at most `edges` edges.
 fn swept_reply(
     alloc: Global,
     program: &Program,

@@ -87,7 +87,7 @@ fn told_of<R: Threads + Wait + Sync>(
     told(rt, alloc, line, source_of(alloc, text, 4096, 1000)?, 4096)
 }
 
-/// Each row is told so.
+/// Each row is answered so.
 fn agree<R: Abort + Threads + Wait + Sync>(
     rt: &R,
     alloc: Global,
@@ -232,7 +232,7 @@ fn answers_afterwards(rt: HostRuntime) -> Result<(), Fail> {
     agree(&rt, rt.alloc(), &AFTERWARDS)
 }
 
-/// What is told of the bundle that words make of a text.
+/// What is written of the bundle that words make of a text.
 fn rechecked<R: Threads + Wait + Sync>(
     rt: &R,
     alloc: Global,
@@ -252,7 +252,7 @@ fn rechecked<R: Threads + Wait + Sync>(
     }
 }
 
-/// The bundle of each row is told so.
+/// The bundle of each row is answered so.
 #[test]
 fn accepts_what_it_bundles(rt: HostRuntime) -> Result<(), Fail> {
     for (line, text, wanted) in BUNDLED {
@@ -272,7 +272,7 @@ fn tells_the_usage(rt: HostRuntime) -> Result<(), Fail> {
     agree(&rt, rt.alloc(), &NO_COMMANDS)
 }
 
-/// What is told of a source that gives 4 bytes a call, of which one fails.
+/// What is written of a source that gives 4 bytes a call, of which one fails.
 fn of_faults<R: Threads + Wait + Sync>(
     rt: &R,
     alloc: Global,
@@ -282,7 +282,7 @@ fn of_faults<R: Threads + Wait + Sync>(
     told(rt, alloc, "check", source_of(alloc, SUM, 4, failing)?, room)
 }
 
-/// Each row of faults is told so.
+/// Each row of faults is answered so.
 fn agree_on_faults<R: Abort + Threads + Wait + Sync>(
     rt: &R,
     alloc: Global,
@@ -310,7 +310,7 @@ fn tells_of_each_failed_read(rt: HostRuntime) -> Result<(), Fail> {
     Ok(())
 }
 
-/// Whether the status is 6, behind a front of the report of this length.
+/// Whether the status is 6, after a prefix of the report of this length.
 fn is_front(told: &str, room: usize) -> bool {
     match told.strip_prefix("6 ") {
         Some(front) => front.len() == room && SUM_REPORT.starts_with(front),
@@ -334,7 +334,7 @@ fn push_times(text: &mut String, part: &str, count: usize) -> Result<(), Fail> {
     Ok(())
 }
 
-/// What is told of a source that nests so deep.
+/// What is written of a source that nests so deep.
 fn of_nesting<R: Threads + Wait + Sync>(
     rt: &R,
     alloc: Global,
@@ -357,7 +357,7 @@ fn bounds_nesting(rt: HostRuntime) -> Result<(), Fail> {
     Ok(())
 }
 
-/// What is told of so many blanks.
+/// What is written of so many blanks.
 fn of_blanks<R: Threads + Wait + Sync>(
     rt: &R,
     alloc: Global,
@@ -368,7 +368,7 @@ fn of_blanks<R: Threads + Wait + Sync>(
     told(rt, alloc, "check", source, 4096)
 }
 
-/// Each number of blanks is told so.
+/// Each number of blanks is answered so.
 fn agree_on_blanks<R: Abort + Threads + Wait + Sync>(
     rt: &R,
     alloc: Global,
@@ -386,7 +386,7 @@ fn bounds_a_source(rt: HostRuntime) -> Result<(), Fail> {
     agree_on_blanks(&rt, rt.alloc(), &BLANKS)
 }
 
-/// What is told of a body.
+/// What is written of a body.
 fn of_body<R: Threads + Wait + Sync>(rt: &R, alloc: Global, body: &str) -> Result<String, Fail> {
     let text = format!(in alloc;
         "int f(int a, int b) {{ return a - b * 2; }} int main() {{ {body}\n}} /* end */ // end"
@@ -394,7 +394,7 @@ fn of_body<R: Threads + Wait + Sync>(rt: &R, alloc: Global, body: &str) -> Resul
     told_of(rt, alloc, "replay|[]", text.as_str())
 }
 
-/// Each body is told so.
+/// Each body is answered so.
 fn agree_on_bodies<R: Abort + Threads + Wait + Sync>(
     rt: &R,
     alloc: Global,
@@ -417,7 +417,7 @@ fn values_of_quotients(rt: HostRuntime) -> Result<(), Fail> {
     agree_on_bodies(&rt, rt.alloc(), &DIVIDED)
 }
 
-/// What is told of a head, a part so many times, with its number between its halves, and a tail.
+/// What is written of a head, a part so many times, with its number between its halves, and a tail.
 fn of_parts<R: Threads + Wait + Sync>(
     rt: &R,
     alloc: Global,
@@ -434,7 +434,7 @@ fn of_parts<R: Threads + Wait + Sync>(
     told_of(rt, alloc, "replay|[]", text.as_str())
 }
 
-/// Each limit is told so.
+/// Each limit is answered so.
 fn agree_on_limits<R: Abort + Threads + Wait + Sync>(
     rt: &R,
     alloc: Global,

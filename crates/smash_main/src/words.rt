@@ -170,7 +170,7 @@ fn number(text: &[u8], low: u64, high: u64) -> Option<u64>
     if low <= value { Some(value) } else { None }
 }
 
-/// The value of the digits behind a `-`, from -2^63 to -1.
+/// The value of the digits after a `-`, from -2^63 to -1.
 fn negative(digits: &[u8]) -> Option<i64>
     ensures some { IfSome result (λ z. IsNegative digits.now z) }
     ensures none { IfNone result ((z : ℤ) → IsNegative digits.now z → ⊥) }
@@ -207,7 +207,7 @@ fn is_blank(text: &[u8]) -> bool
     text.iter().all(|b| *b == b' ')
 }
 
-/// The value in a text that may have spaces before and behind it.
+/// The value in a text that may have spaces before and after it.
 fn piece(text: &[u8]) -> Option<i64>
     ensures some { IfSome result (λ z. IsPiece text.now z) }
     ensures none { IfNone result ((z : ℤ) → IsPiece text.now z → ⊥) }

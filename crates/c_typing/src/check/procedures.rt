@@ -128,7 +128,7 @@ struct Before {
     globals: usize,
 }
 
-/// An item of a file. The result says what stands before what is behind it.
+/// An item of a file. The result says what stands before what is after it.
 fn item(
     alloc: Global,
     table: &Table<'_>,

@@ -24,7 +24,7 @@ pub struct VariablePlace {
     pub in_loop: bool,
 }
 
-/// A declaration that stands alone is in scope nowhere behind it.
+/// A declaration that stands alone is in scope nowhere after it.
 fn alone<'a>(
     file: &FileScope<'_, '_>,
     scopes: &mut Scopes<'a>,
@@ -97,7 +97,7 @@ fn returned(
     Ok(())
 }
 
-/// A statement; behind it the scopes are as before.
+/// A statement; after it the scopes are as before.
 #[cycle(statements)]
 fn statement<'a>(
     file: &FileScope<'_, '_>,

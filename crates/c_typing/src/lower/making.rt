@@ -92,7 +92,7 @@ pub fn while_loop(
     boxed(state.alloc, Stmt::Loop { test, step, body })
 }
 
-/// A loop that tests behind its body.
+/// A loop that tests after its body.
 pub fn do_while(
     file: &FileScope<'_, '_>,
     state: &State<'_>,

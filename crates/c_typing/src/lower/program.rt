@@ -78,7 +78,7 @@ fn finished(tree: &ProcTree, slots: u32, body: Vec<Stmt>) -> Result<Procedure, A
     })
 }
 
-/// A procedure; so many assertions stand before it. `id` is left behind its own.
+/// A procedure; so many assertions stand before it. `id` is left after its own.
 fn procedure(
     alloc: Global,
     file: &FileScope<'_, '_>,

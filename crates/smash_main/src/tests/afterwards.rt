@@ -103,7 +103,7 @@ pub const AFTERWARDS: [Row; 22] = [
     ("edit|61", SUM, "3 refused 1:1: no main\n"),
 ];
 
-/// The words that make a bundle, a source, and what is told of the bundle.
+/// The words that make a bundle, a source, and what is written of the bundle.
 pub const BUNDLED: [Row; 5] = [
     ("bundle|1", SUM, "0 accepted 1:35\n"),
     (

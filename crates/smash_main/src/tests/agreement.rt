@@ -17,7 +17,7 @@ const HEADS: [&str; 6] = [
     "if (x != y && y > 0) y = 0;",
 ];
 
-/// What stands before the head, between it and the assertion, and behind the assertion.
+/// What stands before the head, between it and the assertion, and after the assertion.
 type Shape = (&'static str, &'static str, &'static str);
 
 const BODIES: [Shape; 6] = [
@@ -68,7 +68,7 @@ const CALLING: [Shape; 6] = [
         "x = f(x);",
         "}",
     ),
-    // recursion with work behind the call
+    // recursion with work after the call
     (
         "int f(int a, int b) { if (a <= 0) return b; return f(a - 1, b) + 1; } int main() { int x = input(); int y = input();",
         "y = f(x, y);",

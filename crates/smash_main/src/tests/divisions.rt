@@ -131,7 +131,7 @@ pub const DIVISION_CHECKS: [Row; 6] = [
     ),
 ];
 
-/// A body of `main`, beside a procedure `f`, and what is told of it.
+/// A body of `main`, beside a procedure `f`, and what is written of it.
 pub const DIVIDED: [(&str, &str); 34] = [
     ("return 7 / 2;", "0 returned 3, inputs used 0\n"),
     ("return -7 / 2;", "0 returned -3, inputs used 0\n"),

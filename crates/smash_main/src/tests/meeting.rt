@@ -7,7 +7,7 @@ use std::thread;
 /// How often a worker looks for the other one at most.
 const TURNS: u32 = 10_000_000;
 
-/// Holds each worker behind its first call, a take, until the other one is there too. `met` counts
+/// Holds each worker after its first call, a take, until the other one is there too. `met` counts
 /// those that saw the other.
 #[derive(Drop)]
 pub struct Meeting {

@@ -472,7 +472,7 @@ pub const NESTINGS: [Nesting; 3] = [
     ),
 ];
 
-/// A body of `main`, beside a procedure `f`, and what is told of it.
+/// A body of `main`, beside a procedure `f`, and what is written of it.
 pub const BODIES: [(&str, &str); 25] = [
     ("", "0 returned 0, inputs used 0\n"),
     ("return;", "0 returned 0, inputs used 0\n"),
@@ -719,7 +719,7 @@ pub const LIMITS: [Limit; 23] = [
     ),
 ];
 
-/// How many blanks a source has, and what is told of it.
+/// How many blanks a source has, and what is written of it.
 pub const BLANKS: [(usize, &str); 2] = [
     (65_536, "3 refused 1:1: no main\n"),
     (65_537, "3 refused: source longer than 65536 bytes\n"),

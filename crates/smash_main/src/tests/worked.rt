@@ -51,7 +51,7 @@ pub const WORKED: [Row; 19] = [
         "int main(){{{{{{{{{{{{{{{{{{{{{{{{{{{{{{{{{{{{{{{{{{{{{{{{{{{{{{{{{{{{{{{{{",
         "3 refused 1:75: nested too deep\n",
     ),
-    // an assertion behind a call that counts, and one of the count
+    // an assertion after a call that counts, and one of the count
     (
         "check",
         "int g = 0;\nint step() { g = g + 1; return g; }\nint main() { int a = step(); assert(a == 1); assert(g == 1); return 0; }",
@@ -63,7 +63,7 @@ pub const WORKED: [Row; 19] = [
         "int g = 7;\nvoid put(int v) { g = v; }\nint main() { put(input()); assert(g != 9); return 0; }",
         "1 3:28: found [9]\nsummary: 0 proved, 1 found, 0 unknown\n",
     ),
-    // a global before and behind a call that changes it
+    // a global before and after a call that changes it
     (
         "replay|[]",
         "int g = 1; int f() { g = 5; return 10; } int main() { return g + f() + g; }",
