@@ -87,18 +87,15 @@ fn measures_before_it_tightens(rt: HostRuntime) -> Result<(), Fail> {
     Ok(())
 }
 
-/// Upper and lower rows of column 0, each with a column of its own.
+/// Column 0 is at most each of so many columns, and at least each of so many others.
 fn fan(alloc: Global, each: u8) -> Result<Cube, LinError> {
     let mut atoms = Atoms::new(alloc);
     for i in 0..each {
-        push_row(&mut atoms, alloc, &(&[(1, 0), (1, 1 + u32::from(i))], 0))?;
+        push_row(&mut atoms, alloc, &(&[(1, 0), (-1, 1 + u32::from(i))], 0))?;
     }
     for i in 0..each {
-        push_row(
-            &mut atoms,
-            alloc,
-            &(&[(-1, 0), (1, 1001 + u32::from(i))], 0),
-        )?;
+        let column = 1 + u32::from(each) + u32::from(i);
+        push_row(&mut atoms, alloc, &(&[(-1, 0), (1, column)], 0))?;
     }
     Ok(Cube { atoms })
 }
