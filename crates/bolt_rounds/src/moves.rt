@@ -12,7 +12,7 @@ use bolt_core::job::{Gone, Job, Taken};
 use flow_graph::graphs::Graphs;
 use linear_formula::error::OutOfMemory;
 use punch_step::memo::Memos;
-use punch_step::slice::{SliceEnd, Sliced, slice};
+use punch_step::slice::{SliceEnd, Sliced, slice_with};
 use query_rules::state::{QueryState, begin_state};
 use query_rules::step::Closing;
 use query_tree::Rest;
@@ -160,7 +160,7 @@ fn worked_by(
         mut state,
         ..
     } = job;
-    let Sliced { steps, end } = slice(alloc, memos, &mut state, graphs, known, left, at_most)?;
+    let Sliced { steps, end } = slice_with(alloc, memos, &mut state, graphs, known, left, at_most)?;
     let next = move_of(alloc, graphs, &state, end)?;
     let job = Job {
         id,

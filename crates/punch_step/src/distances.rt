@@ -30,6 +30,9 @@ pub struct Distances {
     pub shut: EdgeList,
     pub marked: Vec<bool>,
     pub reach: Reach,
+    /// Where each region's way stood among the region's edges when it was found. It may have moved
+    /// since.
+    pub spots: Vec<usize>,
     /// Regions whose way may lead nowhere any more.
     pub waiting: Vec<u32>,
 }
@@ -97,6 +100,7 @@ impl Distances {
             shut,
             marked,
             reach,
+            spots: vec![in alloc; 0; regions]?,
             waiting: Vec::new(alloc),
         })
     }
@@ -155,6 +159,21 @@ impl Distances {
         Ok(())
     }
 
+    /// Notes where the region's way stands among its edges.
+    fn note_spot(&mut self, partition: &Partition, region: u32, way: &RegionEdge)
+        requires region { region < length partition.now.regions }
+        ensures rest { KeepsRest self.old self.new }
+        ensures reach { self.new.reach ≡ self.old.reach }
+    {
+        let edges = partition.edges_from(region);
+        let Some(place) = edges.iter().position(|edge| *edge == *way) else {
+            return;
+        };
+        if let Some(spot) = self.spots.get_mut(region as usize) {
+            *spot = place;
+        }
+    }
+
     /// Raises the region's distance to the least one over an open edge.
     fn raise(&mut self, partition: &Partition, region: u32) -> Result<(), OutOfMemory>
         requires far { AreOf partition.now self.old }
@@ -169,6 +188,7 @@ impl Distances {
         let (near, way) = self.nearest(partition, region);
         let far = one_more(near);
         self.reach.way[region as usize] = way;
+        self.note_spot(partition, region, &way);
         if far == old {
             return Ok(());
         }
@@ -237,6 +257,7 @@ impl Distances {
         for piece in self.reach.far.len()..regions {
             self.reach.far.push(far)?;
             self.reach.way.push(way)?;
+            self.spots.push(0)?;
             self.waiting.push(number_behind(piece)?)?;
         }
         Ok(())
@@ -287,6 +308,20 @@ impl Distances {
         }
     }
 
+    /// Whether the edge stands where the region's way was found. Then it is live, which takes a
+    /// search else.
+    fn is_at_spot(&self, partition: &Partition, region: u32, edge: &RegionEdge) -> bool
+        ensures { IsTrue result → IsTrue (is_live partition.now.edges edge.now) }
+    {
+        if region as usize >= partition.regions().len() {
+            return false;
+        }
+        let Some(spot) = self.spots.get(region as usize) else {
+            return false;
+        };
+        partition.edges_from(region).get(*spot) == Some(edge)
+    }
+
     /// Whether the edge is open and leads nearer to the target.
     fn leads_on(&self, partition: &Partition, here: u32, edge: &RegionEdge) -> bool
         ensures leads { IsTrue result → LeadsNearer partition.now.edges self.now.shut
@@ -303,7 +338,7 @@ impl Distances {
         edge.from == here
             && *next != 0
             && *next < *far
-            && partition.live(edge)
+            && (self.is_at_spot(partition, here, edge) || partition.live(edge))
             && !self.shut.has(edge)
     }
 

@@ -7,7 +7,6 @@ ghost use Rattle.step_tests.specs.Ready.{IsEnded, IsFitting, IsReady};
 
 use flow_graph::graphs::Graphs;
 use linear_formula::error::OutOfMemory;
-use punch_step::memo::Memos;
 use punch_step::slice::{Sliced, slice};
 use query_rules::laws::{a_longer_state, an_asked_query};
 use query_rules::state::{QueryState, begin_state};
@@ -60,6 +59,5 @@ pub fn sliced(
 {
     a_longer_state();
     an_asked_query();
-    let mut memos = Memos::new(alloc)?;
-    slice(alloc, &mut memos, state, graphs, table, left, at_most)
+    slice(alloc, state, graphs, table, left, at_most)
 }

@@ -7,23 +7,23 @@ use Rattle.bolt_rounds.proofs.Moving.{may_end, may_move}
 use Rattle.bolt_rounds.proofs.Sliced.{begun_at, sliced_at}
 use Rattle.bolt_rounds.proofs.moves.worked_by.Goals as goal
 
-pub slice-requires-clause-state : goal.slice-requires-clause-state
-slice-requires-clause-state c =
+pub slice_with-requires-clause-state : goal.slice_with-requires-clause-state
+slice_with-requires-clause-state c =
     let w = c.requires.job in (
       w.taken.sound.state.graph,
       w.taken.sound.state.model,
       begun_at w.board c.args.job w.is_board w.taken c.args.graphs.now.graphs c.args.known.now.summaries w.graphs w.table,
     )
 
-pub slice-requires-clause-answered : goal.slice-requires-clause-answered
-slice-requires-clause-answered c =
+pub slice_with-requires-clause-answered : goal.slice_with-requires-clause-answered
+slice_with-requires-clause-answered c =
     let w = c.requires.job in
     subst (λ (l : List Summary). AreAnswered l c.args.job.state.asked) (sym w.table) w.taken.answered
 
 pub move_of-requires : goal.move_of-requires
 move_of-requires c =
     let w = c.requires.job in
-    let s = c.slice.new.state in
+    let s = c.slice_with.new.state in
     let made = c.in_ok-steps.field-0 in
     let o = sliced_at w.board c.args.job w.is_board w.taken c.args.graphs.now.graphs c.args.known.now.summaries w.graphs w.table
     c.args.at_most s made c.in_ok-steps.ensures in
@@ -35,12 +35,12 @@ returns-clause-few c =
     let w = c.requires.job in
     let made = c.in_ok-steps.field-0 in
     let o = sliced_at w.board c.args.job w.is_board w.taken c.args.graphs.now.graphs c.args.known.now.summaries w.graphs w.table
-    c.args.at_most c.slice.new.state made c.in_ok-steps.ensures in
+    c.args.at_most c.slice_with.new.state made c.in_ok-steps.ensures in
     o.sliced.in_most
 
 pub returns-clause-may : goal.returns-clause-may
 returns-clause-may c =
-    let s = c.slice.new.state in
+    let s = c.slice_with.new.state in
     let made = c.in_ok-steps.field-0 in
     λ b h e f t.
     let o = sliced_at b c.args.job h t c.args.graphs.now.graphs c.args.known.now.summaries e f c.args.at_most s made
