@@ -43,7 +43,7 @@ use Rattle.call_bridge.proofs.Calling.{asked_exact}
 use Rattle.call_bridge.proofs.Leading.{must_holds, must_region}
 use Rattle.call_bridge.proofs.Naming.{row_sums_named, rows_named_append, rows_wider, sums_are_terms}
 use Rattle.call_bridge.proofs.Queries.{inner_low, query_holds}
-use Rattle.query_rules.specs.Decided.{called_trail}
+use Rattle.query_rules.specs.Crossings.{IsRead, OfSome, ServesNeither, call_by, called_trail}
 use Rattle.query_rules.specs.Rows.{CallAt, MustAt, seen_at}
 use Rattle.query_rules.specs.States.{AllHold}
 use Rattle.query_rules.specs.Steps.{Model}
@@ -52,8 +52,6 @@ use Rattle.query_rules.proofs.CalledPoints.{calls_parted}
 use Rattle.query_rules.proofs.Marked.{IsMarked}
 use Rattle.query_rules.proofs.Reaching.{Good, fits_call, fits_must}
 use Rattle.query_rules.proofs.Shown.{names_same}
-use Rattle.punch_step.specs.ByMusts.{ServesNeither}
-use Rattle.punch_step.specs.Sights.{IsRead}
 use Rattle.punch_step.proofs.PlanPoints.{met_point, never_apart}
 
 -- Terms at the end of a trail
@@ -204,10 +202,10 @@ module _ (gs : List Graph) (linked : AreGraphs gs) (g : Graph) (table : List Sum
   pub must_serves : (w : StandsAt gs g m k) → TraceNamesOwn w.trail → NamesTerms w.trail → (q : Query) (rows : List Atom) →
       asked c.exit c.args c.results source target ≡ gives rows None → q.start.atoms ≡ start_of rows → q.end.atoms ≡ end_of rows →
       AnswersYes q path → (pre : List Atom) → must_preimage path c.args c.results target ≡ gives pre None →
-      ¬ ServesNeither m.query w.trail g.fail (Call c.from c.to c.proc c.args c.results) source target path
-  must_serves w own n q rows is start end y pre exact = λ s. by_part s.parts_not.pre (same s) s.parts_not.fails (parted s) where
+      ¬ ServesNeither m.query (w.trail ∷ []) source (call_by c path)
+  must_serves w own n q rows is start end y pre exact = λ s. by_part s.not_split.pre (same s) s.not_split.fails (parted s) where
     Neither : Type 0
-    Neither = ServesNeither m.query w.trail g.fail (Call c.from c.to c.proc c.args c.results) source target path
+    Neither = ServesNeither m.query (w.trail ∷ []) source (call_by c path)
 
     Parted : Type 0
     Parted = (pre ≢ []) × (¬ HasPoint (seen_at m.query w.trail (source ++ pre)))
@@ -215,20 +213,20 @@ module _ (gs : List Graph) (linked : AreGraphs gs) (g : Graph) (table : List Sum
     parted : Neither → Parted
     parted s =
         calls_parted gs linked g table holds m h good k live c place path must_at w own pre exact
-        (λ p. never_apart (seen_at m.query (called_trail w.trail c path) target) s.never p.0 p.1 p.2)
+        (λ p. never_apart (seen_at m.query (called_trail w.trail c path) target) s.no_trail.0.never p.0 p.1 p.2)
 
-    same : (s : Neither) → s.parts_not.pre ≡ pre
-    same s = gives-rows s.parts_not.pre pre s.parts_not.is_pre.0 None (sym s.parts_not.is_pre.1 ∙ exact)
+    same : (s : Neither) → s.not_split.pre ≡ pre
+    same s = gives-rows s.not_split.pre pre s.not_split.is_pre.0 None (sym s.not_split.is_pre.1 ∙ exact)
 
     by_part : (other : List Atom) → other ≡ pre →
-        (other ≡ []) ⊎ (IsNever (source ++ other) ⊎ (IsRead w.trail (source ++ other)
-        × IsMet (seen_at m.query w.trail (source ++ other)))) →
-        Parted → ⊥
+        (other ≡ []) ⊎ (IsNever (source ++ other)
+        ⊎ OfSome (λ t. IsRead t (source ++ other) × IsMet (seen_at m.query t (source ++ other))) (w.trail ∷ [])) → Parted → ⊥
     by_part other e (inl empty) p = p.0 (sym e ∙ empty)
     by_part other e (inr (inl never)) p =
         let point = in_source q rows is start end y pre exact in
         never_apart (source ++ pre) (subst (λ (xs : List Atom). IsNever (source ++ xs)) e never) point.0 point.1 point.2
-    by_part other e (inr (inr seen)) p =
+    by_part other e (inr (inr (inr z))) p = absurd z
+    by_part other e (inr (inr (inl seen))) p =
         let here = subst (λ (xs : List Atom). IsRead w.trail (source ++ xs) × IsMet (seen_at m.query w.trail (source ++ xs))) e seen in
         let names = (must_region path c.args c.results target fits pre None exact).names in
         p.1 (met_point (seen_at m.query w.trail (source ++ pre)) (seen_terms w n pre names here.0) here.1)

@@ -1,28 +1,24 @@
 -- No point of a trail is lost over a call by a must whose preimage is exact.
-use Rattle.std.proofs.Common.{◌≡◌, ◌≢◌, ℕ, ◌-◌, ◌<◌, ◌≤◌, List, [], ◌++◌, Some, None, ℤ, arith, refl, sym, subst, ap, ◌∙◌}
+use Rattle.std.proofs.Common.{◌≡◌, ◌≢◌, ℕ, List, [], ◌++◌, Some, None, ℤ, refl, sym, subst, ap, ◌∙◌}
 use Rattle.std.specs.Prelude.{slice_get, IsTrue}
 use Rattle.std.proofs.lemmas.Option.{same_Some}
 use borrow.Author.Tests.{eqb-false}
-use Rattle.c_tree.specs.Meaning.{State, entered}
-use Rattle.linear_formula.specs.LinearSum.{Valuation, Is64, valuation}
+use Rattle.c_tree.specs.Meaning.{State}
+use Rattle.linear_formula.specs.LinearSum.{Valuation, Is64}
 use Rattle.linear_formula.specs.Formula.{HoldsAll}
 use Rattle.linear_formula.specs.Replaced.{replaced_valuation}
 use Rattle.linear_formula.specs.declared.formula.Atom.{Atom}
 use Rattle.shadow_elim.specs.Projection.{gives}
-use Rattle.shadow_elim.specs.Sums.{rows_of_sums, row_sums}
-use Rattle.shadow_elim.proofs.Summing.{hold-sums, sums-hold}
 use Rattle.flow_graph.specs.declared.graph.Graph.{Graph}
 use Rattle.flow_graph.specs.declared.graph.Edge.TheVariants.{Call, Entry}
-use Rattle.flow_graph.specs.Columns.{AreValues, AreAllValues, columns_of, value_at, first_entry, is_entry_column}
-use Rattle.flow_graph.specs.Laws.{HoldsValues}
+use Rattle.flow_graph.specs.Columns.{columns_of}
 use Rattle.flow_graph.specs.Linked.{AreGraphs}
 use Rattle.flow_graph.specs.Readings.{reading}
 use Rattle.flow_graph.specs.Regions.{place_columns}
-use Rattle.flow_graph.specs.Runs.{inside, after_call, GraphRun}
+use Rattle.flow_graph.specs.Runs.{after_call}
 use Rattle.flow_graph.specs.Shapes.{source}
 use Rattle.flow_graph.specs.WellFormed.{IsEdge, first_node}
 use Rattle.flow_graph.proofs.Slots.{entry_edge}
-use Rattle.flow_graph.proofs.Values.{frame_good, run_values}
 use Rattle.summary_form.specs.declared.path.Path.{Path}
 use Rattle.summary_form.specs.declared.query.ExitKind.{ExitKind}
 use Rattle.summary_form.specs.declared.query.ExitKind.TheVariants as kind
@@ -32,26 +28,22 @@ use Rattle.summary_form.specs.Runs.{end_with}
 use Rattle.summary_form.specs.Symbols.{is_symbol_column}
 use Rattle.may_partition.specs.declared.region.RegionEdge.{RegionEdge}
 use Rattle.may_partition.proofs.Agreeing.{holds_agree}
-use Rattle.may_partition.proofs.Pieces.{holds_append, holds_split}
 use Rattle.must_region.specs.Rules.{must_node}
 use Rattle.must_region.specs.Traces.{Trace, TraceNamesOwn}
 use Rattle.must_region.specs.Trails.{IsTrail, end_place, slots_at}
 use Rattle.must_region.proofs.Agreeing.{values_agree}
-use Rattle.must_region.proofs.Ending.{entry_values}
-use Rattle.must_region.proofs.Extending.{inner_place}
 use Rattle.must_region.proofs.LosingRuns.{loses_none_by}
 use Rattle.call_bridge.specs.Calls.{inner_column, LiesBehind}
 use Rattle.call_bridge.specs.Musts.{FitsMust, Leads, must_preimage}
 use Rattle.call_bridge.proofs.Leading.{must_exact, must_region}
-use Rattle.query_rules.specs.Decided.{called_trail}
-use Rattle.query_rules.specs.Rows.{CallAt, MarksWith, MustAt, seen_at, started}
+use Rattle.query_rules.specs.Crossings.{called_trail}
+use Rattle.query_rules.specs.Rows.{CallAt, MarksWith, MustAt, seen_at}
 use Rattle.query_rules.specs.States.{AllHold}
 use Rattle.query_rules.specs.Steps.{Model}
 use Rattle.query_rules.specs.Turns.{HasPoint, StandsAt}
 use Rattle.query_rules.proofs.Finding.{at_source}
-use Rattle.query_rules.proofs.Marking.{seen_both, seen_split}
 use Rattle.query_rules.proofs.Marked.{IsMarked}
-use Rattle.query_rules.proofs.Points.{entry_read, inner_read, inner_columns}
+use Rattle.query_rules.proofs.Points.{IsBefore, before, comes_behind, inner_columns, inner_read, parted_by_none}
 use Rattle.query_rules.proofs.Reaching.{Good, fits_must, inner_target}
 
 -- the place behind a call
@@ -68,17 +60,9 @@ module _ (gs : List Graph) (linked : AreGraphs gs) (g : Graph) (table : List Sum
       MustAt table c.proc place c.exit path → (n : ℕ) (t : Trace) → MarksWith m n t k.from → TraceNamesOwn t → (pre : List Atom) →
       must_preimage path c.args c.results c.between.target.cube.atoms ≡ gives pre None → HasPoint (seen_at m.query t pre) →
       HasPoint (seen_at m.query (called_trail t c path) c.between.target.cube.atoms)
-  carries_called k live c place path must_at n t w names pre is (v, v64, met) = (
-    step.0,
-    step.1,
-    holds_append step.0 (started m.query new) (rows_of_sums (row_sums (reading new.slots t.entry) target))
-        (holds_append step.0 new.guard.atoms (rows_of_sums (row_sums (reading new.slots t.entry) m.query.start.atoms)) step.3 start)
-        (sums-hold step.0 (reading new.slots t.entry) target behind),
-  )
+  carries_called k live c place path must_at n t w names pre is (v, v64, met) =
+      comes_behind gs linked g m h t new pre c.between.target.cube.atoms v step.0 before_call step.1 same_entry step.3 behind
     where
-      target : List Atom
-      target = c.between.target.cube.atoms
-
       new : Trace
       new = called_trail t c path
 
@@ -94,64 +78,31 @@ module _ (gs : List Graph) (linked : AreGraphs gs) (g : Graph) (table : List Sum
       edge_ok : IsEdge g.nodes g.exit g.fail g.exits g.slots (Call t.node c.to c.proc c.args c.results)
       edge_ok = g.well_formed.are_edges k.edge (Call t.node c.to c.proc c.args c.results) at
 
-      apart : (t.node < g.nodes) × (t.node ≢ g.exit) × (t.node ≢ g.fail)
-      apart = edge_ok.leaves t.node refl
-
-      parts : HoldsAll v (started m.query t) × HoldsAll v (rows_of_sums (row_sums (reading t.slots t.entry) pre))
-      parts = holds_split v (started m.query t) (rows_of_sums (row_sums (reading t.slots t.entry) pre)) met
-
-      begun : HoldsAll v t.guard.atoms × HoldsAll v (rows_of_sums (row_sums (reading t.slots t.entry) m.query.start.atoms))
-      begun = holds_split v t.guard.atoms (rows_of_sums (row_sums (reading t.slots t.entry) m.query.start.atoms)) parts.0
-
-      entry_good : AreAllValues (values_of v t.entry)
-      entry_good = entry_values gs g t is_trail v v64
-
-      values : AreValues (slots_at v t.slots)
-      values =
-          let f = is_trail.gives v v64 begun.0 in
-          let place : end_place g.exit v t.node t.slots t.failed ≡ inside t.node (slots_at v t.slots) = inner_place g.exit v t.node t.slots
-          t.failed (is_trail.unfailed apart.2) apart.1 in
-          let there : HoldsValues (end_place g.exit v t.node t.slots t.failed) = frame_good (GraphRun gs f.0) (run_values gs f.0) g.edges
-          f.1 (inside (first_node g.edges) (entered (values_of v t.entry))) (end_place g.exit v t.node t.slots t.failed)
-          (values_of v t.inputs ++ []) [] entry_good (f.2 []) in
-          subst HoldsValues place there
+      apart : (t.node ≢ g.exit) × (t.node ≢ g.fail)
+      apart = let a = edge_ok.leaves t.node refl in (a.1, a.2)
 
       fits : FitsMust path c.args c.results c.between.target.cube.atoms
       fits = fits_must gs linked g table holds m good k live c place path must_at
 
-      meets : HoldsAll (columns_of (slots_at v t.slots) (values_of v t.entry) []) pre
-      meets = holds_agree inner_column (replaced_valuation (reading t.slots t.entry) v)
-          (columns_of (slots_at v t.slots) (values_of v t.entry) [])
-          pre
-          (λ x l. sym (inner_read v t.slots t.entry x l)) (must_region path c.args c.results c.between.target.cube.atoms fits pre None
-          is).names
-          (hold-sums v (reading t.slots t.entry) pre parts.1)
+      before_call : IsBefore m t pre v
+      before_call = before gs linked g m h n t k.from w apart pre
+          (must_region path c.args c.results c.between.target.cube.atoms fits pre None is).names v v64 met
 
       leads : Leads path c.args c.results c.between.target.cube.atoms (slots_at v t.slots) (values_of v t.entry)
       leads = must_exact path c.args c.results c.between.target.cube.atoms fits pre None is refl (slots_at v t.slots) (values_of v t.entry)
-          values entry_good meets
+          before_call.values before_call.entry before_call.meets
 
       step : (u : Valuation) × Is64 u × ((x : ℕ) → IsTrue (is_symbol_column t.symbols x) → u x ≡ v x) × HoldsAll u new.guard.atoms
           × (end_place g.exit u new.node new.slots new.failed ≡ after_call c.to c.results (slots_at v t.slots)
           (end_with path.exit (values_of leads.symbols path.outcome)))
       step =
-          let s = loses_none_by gs g t k.edge c.to c.proc c.args c.results path is_trail names at v leads.symbols v64 leads.bits begun.0
+          let s = loses_none_by gs g t k.edge c.to c.proc c.args c.results path is_trail names at v leads.symbols v64 leads.bits
+          before_call.guard
           leads.guard leads.passes in
           (s.0, s.1, s.2, s.3, s.4)
 
       same_entry : values_of step.0 t.entry ≡ values_of v t.entry
       same_entry = values_agree (is_symbol_column t.symbols) step.0 v t.entry step.2 names.entry_names
-
-      few : g.params ≤ first_entry
-      few = omega (arith, g.well_formed.params_in_slots, g.well_formed.few_slots)
-
-      start : HoldsAll step.0 (rows_of_sums (row_sums (reading new.slots t.entry) m.query.start.atoms))
-      start = sums-hold step.0 (reading new.slots t.entry) m.query.start.atoms
-          (holds_agree (is_entry_column g.params) (replaced_valuation (reading t.slots t.entry) v)
-          (replaced_valuation (reading new.slots t.entry) step.0) m.query.start.atoms
-          (λ x l. entry_read v t.slots t.entry g.params x few l ∙ ap (λ vs. value_at vs (x - first_entry)) (sym same_entry)
-          ∙ sym (entry_read step.0 new.slots t.entry g.params x few l))
-          h.fits.start_names (hold-sums v (reading t.slots t.entry) m.query.start.atoms begun.1))
 
       at_place : HoldsAll (place_columns (values_of step.0 t.entry) (end_place g.exit step.0 new.node new.slots new.failed))
           c.between.target.cube.atoms
@@ -178,29 +129,14 @@ module _ (gs : List Graph) (linked : AreGraphs gs) (g : Graph) (table : List Sum
       must_preimage path c.args c.results c.between.target.cube.atoms ≡ gives pre None →
       ¬ HasPoint (seen_at m.query (called_trail w.trail c path) c.between.target.cube.atoms) →
       (pre ≢ []) × (¬ HasPoint (seen_at m.query w.trail (c.between.source.cube.atoms ++ pre)))
-  calls_parted k live c place path must_at w names pre is never = (some, apart) where
-    carried : HasPoint (seen_at m.query w.trail pre) → ⊥
-    carried p = never (carries_called k live c place path must_at w.mark.trail w.trail w.one.marks names pre is p)
-
-    -- the entry edge is no call
-    inside_edge : ¬ (k.edge ≡ 0)
-    inside_edge e = other (same_Some _ _ (sym (entry_edge g.params g.edges g.well_formed.begins) ∙ ap (slice_get g.edges) (sym e)
-        ∙ c.between.at_edge ∙ ap Some c.is_call)) where
-          other : Entry (first_node g.edges) g.params ≡ Call c.from c.to c.proc c.args c.results → ⊥
-          other x = cc
-
-    some : pre ≢ []
-    some none =
-        let r = seen_split m.query w.trail (valuation w.mark.point) w.between.source.cube.atoms (w.met inside_edge) in
-        carried (
-          valuation w.mark.point,
-          w.values inside_edge,
-          subst (λ atoms. HoldsAll (valuation w.mark.point) (seen_at m.query w.trail atoms))
-              (sym none) (seen_both m.query w.trail (valuation w.mark.point) [] r.0 tt),
-        )
-
-    apart : ¬ HasPoint (seen_at m.query w.trail (c.between.source.cube.atoms ++ pre))
-    apart (v, v64, met) =
-        let r = seen_split m.query w.trail v (c.between.source.cube.atoms ++ pre) met in
-        let rows = holds_split (replaced_valuation (reading w.trail.slots w.trail.entry) v) c.between.source.cube.atoms pre r.1 in
-        carried (v, v64, seen_both m.query w.trail v pre r.0 rows.1)
+  calls_parted k live c place path must_at w names pre is never =
+      let r = parted_by_none gs linked g m h k inside_edge w pre
+      (λ p. never (carries_called k live c place path must_at w.mark.trail w.trail w.one.marks names pre is p)) in
+      (r.0, r.1 c.between.source.cube.atoms)
+    where
+      -- the entry edge is no call
+      inside_edge : ¬ (k.edge ≡ 0)
+      inside_edge e = other (same_Some _ _ (sym (entry_edge g.params g.edges g.well_formed.begins) ∙ ap (slice_get g.edges) (sym e)
+          ∙ c.between.at_edge ∙ ap Some c.is_call)) where
+            other : Entry (first_node g.edges) g.params ≡ Call c.from c.to c.proc c.args c.results → ⊥
+            other x = cc

@@ -229,10 +229,10 @@ module _ (gs : List Graph) (g : Graph) (ok : IsGraph g.nodes g.exit g.fail g.par
         at_place = b.at_target;
         inner = inner_target k b low;
         same_node = node_target l.trail b.edge l.at.plain entry ∙ sym leads_to;
-        values = l.values;
-        seen = l.met;
+        values = l.comes.values;
+        seen = l.comes.met;
       })) (λ r t y. read_at k b new there (wide_behind (sums_of l.trail b.edge) (row_sums (reading new.slots new.entry) b.target.cube.atoms)
-      l.decided) r t y) h
+      l.comes.decided) r t y) h
     where
       plus_zero : (j : ℕ) → j + 0 ≡ j
       plus_zero j = omega arith
@@ -256,7 +256,7 @@ module _ (gs : List Graph) (g : Graph) (ok : IsGraph g.nodes g.exit g.fail g.par
         at_place = b.at_target;
         inner = inner_target k b low;
         same_node = sym to_first;
-        values = l.values;
+        values = l.comes.values;
         seen = seen;
       })) (λ r t y. absurd (no_first g ok m.query.exit (sym (ap (λ (x : Region). x.node) (to_end k b r)) ∙ to_first))) h
     where
@@ -305,7 +305,8 @@ module _ (gs : List Graph) (g : Graph) (ok : IsGraph g.nodes g.exit g.fail g.par
           l.at.between.target.cube.atoms)
       met = subst (λ t. HoldsAll (valuation point) (seen_at m.query (extended t (Entry (first_node g.edges) g.params))
           l.at.between.target.cube.atoms))
-          is_first (subst (λ e. HoldsAll (valuation point) (seen_at m.query (extended l.trail e) l.at.between.target.cube.atoms)) is l.met)
+          is_first (subst (λ e. HoldsAll (valuation point) (seen_at m.query (extended l.trail e) l.at.between.target.cube.atoms)) is
+          l.comes.met)
 
       seen : HoldsAll (valuation point) (seen_at m.query (begin_trail (first_node g.edges) g.params g.slots) l.at.between.target.cube.atoms)
       seen = met
@@ -325,10 +326,10 @@ module _ (gs : List Graph) (g : Graph) (ok : IsGraph g.nodes g.exit g.fail g.par
         at_place = b.at_target;
         inner = inner_target k b low;
         same_node = node;
-        values = l.values;
-        seen = l.met;
+        values = l.comes.values;
+        seen = l.comes.met;
       })) (λ r t y. read_at k b new there (wide_behind (must_sums l.trail l.call.args l.path) (row_sums (reading new.slots new.entry)
-      b.target.cube.atoms) l.decided) r t y) h
+      b.target.cube.atoms) l.comes.decided) r t y) h
     where
       b : Between g m k
       b = l.call.between

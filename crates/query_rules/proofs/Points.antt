@@ -167,23 +167,102 @@ return_fails t (Call from to proc args results) n h = absurd cc
 return_fails t (Assert from to id more) n h = absurd cc
 return_fails t (Return from to slots) n h = h
 
+-- Crossings
+
+-- a point of a trail that meets the atoms at its end: what is known there
+pub record IsBefore (m : Model) (t : Trace) (pre : List Atom) (v : Valuation) : Type 0 where
+  pub guard : HoldsAll v t.guard.atoms
+  pub start : HoldsAll v (rows_of_sums (row_sums (reading t.slots t.entry) m.query.start.atoms))
+  pub entry : AreAllValues (values_of v t.entry)
+  pub values : AreValues (slots_at v t.slots)
+  pub meets : HoldsAll (columns_of (slots_at v t.slots) (values_of v t.entry) []) pre
+
+module _ (gs : List Graph) (linked : AreGraphs gs) (g : Graph) (m : Model) (h : IsMarked gs linked g m) where
+  pub before : (n : ℕ) (t : Trace) (region : ℕ) → MarksWith m n t region → (t.node ≢ g.exit) × (t.node ≢ g.fail) → (pre : List Atom) →
+      IsTrue (rows_name_only inner_column pre) → (v : Valuation) → Is64 v → HoldsAll v (seen_at m.query t pre) → IsBefore m t pre v
+  before n t region w apart pre names v v64 met = record {
+    guard = begun.0;
+    start = begun.1;
+    entry = entry;
+    values = values;
+    meets = holds_agree inner_column (replaced_valuation (reading t.slots t.entry) v)
+        (columns_of (slots_at v t.slots) (values_of v t.entry) []) pre (λ x l. sym (inner_read v t.slots t.entry x l)) names
+        (hold-sums v (reading t.slots t.entry) pre parts.1);
+  } where
+    is_trail : IsTrail gs g t
+    is_trail = (h.marks.are_trails n t w.0).0
+
+    parts : HoldsAll v (started m.query t) × HoldsAll v (rows_of_sums (row_sums (reading t.slots t.entry) pre))
+    parts = holds_split v (started m.query t) (rows_of_sums (row_sums (reading t.slots t.entry) pre)) met
+
+    begun : HoldsAll v t.guard.atoms × HoldsAll v (rows_of_sums (row_sums (reading t.slots t.entry) m.query.start.atoms))
+    begun = holds_split v t.guard.atoms (rows_of_sums (row_sums (reading t.slots t.entry) m.query.start.atoms)) parts.0
+
+    entry : AreAllValues (values_of v t.entry)
+    entry = entry_values gs g t is_trail v v64
+
+    values : AreValues (slots_at v t.slots)
+    values =
+        let f = is_trail.gives v v64 begun.0 in
+        let place : end_place g.exit v t.node t.slots t.failed ≡ inside t.node (slots_at v t.slots) = inner_place g.exit v t.node t.slots
+        t.failed (is_trail.unfailed apart.1) apart.0 in
+        let there : HoldsValues (end_place g.exit v t.node t.slots t.failed) = frame_good (GraphRun gs f.0) (run_values gs f.0) g.edges
+        f.1 (inside (first_node g.edges) (entered (values_of v t.entry))) (end_place g.exit v t.node t.slots t.failed)
+        (values_of v t.inputs ++ []) [] entry (f.2 []) in
+        subst HoldsValues place there
+
+  -- the trail behind it, at a point of the same entry values that meets its guard and comes into the target
+  pub comes_behind : (t new : Trace) (pre target : List Atom) (v u : Valuation) → IsBefore m t pre v → Is64 u →
+      values_of u new.entry ≡ values_of v t.entry → HoldsAll u new.guard.atoms →
+      HoldsAll (replaced_valuation (reading new.slots new.entry) u) target → HasPoint (seen_at m.query new target)
+  comes_behind t new pre target v u b u64 same guard behind = (
+    u,
+    u64,
+    holds_append u (started m.query new) (rows_of_sums (row_sums (reading new.slots new.entry) target))
+        (holds_append u new.guard.atoms (rows_of_sums (row_sums (reading new.slots new.entry) m.query.start.atoms)) guard start)
+        (sums-hold u (reading new.slots new.entry) target behind),
+  )
+    where
+      few : g.params ≤ first_entry
+      few = omega (arith, g.well_formed.params_in_slots, g.well_formed.few_slots)
+
+      start : HoldsAll u (rows_of_sums (row_sums (reading new.slots new.entry) m.query.start.atoms))
+      start = sums-hold u (reading new.slots new.entry) m.query.start.atoms
+          (holds_agree (is_entry_column g.params) (replaced_valuation (reading t.slots t.entry) v)
+          (replaced_valuation (reading new.slots new.entry) u) m.query.start.atoms
+          (λ x l. entry_read v t.slots t.entry g.params x few l ∙ ap (λ vs. value_at vs (x - first_entry)) (sym same)
+          ∙ sym (entry_read u new.slots new.entry g.params x few l))
+          h.fits.start_names (hold-sums v (reading t.slots t.entry) m.query.start.atoms b.start))
+
+  -- where no point of the trail meets the preimage at its end, there is an atom, and none meets it in a source
+  pub parted_by_none : (k : RegionEdge) → ¬ (k.edge ≡ 0) → (w : StandsAt gs g m k) → (pre : List Atom) →
+      (HasPoint (seen_at m.query w.trail pre) → ⊥) →
+      (pre ≢ []) × ((source : List Atom) → ¬ HasPoint (seen_at m.query w.trail (source ++ pre)))
+  parted_by_none k inside_edge w pre carried = (some, apart) where
+    some : pre ≢ []
+    some none =
+        let r = seen_split m.query w.trail (valuation w.mark.point) w.between.source.cube.atoms (w.met inside_edge) in
+        carried (
+          valuation w.mark.point,
+          w.values inside_edge,
+          subst (λ atoms. HoldsAll (valuation w.mark.point) (seen_at m.query w.trail atoms))
+              (sym none) (seen_both m.query w.trail (valuation w.mark.point) [] r.0 tt),
+        )
+
+    apart : (source : List Atom) → ¬ HasPoint (seen_at m.query w.trail (source ++ pre))
+    apart source (v, v64, met) =
+        let r = seen_split m.query w.trail v (source ++ pre) met in
+        let rows = holds_split (replaced_valuation (reading w.trail.slots w.trail.entry) v) source pre r.1 in
+        carried (v, v64, seen_both m.query w.trail v pre r.0 rows.1)
+
 module _ (gs : List Graph) (linked : AreGraphs gs) (g : Graph) (m : Model) (h : IsMarked gs linked g m) (good : Good gs linked g m) where
   pub carries_point : (k : RegionEdge) → IsTrue (m.parted.live k) → ¬ (k.edge ≡ 0) → (b : Between g m k) → is_call b.edge ≡ false →
       (n : ℕ) (t : Trace) → MarksWith m n t k.from → TraceNamesOwn t → (pre : List Atom) →
       preimage b.edge b.target.cube.atoms ≡ gives pre None → HasPoint (seen_at m.query t pre) →
       HasPoint (seen_at m.query (extended t b.edge) b.target.cube.atoms)
   carries_point k live inside_edge b plain n t w names pre is (v, v64, met) =
-      let u = step.0 in (
-        u,
-        step.1,
-        holds_append u (started m.query new) (rows_of_sums (row_sums (reading new.slots t.entry) b.target.cube.atoms))
-            (holds_append u new.guard.atoms (rows_of_sums (row_sums (reading new.slots t.entry) m.query.start.atoms)) step.3 start)
-            (sums-hold u (reading new.slots t.entry) b.target.cube.atoms behind),
-      )
+      comes_behind gs linked g m h t new pre b.target.cube.atoms v step.0 at step.1 same_entry step.3 (by_return (is_return b.edge) refl)
     where
-      e : Edge
-      e = b.edge
-
       new : Trace
       new = extended t b.edge
 
@@ -196,69 +275,31 @@ module _ (gs : List Graph) (linked : AreGraphs gs) (g : Graph) (m : Model) (h : 
       no_entry : is_entry b.edge ≡ false
       no_entry = entry_first g g.well_formed k.edge b.edge b.at_edge inside_edge
 
-      apart : (t.node < g.nodes) × (t.node ≢ g.exit) × (t.node ≢ g.fail)
-      apart = (g.well_formed.are_edges k.edge b.edge b.at_edge).leaves t.node src
+      apart : (t.node ≢ g.exit) × (t.node ≢ g.fail)
+      apart = let a = (g.well_formed.are_edges k.edge b.edge b.at_edge).leaves t.node src in (a.1, a.2)
 
-      parts : HoldsAll v (started m.query t) × HoldsAll v (rows_of_sums (row_sums (reading t.slots t.entry) pre))
-      parts = holds_split v (started m.query t) (rows_of_sums (row_sums (reading t.slots t.entry) pre)) met
-
-      begun : HoldsAll v t.guard.atoms × HoldsAll v (rows_of_sums (row_sums (reading t.slots t.entry) m.query.start.atoms))
-      begun = holds_split v t.guard.atoms (rows_of_sums (row_sums (reading t.slots t.entry) m.query.start.atoms)) parts.0
-
-      before : State
-      before = slots_at v t.slots
-
-      entry : List ℤ
-      entry = values_of v t.entry
-
-      entry_good : AreAllValues (values_of v t.entry)
-      entry_good = entry_values gs g t is_trail v v64
-
-      values : AreValues (slots_at v t.slots)
-      values =
-          let f = is_trail.gives v v64 begun.0 in
-          let place : end_place g.exit v t.node t.slots t.failed ≡ inside t.node (slots_at v t.slots) = inner_place g.exit v t.node t.slots
-          t.failed (is_trail.unfailed apart.2) apart.1 in
-          let there : HoldsValues (end_place g.exit v t.node t.slots t.failed) = frame_good (GraphRun gs f.0) (run_values gs f.0) g.edges
-          f.1 (inside (first_node g.edges) (entered (values_of v t.entry))) (end_place g.exit v t.node t.slots t.failed)
-          (values_of v t.inputs ++ []) [] entry_good (f.2 []) in
-          subst HoldsValues place there
-
-      meets : HoldsAll (columns_of (slots_at v t.slots) (values_of v t.entry) []) pre
-      meets = holds_agree inner_column (replaced_valuation (reading t.slots t.entry) v)
-          (columns_of (slots_at v t.slots) (values_of v t.entry) [])
-          pre
-          (λ x l. sym (inner_read v t.slots t.entry x l)) (pre_region gs linked g m good k live b plain t.node src pre (None, is)).names
-          (hold-sums v (reading t.slots t.entry) pre parts.1)
+      at : IsBefore m t pre v
+      at = before gs linked g m h n t k.from w apart pre (pre_region gs linked g m good k live b plain t.node src pre (None, is)).names v
+          v64
+          met
 
       into : StepsInto b.edge b.target.cube.atoms (slots_at v t.slots) (values_of v t.entry)
       into = steps_into b.edge no_entry b.target.cube.atoms (slots_at v t.slots) (values_of v t.entry)
           (preimages-exact b.edge b.target.cube.atoms pre plain (edge_terms gs linked g m good k b) is
           (fits_edge gs linked g m good k live b plain)
-          (slots_at v t.slots) (values_of v t.entry) values entry_good
-          (meets_before b.edge no_entry pre (slots_at v t.slots) (values_of v t.entry) meets))
+          (slots_at v t.slots) (values_of v t.entry) at.values at.entry
+          (meets_before b.edge no_entry pre (slots_at v t.slots) (values_of v t.entry) at.meets))
 
       step : (u : Valuation) × Is64 u × ((x : ℕ) → IsTrue (is_symbol_column t.symbols x) → u x ≡ v x) × HoldsAll u new.guard.atoms
           × (end_place g.exit u new.node new.slots new.failed ≡ into.2)
       step =
-          let s = loses_none g g.well_formed t (trail_terms gs g t is_trail) names k.edge b.edge b.at_edge src plain v v64 begun.0 into.0
+          let s = loses_none g g.well_formed t (trail_terms gs g t is_trail) names k.edge b.edge b.at_edge src plain v v64 at.guard into.0
           into.1 into.2 into.3
           in
           (s.0, s.1, s.2, s.3, s.4)
 
       same_entry : values_of step.0 t.entry ≡ values_of v t.entry
       same_entry = values_agree (is_symbol_column t.symbols) step.0 v t.entry step.2 names.entry_names
-
-      few : g.params ≤ first_entry
-      few = omega (arith, g.well_formed.params_in_slots, g.well_formed.few_slots)
-
-      start : HoldsAll step.0 (rows_of_sums (row_sums (reading new.slots t.entry) m.query.start.atoms))
-      start = sums-hold step.0 (reading new.slots t.entry) m.query.start.atoms
-          (holds_agree (is_entry_column g.params) (replaced_valuation (reading t.slots t.entry) v)
-          (replaced_valuation (reading new.slots t.entry) step.0) m.query.start.atoms
-          (λ x l. entry_read v t.slots t.entry g.params x few l ∙ ap (λ vs. value_at vs (x - first_entry)) (sym same_entry)
-          ∙ sym (entry_read step.0 new.slots t.entry g.params x few l))
-          h.fits.start_names (hold-sums v (reading t.slots t.entry) m.query.start.atoms begun.1))
 
       at_place : HoldsAll (place_columns (values_of step.0 t.entry) (end_place g.exit step.0 new.node new.slots new.failed))
           b.target.cube.atoms
@@ -278,7 +319,7 @@ module _ (gs : List Graph) (linked : AreGraphs gs) (g : Graph) (m : Model) (h : 
           (value_read step.0 new.slots t.entry)
           (return_named b.edge r b.target.cube.atoms (fits_edge gs linked g m good k live b plain).columns)
           (subst (λ c. HoldsAll c b.target.cube.atoms) (left_columns g.exit (values_of step.0 t.entry) step.0 new.node new.slots new.failed
-          (return_fails t b.edge r (is_trail.unfailed apart.2)) (node ∙ eqb-true (target b.edge) g.exit (sym to_exit ∙ r))) at_place)
+          (return_fails t b.edge r (is_trail.unfailed apart.1)) (node ∙ eqb-true (target b.edge) g.exit (sym to_exit ∙ r))) at_place)
       by_return false r =
           holds_agree inner_column (columns_of (slots_at step.0 new.slots) (values_of step.0 t.entry) [])
           (replaced_valuation (reading new.slots t.entry) step.0) b.target.cube.atoms
@@ -287,30 +328,12 @@ module _ (gs : List Graph) (linked : AreGraphs gs) (g : Graph) (m : Model) (h : 
           (subst (λ c. HoldsAll c b.target.cube.atoms) (inner_columns g.exit (values_of step.0 t.entry) step.0 new.node new.slots new.failed
           (λ x. eqb-false (target b.edge) g.exit (sym to_exit ∙ r) (sym node ∙ x))) at_place)
 
-      behind : HoldsAll (replaced_valuation (reading new.slots t.entry) step.0) b.target.cube.atoms
-      behind = by_return (is_return b.edge) refl
-
   pub parts_exactly : (k : RegionEdge) → IsTrue (m.parted.live k) → ¬ (k.edge ≡ 0) → (w : StandsAt gs g m k) → is_call w.between.edge
       ≡ false →
       TraceNamesOwn w.trail → (pre : List Atom) → preimage w.between.edge w.between.target.cube.atoms ≡ gives pre None →
       ¬ HasPoint (seen_at m.query (extended w.trail w.between.edge) w.between.target.cube.atoms) →
       (k.from ≢ 0) × (pre ≢ []) × (¬ HasPoint (seen_at m.query w.trail (w.between.source.cube.atoms ++ pre)))
-  parts_exactly k live inside_edge w plain names pre is never = (w.inner inside_edge, some, apart) where
-    carried : HasPoint (seen_at m.query w.trail pre) → ⊥
-    carried p = never (carries_point k live inside_edge w.between plain w.mark.trail w.trail w.one.marks names pre is p)
-
-    some : pre ≢ []
-    some none =
-        let r = seen_split m.query w.trail (valuation w.mark.point) w.between.source.cube.atoms (w.met inside_edge) in
-        carried (
-          valuation w.mark.point,
-          w.values inside_edge,
-          subst (λ atoms. HoldsAll (valuation w.mark.point) (seen_at m.query w.trail atoms))
-              (sym none) (seen_both m.query w.trail (valuation w.mark.point) [] r.0 tt),
-        )
-
-    apart : ¬ HasPoint (seen_at m.query w.trail (w.between.source.cube.atoms ++ pre))
-    apart (v, v64, met) =
-        let r = seen_split m.query w.trail v (w.between.source.cube.atoms ++ pre) met in
-        let rows = holds_split (replaced_valuation (reading w.trail.slots w.trail.entry) v) w.between.source.cube.atoms pre r.1 in
-        carried (v, v64, seen_both m.query w.trail v pre r.0 rows.1)
+  parts_exactly k live inside_edge w plain names pre is never =
+      let r = parted_by_none gs linked g m h k inside_edge w pre
+      (λ p. never (carries_point k live inside_edge w.between plain w.mark.trail w.trail w.one.marks names pre is p)) in
+      (w.inner inside_edge, r.0, r.1 w.between.source.cube.atoms)
