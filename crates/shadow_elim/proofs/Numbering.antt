@@ -5,7 +5,6 @@ use Rattle.linear_formula.specs.LinearSum.{LinearSum}
 use Rattle.infeasible_cert.specs.declared.certificate.Derived.{Derived}
 use Rattle.shadow_elim.specs.declared.row.Row.{Row}
 use Rattle.shadow_elim.specs.declared.pairing.Candidate.{Candidate}
-use Rattle.shadow_elim.specs.declared.pairing.Making.{Making}
 use Rattle.shadow_elim.specs.declared.pairing.Origin.{Origin}
 use Rattle.shadow_elim.specs.declared.pairing.Origin.TheVariants.{Known, Made}
 use Rattle.shadow_elim.specs.steps.Making.{step_of, with_step, steps_of, number_of, next_after, numbered}
