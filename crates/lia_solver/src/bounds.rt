@@ -21,7 +21,7 @@ const LEAST: i128 = -9_223_372_036_854_775_808;
 
 /// What rows say of a column: the least integer that they allow, the greatest one that is not above
 /// their bound from below, and the greatest one that they allow.
-#[derive(Clone, Copy, Debug)]
+#[derive(Clone, Copy)]
 pub struct Bounds {
     pub low: i128,
     pub floor: i128,

@@ -264,7 +264,7 @@ fn are_all_narrow(
 }
 
 /// Adds the sums of all upper rows with the lower ones, until one is too wide or too many rows are
-/// left, beside those that are behind. From then on sums are measured, and none is kept.
+/// left, beside those that are done. From then on sums are measured, and none is kept.
 fn add_all(
     parts: &mut Vec<(u32, i128)>,
     column: u32,

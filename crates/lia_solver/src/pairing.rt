@@ -15,7 +15,7 @@ use linear_formula::error::LinError;
 use linear_formula::term::{MAX_CONSTANT, MAX_PARTS};
 
 /// A row, whose coefficients are in a list of their own.
-#[derive(Clone, Copy, Debug)]
+#[derive(Clone, Copy)]
 pub struct Made {
     pub constant: i128,
     pub making: Making,

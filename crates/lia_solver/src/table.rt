@@ -26,7 +26,7 @@ const GROWTH: usize = 16;
 const NO_COLUMN: u64 = 1 << 32;
 
 /// How a row follows.
-#[derive(Clone, Copy, Debug)]
+#[derive(Clone, Copy)]
 pub enum Origin {
     /// The row has this number among those of its branch.
     Given(u32),
@@ -34,7 +34,7 @@ pub enum Origin {
 }
 
 /// The places of two rows with their multipliers, and what their sum was divided by.
-#[derive(Clone, Copy, Debug)]
+#[derive(Clone, Copy)]
 pub struct Making {
     pub upper: usize,
     pub upper_multiple: i64,
@@ -44,7 +44,7 @@ pub struct Making {
 }
 
 /// A row whose coefficients lie from `start` to `end`.
-#[derive(Clone, Copy, Debug)]
+#[derive(Clone, Copy)]
 struct Line {
     start: usize,
     end: usize,
@@ -69,7 +69,7 @@ pub struct Table {
     few: [u32; FEW],
     /// The same once there are more chains.
     many: Vec<u32>,
-    /// From so many rows on there are more chains.
+    /// From this many rows on there are more chains.
     full: usize,
 }
 
@@ -92,7 +92,7 @@ fn sign_code(coefficient: i128) -> u64
     if coefficient < 0 { 131 } else { 0 }
 }
 
-/// A number of these coefficients. Other ones have mostly another one.
+/// A hash of these coefficients.
 fn hash_of(parts: &[(u32, i128)]) -> u32
     requires { AllWithin parts.now }
     ensures { result ≡ hash_of parts.now }
@@ -145,7 +145,7 @@ fn set_head(few: &mut [u32; FEW], many: &mut Vec<u32>, chain: usize, number: u32
     many[chain] = number;
 }
 
-/// The place of the row with these coefficients in its chain, one of so many, of which `head` is
+/// The place of the row with these coefficients in its chain, one of `chains`, of which `head` is
 /// the head.
 fn find(
     pool: &[(u32, i128)],
@@ -191,7 +191,7 @@ fn chain(lines: &mut [Line], heads: &mut [u32])
     }
 }
 
-/// Puts coefficients behind the others. Most rows have a single one, for which no block is copied.
+/// Puts coefficients after the others. Most rows have a single one, for which no block is copied.
 fn append(pool: &mut Vec<(u32, i128)>, parts: &[(u32, i128)]) -> Result<(), OutOfMemory>
     ensures items { OnOk result (pool.new.items ≡ pool.old.items ++ parts.now) }
     ensures kept { OnErr result (pool.new.items ≡ pool.old.items) }
@@ -315,7 +315,7 @@ impl Table {
         self.place_of(&[])
     }
 
-    /// Puts the rows into so many chains.
+    /// Puts the rows into this many chains.
     fn grow(&mut self, chains: usize) -> Result<(), OutOfMemory>
         requires some { 0 < chains }
         requires limit { chains ≤ 65536 }
@@ -365,7 +365,7 @@ impl Table {
         self.put(parts, constant, origin)
     }
 
-    /// Joins a row with the one of the same coefficients, or puts it behind the others.
+    /// Joins a row with the one of the same coefficients, or puts it after the others.
     #[inline(always)]
     fn put(
         &mut self,

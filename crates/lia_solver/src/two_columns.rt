@@ -14,7 +14,7 @@ use linear_formula::term::MAX_COEFFICIENT;
 const MANY: usize = 16;
 
 /// The least and the greatest value of a column by the rows of it alone.
-#[derive(Clone, Copy, Debug)]
+#[derive(Clone, Copy)]
 pub struct Sides {
     column: u32,
     least: i128,
