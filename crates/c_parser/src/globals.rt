@@ -44,7 +44,7 @@ fn signed(source: &Source, at: usize) -> Result<(i64, usize), Fault>
     Ok((value, at + 1))
 }
 
-/// The opening value behind the name of a global, where it is given one.
+/// The opening value after the name of a global, where it is given one.
 fn opening_value(source: &Source, at: usize) -> Result<(Option<i64>, usize), Fault>
     requires { at ≤ length (text_of source.now) }
     ensures ok { IfOk result (λ r. parsing.ReadsValue (text_of source.now) at r.0 r.1) }
@@ -74,7 +74,7 @@ fn global(source: &Source, at: usize) -> Result<(GlobalTree, usize), Fault>
     Ok((GlobalTree { named, value }, next))
 }
 
-/// Globals, behind the name of the first, and the semicolon.
+/// Globals, after the name of the first, and the semicolon.
 pub fn globals(source: &Source, at: usize, first: Named) -> Result<(Vec<GlobalTree>, usize), Fault>
     requires { at ≤ length (text_of source.now) }
     ensures ok { IfOk result (λ r. parsing.ReadsGlobals (text_of source.now) at
