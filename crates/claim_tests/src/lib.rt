@@ -5,3 +5,5 @@
 mod bundles;
 #[cfg(test)]
 mod sources;
+#[cfg(test)]
+mod texts;
