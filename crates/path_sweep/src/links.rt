@@ -79,7 +79,7 @@ impl Following {
         }
     }
 
-    /// The next edge behind this one that leaves the same node.
+    /// The next edge after this one that leaves the same node.
     pub fn next(&self, proc: ProcId, edge: usize) -> Option<usize>
         requires { proc < length self.now.graphs.items }
         ensures { (l : ALinks) → slice_get self.now.graphs.items proc ≡ Some l →

@@ -26,8 +26,8 @@ use must_region::trail::Trail;
 use std::alloc::Global;
 use summary_form::path::Terms;
 
-/// What an edge adds to a path: the frame behind it, its rows, the inputs that are read over it,
-/// and how many symbols there are behind it.
+/// What an edge adds to a path: the frame after it, its rows, the inputs that are read over it,
+/// and how many symbols there are after it.
 #[derive(Drop)]
 pub struct Step {
     pub frame: Frame,
@@ -60,7 +60,7 @@ fn bare(alloc: Global, frame: Frame, symbols: u32) -> Step
     }
 }
 
-/// Over edge 0: the frame stands at the node behind it.
+/// Over edge 0: the frame stands at the node after it.
 fn over_entry(alloc: Global, graph: &Graph, frame: &Frame) -> Result<Frame, OutOfMemory>
     ensures { IfOk result
         (λ f. f ≡ record frame.now { place = Place.At (first_node graph.now.edges) }) }
@@ -176,7 +176,7 @@ fn trail_over(
     trail.extend(alloc, edge)
 }
 
-/// The frame behind an edge that is no call, where this is the trail over it.
+/// The frame after an edge that is no call, where this is the trail over it.
 fn behind(
     alloc: Global,
     graphs: &[Graph],

@@ -15,7 +15,7 @@ use std::alloc::Global;
 /// Counts the feasible paths of `main` in order, each before its longer ones and its edges in
 /// ascending order, until all are counted, one more than `edges` (1 to 5,000) is, or a question
 /// meets a limit; and finds, for each assertion below `asserts`, the inputs of the first counted
-/// path that fails there. `main` takes no entry values. The error is want of memory, or of a number
+/// path that fails there. `main` takes no entry values. The error is lack of memory, or of a number
 /// of 32 bits for a symbol.
 pub fn sweep(
     alloc: Global,

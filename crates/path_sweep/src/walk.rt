@@ -84,7 +84,7 @@ fn answered(solved: Solved, step: Step, guard: Cube) -> Asked
     }
 }
 
-/// The front of so many atoms.
+/// A prefix of this many atoms.
 fn front(cube: Cube, count: usize) -> Cube
     ensures { result.atoms ≡ take count cube.atoms }
 {
@@ -108,7 +108,7 @@ fn push_values(values: &mut Vec<i64>, terms: &[Term], at: &Assignment) -> Result
     Ok(())
 }
 
-/// Nothing found yet at so many assertions.
+/// Nothing found yet at this many assertions.
 fn none_found(alloc: Global, asserts: u32) -> Result<Vec<Option<Vec<i64>>>, OutOfMemory>
     ensures { IfOk result (λ f. f.items ≡ replicate asserts None) }
 {
@@ -134,7 +134,7 @@ fn first_edge(following: &Following, frame: &Frame) -> Option<usize>
     }
 }
 
-/// The next edge behind this one that may follow the frame.
+/// The next edge after this one that may follow the frame.
 fn next_edge(following: &Following, frame: &Frame, edge: usize) -> Option<usize>
     requires { (gs : List Graph) × (levels : List ALevel) × AreAllLinks gs following.now
         × HasNext gs levels frame.now edge }
@@ -319,7 +319,7 @@ impl Walk {
         }
     }
 
-    /// All longer paths are done: the front with one edge less goes on. It tells whether there was
+    /// All longer paths are done: the prefix with one edge less goes on. It says whether there was
     /// one.
     fn go_back(&mut self, alloc: Global, following: &Following) -> bool
         requires { (gs : List Graph) × (main : ℕ) × IsWalk gs main self.old × AreGraphs gs
