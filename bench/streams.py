@@ -13,9 +13,9 @@ TOO_LONG = b"refused: source longer than 65536 bytes\n"
 SECONDS = 60
 
 
-def ends(program, stdin, stdout=subprocess.PIPE, words=("check",), before=None):
+def ends(program, stdin, stdout=subprocess.PIPE, words=("check",), before=None, **more):
     """The status of a run, a signal's as its negative number, and what it printed where that is a pipe of ours."""
-    it = subprocess.Popen([program, *words], stdin=stdin, stdout=stdout, stderr=subprocess.DEVNULL, preexec_fn=before)
+    it = subprocess.Popen([program, *words], stdin=stdin, stdout=stdout, stderr=subprocess.DEVNULL, preexec_fn=before, **more)
     return it
 
 
@@ -95,7 +95,16 @@ def single_bytes(program):
 
 
 def interrupted(program):
-    """A signal with an empty handler interrupts a read that waits: stopped and continued, as a shell's Ctrl-Z does."""
+    """Each second call of read and write is interrupted by a signal, and made again: bench/interrupt.c."""
+    it = ends(program, subprocess.PIPE, env={**os.environ, "LD_PRELOAD": os.environ["INTERRUPT"]})
+    it.stdin.write(ONE)
+    it.stdin.close()
+    it.stdin = None
+    return finished(it)
+
+
+def stopped(program):
+    """Stopped and continued while a read waits, as a shell's Ctrl-Z does."""
     it = ends(program, subprocess.PIPE)
     for part in (ONE[:20], ONE[20:40], ONE[40:]):
         time.sleep(0.1)
@@ -152,7 +161,8 @@ CASES = [
     ("a pipe whose reader is gone", reader_gone, 6, None),
     ("input in single bytes", single_bytes, 0, REPORT),
     ("a reader of single bytes", slow_reader, 0, REPORT),
-    ("stopped and continued while it reads", interrupted, 0, REPORT),
+    ("stopped and continued while it reads", stopped, 0, REPORT),
+    ("calls that a signal interrupts", interrupted, 0, REPORT),
 ]
 
 

@@ -4,4 +4,6 @@
 # usage: bench/streams.sh [PROGRAM]
 . "$(dirname "$0")/common.sh"
 program_or_end "${1:-}"
-exec python3 "$top/bench/streams.py" "$program"
+work_in
+cc -O2 -shared -fPIC -o "$work/interrupt.so" "$top/bench/interrupt.c" -ldl || exit 70
+INTERRUPT=$work/interrupt.so python3 "$top/bench/streams.py" "$program"
