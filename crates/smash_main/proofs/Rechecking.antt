@@ -5,6 +5,7 @@ use mathlib.Core.Logic.{inl, inr}
 use Rattle.c_tree.specs.Meaning.{Reaches}
 use Rattle.c_tree.specs.Syntax.{PureProgram}
 use Rattle.c_tree.specs.declared.tree.AssertPlace.{AssertPlace}
+use Rattle.flow_build.specs.Promises.{AreBounded}
 use Rattle.flow_graph.specs.ProgramGraphs.{SameRuns}
 use Rattle.flow_graph.specs.declared.graph.Graph.{Graph}
 use Rattle.summary_form.specs.ProgramGraphs.{SameArities}
@@ -16,14 +17,16 @@ use Rattle.smash_main.specs.Analysis.{Witness}
 use Rattle.smash_main.specs.Bundled.{IsRechecked}
 use Rattle.smash_main.specs.steps.Handing.{TellsChecked}
 
-module _ (P : PureProgram) (b : PureBundle) (gs : List Graph) (runs : SameRuns P gs) (arities : SameArities P gs) (place : AssertPlace)
-    (at : slice_get P.asserts b.id ≡ Some place) (status : ℕ) (text : List ℕ) (w : Witness) where
+module _ (P : PureProgram) (b : PureBundle) (gs : List Graph) (runs : SameRuns P gs) (arities : SameArities P gs)
+    (bounds : AreBounded P gs) (place : AssertPlace) (at : slice_get P.asserts b.id ≡ Some place) (status : ℕ) (text : List ℕ)
+    (w : Witness) where
   pub rechecked : (c : Checked) → (c ≡ Right ↔ IsRightProof gs P.main b) → ((n : ℕ) → c ≡ Wrong n ↔ IsFirstWrong gs P.main b n) →
       (c ≡ Right → (ins : List ℤ) → ¬ Reaches P b.id ins) → TellsChecked place c status text w → IsRechecked P b status text w
   rechecked Right right wrong sound t = record {
     graphs = gs;
     runs = runs;
     arities = arities;
+    bounds = bounds;
     place = place;
     at = at;
     told = inl (right.0 refl, t.0, t.1);
@@ -34,6 +37,7 @@ module _ (P : PureProgram) (b : PureBundle) (gs : List Graph) (runs : SameRuns P
     graphs = gs;
     runs = runs;
     arities = arities;
+    bounds = bounds;
     place = place;
     at = at;
     told = inr (n, (wrong n).0 refl, t.0, t.1);

@@ -78,6 +78,7 @@ swept_is P fine opening gs are edges swept e status text w t = record {
   graphs = gs;
   runs = are.runs;
   arities = same_arities P gs are.bounds;
+  bounds = are.bounds;
   swept = swept;
   ends = e;
   decided = swept_decided P fine opening gs are.runs edges swept e;

@@ -3,6 +3,7 @@ use Rattle.std.specs.Prelude.{◌≡◌, ◌⊎◌, ℕ, suc, ◌<◌, ◌≤◌
 use Rattle.c_tree.specs.Meaning.{Reaches}
 use Rattle.c_tree.specs.Syntax.{PureProgram}
 use Rattle.c_tree.specs.declared.tree.AssertPlace.{AssertPlace}
+use Rattle.flow_build.specs.Promises.{AreBounded}
 use Rattle.flow_graph.specs.ProgramGraphs.{SameRuns}
 use Rattle.flow_graph.specs.declared.graph.Graph.{Graph}
 use Rattle.summary_form.specs.ProgramGraphs.{SameArities}
@@ -77,13 +78,14 @@ pub record IsBundled (P : PureProgram) (bytes : List ℕ) (number budget status 
 
 -- Bundles that are checked
 
--- The bundle is right over graphs of the program, or this is its first claim that isn't. Where it
--- is right, no inputs reach its assertion.
+-- The bundle is right over graphs of the program that keep the bounds of what is built, or this is
+-- its first claim that isn't. Where it is right, no inputs reach its assertion.
 pub record IsRechecked (P : PureProgram) (b : PureBundle) (status : ℕ) (text : List ℕ)
     (w : Witness) : Type 0 where
   pub graphs : List Graph
   pub runs : SameRuns P graphs
   pub arities : SameArities P graphs
+  pub bounds : AreBounded P graphs
   pub place : AssertPlace
   pub at : slice_get P.asserts b.id ≡ Some place
   pub told : (IsRightProof graphs P.main b × (status ≡ 0) × (text ≡ accepted_line place))
