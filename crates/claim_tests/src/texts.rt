@@ -203,7 +203,7 @@ const TEXTS: [Text; 16] = [
 ];
 
 /// The bundle of claims without their source, which isn't looked at.
-fn bundle_of(alloc: Global, claims: &[&str]) -> Result<Bundle, Fail> {
+fn bundle_of(alloc: Global, claims: &[&str; 4]) -> Result<Bundle, Fail> {
     let mut text = String::new(alloc);
     text.push_str("smash-bundle 1\nsource 0\n\nassert 1\nclaims ")?;
     for piece in claims {
@@ -213,7 +213,7 @@ fn bundle_of(alloc: Global, claims: &[&str]) -> Result<Bundle, Fail> {
 }
 
 /// What is said of claims about the first assertion of a source.
-fn said(alloc: Global, source: &str, claims: &[&str]) -> Result<Checked, Fail> {
+fn said(alloc: Global, source: &str, claims: &[&str; 4]) -> Result<Checked, Fail> {
     let program = program(alloc, source)?;
     let graphs = graphs(alloc, &program)?;
     let bundle = bundle_of(alloc, claims)?;
