@@ -1,5 +1,5 @@
-//! Two workers whose calls come in an order that a gate keeps: one whose job is gone, and one that
-//! finds nothing.
+//! Two workers whose calls come in an order that a gate keeps: one whose job is gone, one that
+//! finds nothing, and one whose slice is long.
 
 ghost use Rattle.std.specs.Prelude.{◌≡◌, IfOk};
 
@@ -32,25 +32,28 @@ struct Order {
     made: [AtomicU64; 2],
     /// The passes that weren't made in time.
     missed: AtomicU64,
-    /// At this pass of worker 0 the other one is watched.
+    /// At this pass the other worker is watched.
     watched: Pass,
+    /// How often it is looked at, until it has made many passes.
+    looks: u32,
     /// How many passes the other one had then made.
     seen: AtomicU64,
 }
 
-/// How often worker 0 looks whether the other one goes on.
+/// How often a worker looks whether the other one goes on.
 const LOOKS: u32 = 20_000;
 
 /// As many passes as a worker that waits doesn't make.
 const MANY: u64 = 40;
 
 impl Order {
-    fn of(rules: [(Pass, Pass); 3], watched: Pass) -> Order {
+    fn of(rules: [(Pass, Pass); 3], watched: Pass, looks: u32) -> Order {
         Order {
             rules,
             made: [AtomicU64::new(0), AtomicU64::new(0)],
             missed: AtomicU64::new(0),
             watched,
+            looks,
             seen: AtomicU64::new(0),
         }
     }
@@ -73,15 +76,15 @@ impl Order {
         self.missed.fetch_add(1, Ordering::SeqCst);
     }
 
-    /// Looks on for a while.
-    fn watch(&self) {
-        for _ in 0..LOOKS {
-            if self.made_by(1) >= MANY {
+    /// Looks at this worker for a while.
+    fn watch(&self, other: u32) {
+        for _ in 0..self.looks {
+            if self.made_by(other) >= MANY {
                 break;
             }
             thread::yield_now();
         }
-        self.seen.store(self.made_by(1), Ordering::SeqCst);
+        self.seen.store(self.made_by(other), Ordering::SeqCst);
     }
 }
 
@@ -93,7 +96,7 @@ impl Gate for Order {
             }
         }
         if self.watched == (worker, call, after) {
-            self.watch();
+            self.watch(if worker == 0 { 1 } else { 0 });
         }
         if let Some(made) = self.made.get(worker as usize) {
             made.store(number_of(call, after), Ordering::SeqCst);
@@ -141,7 +144,7 @@ fn what_a_gone_job_closed_with_is_published(rt: HostRuntime) -> Result<(), Fail>
         ((0, 3, false), (1, 1, true)),
         ((1, 2, false), (0, 4, true)),
     ];
-    let order = Order::of(rules, NONE);
+    let order = Order::of(rules, NONE, 0);
     let (board, asserts) = worked(&rt, rt.alloc(), TWO_WAYS, &order)?;
     let says = verdicts(rt.alloc(), &board, asserts)?;
     let found = says.as_slice() == [Says::Found(1, Some(0), None)].as_slice();
@@ -163,7 +166,7 @@ fn who_finds_nothing_waits(rt: HostRuntime) -> Result<(), Fail> {
         ((0, 2, false), (1, 1, true)),
         (NONE, NONE),
     ];
-    let order = Order::of(rules, (0, 2, false));
+    let order = Order::of(rules, (0, 2, false), LOOKS);
     let (board, asserts) = worked(&rt, rt.alloc(), ONE_INPUT, &order)?;
     let says = verdicts(rt.alloc(), &board, asserts)?;
     let found = says.as_slice() == [Says::Found(1, Some(5), None)].as_slice();
@@ -171,5 +174,36 @@ fn who_finds_nothing_waits(rt: HostRuntime) -> Result<(), Fail> {
     let seen = order.seen.load(Ordering::SeqCst);
     assert!(rt; found && order.missed.load(Ordering::SeqCst) == 0);
     assert!(rt; seen >= 2 && seen <= 6, "{seen} passes");
+    Ok(())
+}
+
+/// Four assertions that are settled at once, and one that spends its whole budget in one slice,
+/// which takes far longer.
+const ONE_LONG: &str = "int main() { int x = input(); \
+     assert(x != 1); assert(x != 2); assert(x != 3); assert(x != 4); \
+     int i = 0; int j = 0; while (i < 9999) { i = i + 1; j = j + 1; } assert(i == j); \
+     return 0; }";
+
+/// As many passes as worker 0 makes at least for the short ones but the last.
+const SHORT: u64 = 12;
+
+/// Worker 1 takes the long query, and worker 0 the others while worker 1 makes its slice: nobody
+/// has the board while it makes a slice. If worker 1 had it, worker 0 could make no call between
+/// the first two calls of worker 1.
+#[test]
+fn slices_are_made_without_the_board(rt: HostRuntime) -> Result<(), Fail> {
+    let rules = [
+        ((0, 1, false), (1, 1, true)),
+        (NONE, NONE),
+        (NONE, NONE),
+    ];
+    let order = Order::of(rules, (1, 2, false), 0);
+    let (board, asserts) = worked(&rt, rt.alloc(), ONE_LONG, &order)?;
+    let says = verdicts(rt.alloc(), &board, asserts)?;
+    let is_spent = says.as_slice().last() == Some(&Says::Budget(2000));
+    drop(board);
+    let seen = order.seen.load(Ordering::SeqCst);
+    assert!(rt; is_spent && order.missed.load(Ordering::SeqCst) == 0);
+    assert!(rt; seen >= SHORT, "{seen} passes");
     Ok(())
 }
