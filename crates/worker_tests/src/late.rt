@@ -192,11 +192,7 @@ const SHORT: u64 = 12;
 /// the first two calls of worker 1.
 #[test]
 fn slices_are_made_without_the_board(rt: HostRuntime) -> Result<(), Fail> {
-    let rules = [
-        ((0, 1, false), (1, 1, true)),
-        (NONE, NONE),
-        (NONE, NONE),
-    ];
+    let rules = [((0, 1, false), (1, 1, true)), (NONE, NONE), (NONE, NONE)];
     let order = Order::of(rules, (1, 2, false), 0);
     let (board, asserts) = worked(&rt, rt.alloc(), ONE_LONG, &order)?;
     let says = verdicts(rt.alloc(), &board, asserts)?;
