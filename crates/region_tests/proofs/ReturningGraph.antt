@@ -167,9 +167,7 @@ module _ (w : IsGraph 3 0 1 1 1 1 returning_edges) where
       };
       trail = begin_trail 2 1 1;
       marks = (refl, refl);
-      decided = refl;
-      values = λ x. refl;
-      met = tt;
+      comes = record { decided = refl; values = λ x. refl; met = tt };
     },
   )
 
@@ -197,9 +195,7 @@ module _ (w : IsGraph 3 0 1 1 1 1 returning_edges) where
       };
       trail = begin_trail 2 1 1;
       marks = (refl, refl);
-      decided = refl;
-      values = λ x. refl;
-      met = tt;
+      comes = record { decided = refl; values = λ x. refl; met = tt };
     },
   )
 
