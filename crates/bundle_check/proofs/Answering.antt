@@ -17,7 +17,7 @@ use Rattle.bundle_check.specs.RightClaims.{AreShown, IsRefutedBy, missing}
 pub both_ways : {A B C : Type 0} → A ↔ B → B ↔ C → A ↔ C
 both_ways f k = ((λ a. k.0 (f.0 a)), (λ c. f.1 (k.1 c)))
 
--- the item at a place, and those behind it
+-- the item at a place, and those after it
 pub drop_item : {A : Type 0} (xs : List A) (i : ℕ) (x : A) → i < length xs → x ≡ get_or xs i x → drop i xs ≡ x ∷ drop (i + 1) xs
 drop_item xs i x h e = rw add-one (drop-cons xs i x h ∙ ap (λ y. y ∷ drop (suc i) xs) (sym e))
 

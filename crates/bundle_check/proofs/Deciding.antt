@@ -1,4 +1,4 @@
--- What the checks of edges and of their regions tell of every partition that is shown so.
+-- What the checks of edges and of their regions say of every partition that is shown so.
 use Rattle.std.proofs.Common.{◌≡◌, ◌≢◌, ◌↔◌, ℕ, List, [], ◌++◌, Option, Some, None, Bool, true, false, refl, sym, subst, ap, ◌∙◌}
 use Rattle.std.specs.Prelude.{slice_get, IsTrue}
 use Rattle.std.specs.List.{list_all}

@@ -1,4 +1,4 @@
--- The moves that the steps of a query become, one behind the other, beside the state that the steps lead to.
+-- The moves that the steps of a query become, one after the other, beside the state that the steps lead to.
 use Rattle.std.proofs.Common.{◌≡◌, ◌⊎◌, inl, inr, ⊎_elim, ℕ, zero, suc, ◌+◌, ◌<◌, ◌≤◌, List, [], ◌∷◌, ◌++◌, length, take, Option, Some, None, Bool, true, false, cond, not, ◌&&◌, ◌||◌, ◌==◌, arith, refl, sym, subst, ap, ◌∙◌}
 use Rattle.std.specs.Prelude.{slice_get, slice_set, IsTrue}
 use Rattle.std.specs.List.{list_all}

@@ -150,7 +150,7 @@ module _ (gs : List Graph) (g : Graph) (table : List Summary) where
       (all_extend es (after gs g table e m))
 
   module _ (claims : List Query) (last : Model) (led : AreLed table claims last) where
-    -- the step behind is a stored one
+    -- the step that was made is a stored one
     stored : (s : Step) (m n : Model) → n.steps ≡ m.steps ++ s ∷ [] → Extends n last → (i : ℕ) × (slice_get last.steps i ≡ Some s)
     stored s m n e x = (
       length m.steps + 0,

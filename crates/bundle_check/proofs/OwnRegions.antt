@@ -179,7 +179,7 @@ module _ (gs : List Graph) (linked : AreGraphs gs) (g : Graph) where
   entry_own : (x : ℕ) → IsTrue (is_entry_column g.params x) → IsTrue (is_own_column g x)
   entry_own x h = either_in (nat_lt x g.slots) (is_entry_column g.params x) (inr h)
 
-  -- the columns behind an edge
+  -- the columns after an edge
   behind_own : (e : Edge) → IsEdge g.nodes g.exit g.fail g.exits g.slots e → (node : ℕ) → node ≡ target e → (atoms : List Atom) →
       IsTrue (rows_name_only (own_at g node) atoms) → IsTrue (rows_name_only (named_behind (is_own_column g) g.params e) atoms)
   behind_own e is node same atoms names = by_edge e is same where

@@ -235,7 +235,7 @@ module _ (gs : List Graph) (linked : AreGraphs gs) (g : Graph) (table : List Sum
     step_gives (step.Feed j) l = tt
     step_gives (step.Stuck k why seen) l = tt
 
--- Moves one behind the other
+-- Moves one after the other
 
 all_append : (g : Graph) (exit : ExitKind) (claims : List Query) (ms ns : List PureMove) (p : Parted) → AllMove g exit claims ms p →
     AllMove g exit claims ns (moved_all ms p) → AllMove g exit claims (ms ++ ns) p
@@ -298,7 +298,7 @@ module _ (gs : List Graph) (linked : AreGraphs gs) (g : Graph) (table : List Sum
   abbrev pub kills_of : ℕ → Bool
   kills_of j = child_kills last.steps j
 
-  -- before stored step i, with so many asked entries, a partition and the moves that led to it
+  -- before stored step i, with `entry` asked entries, a partition and the moves that led to it
   pub record Walk (claims : List Query) (i entry : ℕ) (p : Parted) (ms : List PureMove) : Type 0 where
     pub m : Model
     pub rest : List Happening
@@ -313,7 +313,7 @@ module _ (gs : List Graph) (linked : AreGraphs gs) (g : Graph) (table : List Sum
     pub moves : AllMove g q.exit claims ms (begin_parted g q)
     pub led : moved_all ms (begin_parted g q) ≡ p
 
-  -- at the next stored step, behind the news before it
+  -- at the next stored step, after the news before it
   record At (i entry : ℕ) (p : Parted) (s : Step) : Type 0 where
     pub m : Model
     pub n : ℕ
@@ -381,7 +381,7 @@ module _ (gs : List Graph) (linked : AreGraphs gs) (g : Graph) (table : List Sum
       subst (λ (x : Query). Gives g x.exit p s) a.query
       (step_gives gs linked g table holds claims last a.m a.good a.own p a.follows a.n (levels_at i entry p s a) s a.is.1)
 
-  -- and behind it are the moves that it makes
+  -- and after it are the moves that it makes
   pub walk_next : (claims : List Query) (i entry : ℕ) (p : Parted) (ms : List PureMove) (s : Step) → Walk claims i entry p ms →
       slice_get last.steps i ≡ Some s → (one : List PureMove) →
       Makes g q.exit p table (levels_known last) claims kills_of s entry one →
@@ -430,7 +430,7 @@ module _ (gs : List Graph) (linked : AreGraphs gs) (g : Graph) (table : List Sum
     led = w.led;
   }
 
-  -- behind the last step only news follow
+  -- after the last step only news follow
   news_left : (rest : List Happening) (m : Model) (p : Parted) → Follows g kills_of m p → after_all gs g table rest m ≡ last →
       length m.steps ≡ length last.steps → Follows g kills_of last p
   news_left [] m p f ends many = subst (λ (x : Model). Follows g kills_of x p) ends f

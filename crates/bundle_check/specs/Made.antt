@@ -1,6 +1,5 @@
--- What the steps of a closed query become: moves that are right, where the queries that its kills
--- lead to
--- have claims.
+-- What the steps of a closed query become: moves that are right, where the queries to which its
+-- kills lead have claims.
 use Rattle.std.specs.Prelude.{◌≡◌, ℕ, Bool, true, List, [], ◌∷◌, length, Some, slice_get}
 use Rattle.flow_graph.specs.declared.graph.Graph.{Graph}
 use Rattle.summary_form.specs.declared.query.Query.{Query}
@@ -22,7 +21,7 @@ pub record HasClaim (claims : List Query) (q : Query) : Type 0 where
   pub number : ℕ
   pub there : slice_get claims number ≡ Some q
 
--- `killed` tells which asked queries have a not-may by which a later step kills
+-- `killed`: which asked queries have a not-may by which a later step kills
 module _ (g : Graph) (table : List Summary) (claims : List Query) (killed : ℕ → Bool) where
   abbrev pub IsNamed : Model → Step → Type 0
   IsNamed m (step.Kill k (killer.Table place proof)) =
@@ -41,10 +40,8 @@ module _ (g : Graph) (table : List Summary) (claims : List Query) (killed : ℕ 
         AreNamed hs (after gs g table (heard i number known) m)
 
 -- The steps of a query that closed without a path become a right claim: each split and each kill by
--- a
--- certificate in its place, a kill by the table or an ancestor where its edge is still live, and
--- one
--- by a child in the place of the child's Ask.
+-- a certificate in its place, a kill by the table or an ancestor where its edge is still live, and
+-- one by a child in the place of the child's Ask.
 abbrev pub ClosedStatesAreProved : Type 0
 ClosedStatesAreProved =
     (gs : List Graph) (g : Graph) (table : List Summary) (q : Query) (ancestors : List Query)

@@ -78,7 +78,7 @@ pub record IsRefutedBy (atoms : List Atom) (c : Refutation) : Type 0 where
   pub atoms_terms : IsTrue (are_terms atoms)
   pub terms : HasTerms c
 
--- one certificate for each of the atoms, with its negation behind the rows
+-- one certificate for each of the atoms, with its negation after the rows
 abbrev pub AreShown : (rows atoms : List Atom) → List Refutation → Type 0
 AreShown rows [] [] = Unit {0}
 AreShown rows [] (c ∷ cs) = ⊥

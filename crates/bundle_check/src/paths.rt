@@ -47,7 +47,7 @@ fn none_shut(alloc: Global, edges: usize) -> Result<Vec<bool>, OutOfMemory>
     vec![in alloc; false; edges]
 }
 
-/// Whether the edges lead from one of so many regions to another.
+/// Whether the edges lead from one of `regions` regions to another.
 fn is_joined(
     alloc: Global,
     regions: u32,

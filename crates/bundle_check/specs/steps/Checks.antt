@@ -1,4 +1,4 @@
--- What the check of a move tells of every partition that this one shows.
+-- What the check of a move says of every partition that is shown so.
 use Rattle.std.specs.Prelude.{◌≡◌, ◌↔◌, ℕ, Bool, IsTrue, List, Option, None, Some}
 use Rattle.infeasible_cert.specs.Refutation.{Refutation}
 use Rattle.flow_graph.specs.declared.graph.Graph.{Graph}

@@ -1,4 +1,4 @@
--- Columns of so many slots, entry values and exit values.
+-- Columns of given numbers of slots, entry values and exit values.
 use Rattle.std.specs.Prelude.{ℕ, nat_lt, Bool, ◌||◌}
 use Rattle.summary_form.specs.declared.query.ExitKind.{ExitKind}
 use Rattle.summary_form.specs.declared.query.ExitKind.TheVariants.{Return, Fail}

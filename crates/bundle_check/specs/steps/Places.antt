@@ -1,5 +1,4 @@
--- The graph edge of a region edge with its regions, the preimage over it, and the query that it
--- asks.
+-- The graph edge of a region edge, its regions, the preimage over it, and the query that it asks.
 use Rattle.std.specs.Prelude.{◌≡◌, false, List, Option, None, Some, slice_get}
 use Rattle.linear_formula.specs.declared.formula.Atom.{Atom}
 use Rattle.linear_formula.specs.declared.formula.Cube.{Cube}
