@@ -120,7 +120,7 @@ module _ (bytes : List ℕ) (tokens : List Token) (lexed : IsTokens bytes tokens
       })
   type_refused type_error.Memory was why same = absurd (cc)
 
--- what is told of a refusal is what the bytes ask for
+-- what is written of a refusal is what the bytes ask for
 pub asks_refusal : (bytes : List ℕ) (why : Refusal) → IsRefusedFor bytes why → (status : ℕ) (text : List ℕ) (w : Witness) → status ≡ 3 →
     text ≡ refusal_text why → w ≡ no_witness → AsksRefusal bytes status text w
 asks_refusal bytes why h status text w three told nothing = record {

@@ -1,4 +1,4 @@
--- The moves of steps one behind the other, and of one more step.
+-- The moves of steps one after the other, and of one more step.
 use Rattle.std.proofs.Common.{◌≡◌, ℕ, ◌+◌, ◌≤◌, List, [], ◌∷◌, ◌++◌, take, Some, Bool, arith, refl, sym, subst, ap, ◌∙◌}
 use Rattle.std.specs.Prelude.{slice_get}
 use Rattle.std.proofs.lemmas.List.{append-nil, append_assoc, take_more}
@@ -16,9 +16,9 @@ use Rattle.bundle_check.specs.Walked.{Makes}
 use Rattle.bundle_check.proofs.Walking.{entries_after, moved_append}
 use Rattle.smash_main.specs.Bundling.{MakesAll, asked_after}
 
--- Moves one behind the other
+-- Moves one after the other
 
--- so many queries were asked behind these steps
+-- how many queries were asked after these steps
 abbrev pub asked_all : List Step → ℕ → ℕ
 asked_all [] entry = entry
 asked_all (s ∷ steps) entry = asked_all steps (asked_after s entry)

@@ -49,6 +49,6 @@ module _ (P Q : PureProgram) (old : Shown) (budget : ℕ) where
     handed = both_is ∙ ap (λ (x : Witness). record x { old = Some old }) k.handed;
   }
 
--- all bytes behind the first ones
+-- all bytes after the first ones
 pub all_behind : (n : ℕ) (xs : List ℕ) → take (length xs - n) (drop n xs) ≡ drop n xs
 all_behind n xs = ap (λ k. take k (drop n xs)) (sym (length-drop n xs)) ∙ take-length (drop n xs)

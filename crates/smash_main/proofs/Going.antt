@@ -108,7 +108,7 @@ module _ (gs : List Graph) (g : Graph) (table : List Summary) (last : Model) whe
       asks_in es (after gs g table (heard i number known) m) j entry k q seen ends steps
       (length_updated (with_child number known) m.asked i ∙ many) at
 
--- The model behind a maker's state
+-- The model of a maker's state
 
 pub record Ending (b : boards.Shown) (s : Seen) (g : Graph) (killed : List Bool) : Type 0 where
   pub linked : AreGraphs b.graphs
@@ -120,7 +120,7 @@ pub record Ending (b : boards.Shown) (s : Seen) (g : Graph) (killed : List Bool)
   pub kills : is_killed killed ≡ child_kills last.steps
   pub none : HasNoPath g s.query last.parted
 
--- before stored step j, with so many asked entries, the moves that were made, and what they led to
+-- before stored step j, with `entry` asked entries, the moves that were made, and what they led to
 pub record Going (b : boards.Shown) (ids : List ℕ) (s : Seen) (g : Graph) (killed : List Bool) (j entry : ℕ) (done : List PureMove)
     (shown : Shown) : Type 0 where
   pub ending : Ending b s g killed

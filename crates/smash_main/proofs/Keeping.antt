@@ -34,7 +34,7 @@ kept_append rows (a ∷ first) rest (c ∷ cs) = by_test (is_among rows a) (kept
   by_test true e = e
   by_test false e = ap (λ ds. refutation_of c ∷ ds) e
 
--- no certificate is left behind the last one
+-- no certificate is left after the last one
 pub drop_least : (n : ℕ) (cs : List Certificate) → drop (min n (length cs)) cs ≡ drop n cs
 drop_least n cs = ⊎_elim few many (cases_lt n (length cs)) where
   few : n < length cs → drop (min n (length cs)) cs ≡ drop n cs

@@ -42,7 +42,7 @@ module _ (count : ℕ) (ids : List ℕ) (numbers : List (Option ℕ)) (l : IsLis
       let w = has_place q ids h in
       omega (arith, slice_get_within numbers q (Some w.0) (l.back q w.0 w.1), l.size))
 
-  -- one more, behind the others
+  -- one more, after the others
   pub listed_more : (i : ℕ) → slice_get numbers i ≡ Some None →
       IsListing count (ids ++ i ∷ []) (slice_set numbers i (Some (length ids)))
   listed_more i free = record {

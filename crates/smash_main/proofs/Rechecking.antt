@@ -1,4 +1,4 @@
--- What is told of a bundle that was checked.
+-- What is written of a bundle that was checked.
 use Rattle.std.proofs.Common.{◌≡◌, ◌↔◌, ℕ, List, Some, ℤ, refl}
 use Rattle.std.specs.Prelude.{slice_get}
 use mathlib.Core.Logic.{inl, inr}

@@ -83,7 +83,7 @@ module _ (b : Shown) (ids : List ℕ) (numbers : List (Option ℕ)) (i : ℕ) (s
     lead = lead;
   })
 
-  -- of which queries a kill by the table or an ancestor tells
+  -- which queries a kill by the table or an ancestor names
   abbrev pub Tells : Killer → Query → Type 0
   Tells (killer.Certificate c) q = ⊥
   Tells (killer.Table place proof) q = slice_get b.core.table place ≡ Some (NotMay q)

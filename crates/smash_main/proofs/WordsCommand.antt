@@ -21,7 +21,7 @@ use Rattle.smash_main.proofs.WordsLeaf.{HasOptions, Place, free, full, leaf}
 use Rattle.smash_main.proofs.WordsReading.{Asks, taken, what_is_taken}
 use Rattle.smash_main.proofs.WordsLine.{AreBare, bare_nil, bundle_bare, bundle_entered, bundle_faults, bundle_has, bundle_place, bundle_rules, check_bare, check_entered, check_faults, check_has, check_place, check_rules, edit_bare, edit_entered, edit_faults, edit_has, edit_place, edit_rules, for_check, for_none, for_one, is_budget, is_one, is_workers, leaf_rows, leaf_takes, leaf_well, no_name, no_words, recheck_entered, recheck_faults, recheck_has, recheck_place, replay_bare, replay_entered, replay_faults, replay_has, replay_place, replay_rules, sweep_bare, sweep_entered, sweep_faults, sweep_has, sweep_place, sweep_rules, workload_bare, workload_entered, workload_faults, workload_has, workload_place, workload_rules}
 
--- The words behind a name, with the rows that `clap` makes of them
+-- The words after a name, with the rows that `clap` makes of them
 
 pub record Parts (c : List Rule) (names : List Text) (other : Text) (room : ℕ) (words : List Text) (options : Texts) (others : List Text) :
     Type 0 where

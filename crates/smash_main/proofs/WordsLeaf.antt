@@ -1,4 +1,4 @@
--- The words behind a command's name, as `clap` walks over them.
+-- The words after a command's name, as `clap` walks over them.
 use Rattle.std.proofs.Common.{◌≡◌, ◌∙◌, ◌⊎◌, ℕ, Bool, cond, true, false, List, [], ◌∷◌, ◌++◌, refl, Option, Some, None, ap, sym, codes, option_map}
 use Rattle.std.specs.Prelude.{Contains}
 use Rattle.std.specs.List.{fold}

@@ -1,4 +1,4 @@
--- The command line, as `clap` reads it: the name of a command, and the words behind it.
+-- The command line, as `clap` reads it: the name of a command, and the words after it.
 use Rattle.std.proofs.Common.{◌≡◌, ◌∙◌, ◌⊎◌, ℕ, zero, suc, ◌&&◌, Bool, true, false, not, List, [], ◌∷◌, ◌++◌, length, refl, Option, Some, None, ap, ap₂, sym, subst, inl, inr, arith, codes, is_some}
 use Rattle.std.specs.Prelude.{Contains, find, slice_get}
 use Rattle.std.specs.List.{fold, list_any}
@@ -191,7 +191,7 @@ sweep_place = full refl
 pub edit_place : Place edit_rules (codes "length") 1 1
 edit_place = free refl refl refl
 
--- One command, behind its name
+-- One command, after its name
 
 -- no argument has a default, and none is required
 pub record AreBare (c : List Rule) : Type 0 where
@@ -298,7 +298,7 @@ faults_at k w =
 faults_are : (words : List Text) → fault_of line_app words ≡ faults_at (walk_fault top names first words) (walk [] names nothing_held words)
 faults_are words = refl
 
--- behind the name of a subcommand the words are left to it
+-- after the name of a subcommand the words are left to it
 stopped_well : (sub : Text) (seen words : List Text) → walk_fault top names (record first { stopped = Some (sub, seen) }) words ≡ []
 unfolding walk_fault walked
 stopped_well sub seen [] = refl
@@ -404,7 +404,7 @@ pub record IsNoName (word : Text) : Type 0 where
   pub no_edit : bytes_eq (codes "edit") word ≡ false
 
 module _ (word : Text) (words : List Text) (n : IsNoName word) where
-  -- the words end behind `--`, or go on where nothing takes them
+  -- the words end after `--`, or go on where nothing takes them
   behind_dashes : (w : Walk) → w ≡ record first { is_trailing = true } → (ws : List Text) → faults_at (walk_fault top names w ws)
       (fold (walked [] names) w ws) ≡ [] → ⊥
   unfolding walk_fault defaults_fault

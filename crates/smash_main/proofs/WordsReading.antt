@@ -1,4 +1,4 @@
--- The words behind a command's name are parted as `clap` reads them: what it takes is parted so, and what is parted so it takes.
+-- The words after a command's name are parted as `clap` reads them: what it takes is parted so, and what is parted so it takes.
 use Rattle.std.proofs.Common.{◌≡◌, ◌∙◌, ◌⊎◌, ℕ, ◌+◌, ◌≤◌, Bool, true, false, List, [], ◌∷◌, ◌++◌, length, refl, Option, Some, None, ap, sym, subst, inl, inr, arith, codes, append_assoc, append-nil, length-append}
 use Rattle.std.specs.Prelude.{Contains, slice_get}
 use Rattle.std.specs.List.{fold}
@@ -344,7 +344,7 @@ module _ (name : Text) (c : List Rule) (names : List Text) (other : Text) (o : H
   none_left [] h = refl
   none_left (t ∷ ts) h = absurd (omega arith)
 
-  -- an option, by what comes behind it
+  -- an option, by what comes after it
   module _ (n text : Text) (within : Contains names n) (options : Texts) (others : List Text) (given : Texts) (room : ℕ)
       (a : Asks ((n, text) ∷ options) others given room) where
     new_name : texts_of n given ≡ []
@@ -370,7 +370,7 @@ module _ (name : Text) (c : List Rule) (names : List Text) (other : Text) (o : H
         pick m inside true e = (rw e at (a.fine m inside)).1
         pick m inside false e = rw e at (a.fine m inside)
 
-  -- another word, by what comes behind it
+  -- another word, by what comes after it
   joined : (word : Text) (options : Texts) (given : Texts) (n : Text) → Contains names n →
       texts_of n ((given ++ (other, word) ∷ []) ++ options) ≡ texts_of n (given ++ options)
   joined word options given n within =

@@ -70,7 +70,7 @@ pub ok_as : {X E : Type 0} (P Q : X → Type 0) (r : Result X E) → ((x : X) �
 ok_as P Q (Ok x) f h = f x h
 ok_as P Q (Err e) f h = tt
 
--- what stands behind the first bytes, as a slice
+-- what stands after the first bytes, as a slice
 pub at_end : (rest : List ℕ) (len : ℕ) → len ≤ length rest → length (take (length rest - len) (drop len rest)) < 1 → len ≡ length rest
 at_end rest len le h = let a = ap length (whole_rest rest len) in let n = length-drop len rest in omega (arith, a, n, h, le)
 

@@ -11,7 +11,7 @@ use Rattle.smash_main.specs.Words.{Text}
 
 -- A word that is no option and isn't `--`
 
--- no flag stands behind a dash
+-- no flag stands after a dash
 abbrev pub HasNoFlag : Option Text → Type 0
 HasNoFlag None = Unit {0}
 HasNoFlag (Some flags) = slice_get (chars flags) 0 ≡ None

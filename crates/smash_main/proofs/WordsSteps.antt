@@ -29,7 +29,7 @@ unfolding flags_fault
 no_flag_fault c flags none zero h = refl
 no_flag_fault c flags none (suc k) h = rw none refl
 
--- a word may go to an argument that is no option: behind `--`, or where it looks like none
+-- a word may go to an argument that is no option: after `--`, or where it looks like none
 abbrev pub Goes : Bool → Text → Type 0
 Goes true word = Unit {0}
 Goes false word = IsOther word
@@ -188,7 +188,7 @@ module _ (name : Text) (c : List Rule) (other : Text) (given : Texts) (p : Pendi
         ∙ ap (λ (h : Held). record (at given p position false) { held = record h { pending = Some (n, []) }; waiting = option n })
         (settled_is c given p r f)
 
--- A flag behind one dash
+-- A flag after one dash
 
 pub flag_fault : (c : List Rule) (h : Held) (flags : Text) (x : ℕ) → slice_get (chars flags) 0 ≡ Some x → arg_by_short c x ≡ None →
     flags_fault c false (length flags) flags 0 h ≡ [] → ⊥
@@ -254,7 +254,7 @@ module _ (name : Text) (c : List Rule) (given : Texts) (n : Text) (found : arg_b
         awaited_stuck (both_none _ _ (both_none (react_fault c false (option_of m) (text ∷ []) (awaited given n)) _
         (rw (plain, is, known) at h)).0).0
 
-  -- nor get it behind `--`
+  -- nor get it after `--`
   pub awaited_trailing : (other : Text) (room position : ℕ) → Place c other room position → (word : Text) →
       turn_fault (leaf name c) [] (awaits given n position true) word ≡ [] → ⊥
   awaited_trailing other room position (full none) word h = let k = rw none at h in cc

@@ -54,7 +54,7 @@ abbrev with_first : Pos → Places → Places
 with_first p at zero = p
 with_first p at (suc i) = at i
 
--- a text stands behind the bytes before it
+-- a text stands after the bytes before it
 slice_there : (before text rest : List ℕ) (from to : ℕ) → from ≡ length before → to ≡ from + length text →
     slice_range (before ++ (text ++ rest)) from to ≡ text
 slice_there before text rest from to e h =
@@ -97,7 +97,7 @@ pieces_have_tokens text ps e h = subst (λ t. HasTokens t ps) e of_spelled
         let r = pure_from [] first_place ps refl in
         record { tokens = tokens_from first_place ps; lexed = lexed_from first_place ps h; at = r.0; pure = r.1 }
 
--- the tokens of pieces behind others have places of their own
+-- the tokens of pieces after others have places of their own
 pub placed_append : (ps qs : List Piece) (at : Places) → (next : Places) × (placed at (ps ++ qs) ≡ placed at ps ++ placed next qs)
 placed_append [] qs at = (at, refl)
 placed_append (gap b ∷ ps) qs at = placed_append ps qs at

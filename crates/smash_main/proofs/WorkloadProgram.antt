@@ -73,7 +73,7 @@ abbrev scoped : List ProcedureTree → List ScopedProcedure
 scoped [] = []
 scoped (p ∷ ps) = record { tree = p; globals = [] } ∷ scoped ps
 
--- the scopes behind the declarations of `main`
+-- the scopes after the declarations of `main`
 abbrev main_scopes : List Scope
 main_scopes = (record { name = codes "v"; slot = 0 } ∷ record { name = codes "k"; slot = 0 } ∷ []) ∷ []
 

@@ -64,7 +64,7 @@ first_or b (c ∷ cs) = c
 abbrev is_plain : List ℕ → Bool
 is_plain text = not (first_or 47 text == 47)
 
--- the test of pieces behind which this byte stands
+-- the test of pieces after which this byte stands
 abbrev pub fits : ℕ → List Piece → Bool
 fits b [] = true
 fits b (gap c ∷ ps) = is_blank c && fits b ps
@@ -222,7 +222,7 @@ spelled-append [] qs = refl
 spelled-append (gap b ∷ ps) qs = ap (λ t. b ∷ t) (spelled-append ps qs)
 spelled-append (lexeme k text ∷ ps) qs = ap (λ t. text ++ t) (spelled-append ps qs) ∙ sym (append_assoc text (spelled ps) (spelled qs))
 
--- a text begins with its first byte, or with that behind it
+-- a text begins with its first byte, or with that after it
 begins : (b : ℕ) (bs rest : List ℕ) → (others : List ℕ) × (bs ++ b ∷ rest ≡ first_or b bs ∷ others)
 begins b [] rest = (rest, refl)
 begins b (c ∷ bs) rest = (bs ++ b ∷ rest, refl)

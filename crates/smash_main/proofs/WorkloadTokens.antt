@@ -139,7 +139,7 @@ passes_within test (suc n) a i h le lt =
       | inr same ↦ let e : a ≡ i = omega arith in subst (λ j. test j ≡ true) e k.0
     ]
 
--- pieces for the numbers from a on, each of which begins with the byte behind the one before
+-- pieces for the numbers from a on, each of which begins with the byte after the one before
 module _ (f : ℕ → List Piece) (b : ℕ) (each : (i : ℕ) → 1 ≤ i → i ≤ 60 → fits b (f i) ≡ true) (begins : (i : ℕ) → Begins b (f i))
     (qs : List Piece) (follows : Begins b qs) (stand : AllStand qs) where
   all_stand : (n a : ℕ) → 1 ≤ a → a + n ≤ 61 → Begins b (flat_map f (range_with_len a n) ++ qs)
@@ -206,7 +206,7 @@ cut f (suc n) a at qs =
           ∙ sym (append_assoc (placed at (f a)) (placed_all f (a + 1) c.all) (placed c.next qs));
     }
 
--- where the tokens of the program stand: of the lines of its procedures, before the calls in `main`, of the calls, and behind them
+-- where the tokens of the program stand: of the lines of its procedures, before the calls in `main`, of the calls, and after them
 pub record Spots : Type 0 where
   pub lines : List Places
   pub head : Places

@@ -37,7 +37,7 @@ pub record HasFewer (P : PureProgram) (number status : ℕ) (text : List ℕ) (w
 -- Bundles that are made
 
 -- The board's root of this number has this bundle, of this source: its claims are those of the
--- queries by which the root is proved, and it is right. What is told is its text, or that the text
+-- queries by which the root is proved, and it is right. What is written is its text, or that it
 -- is longer than one may be.
 pub record TellsProof (board : Shown) (bytes : List ℕ) (id : ℕ) (place : AssertPlace) (status : ℕ)
     (text : List ℕ) : Type 0 where
@@ -51,7 +51,7 @@ pub record TellsProof (board : Shown) (bytes : List ℕ) (id : ℕ) (place : Ass
   pub long : bundle_limit < length (bundle_text bundle) →
       (status ≡ 2) × (text ≡ long_proof_line place)
 
--- what is told of an assertion with this verdict
+-- what is written of an assertion with this verdict
 abbrev pub TellsVerdict : Shown → (bytes : List ℕ) → (id : ℕ) → AssertPlace → Verdict → ℕ →
     List ℕ → Type 0
 TellsVerdict board bytes id place Proved status text = TellsProof board bytes id place status text

@@ -69,8 +69,8 @@ asked_after _ entry = entry
 
 module _ (g : Graph) (exit : ExitKind) (table : List Summary) (levels claims : List Query)
     (killed : ℕ → Bool) where
-  -- The moves that stored steps make, one step behind the other, from this partition on, of which
-  -- so many queries were asked before.
+  -- The moves that stored steps make, one step after the other, from this partition on. Before
+  -- them `entry` queries were asked.
   abbrev pub MakesAll : List Step → (entry : ℕ) → Parted → List PureMove → Type 0
   MakesAll [] entry p made = made ≡ []
   MakesAll (s ∷ steps) entry p made =
@@ -80,8 +80,7 @@ module _ (g : Graph) (exit : ExitKind) (table : List Summary) (levels claims : L
 
 -- The claim of query i, where the claims are of these queries: what it asks, and the moves that the
 -- steps of the state make with which it closed. A kill by a child stands in the place of the
--- child's
--- Ask; where an edge is no longer live, it isn't killed again.
+-- child's Ask; where an edge is no longer live, it isn't killed again.
 pub record IsClaimOf (b : Shown) (claims : List Query) (i : ℕ) (c : PureClaim) : Type 0 where
   pub state : Seen
   pub closed : IsClosedIn b i state closing.NotMay

@@ -31,12 +31,12 @@ HasFault c = Rose c.faults_before c.faults_after
 abbrev pub StaysAsItWas : Change → Type 0
 StaysAsItWas c = Keeps c.before c.after
 
--- at most so many bytes of the source were taken
+-- at most `most` bytes of the source were taken
 abbrev pub TakesAtMost : Change → ℕ → Type 0
 TakesAtMost c most = TookAtMost c.before c.after most
 
 -- The status is this one, and the sink took this whole text. Or a write failed, the status is 6,
--- and the sink took a front of the text.
+-- and the sink took a prefix of the text.
 abbrev pub EndsWith : ℕ → Change → ℕ → List ℕ → Type 0
 EndsWith status sink due text =
     ((status ≡ due) × Appends sink.before sink.after text) ⊎
@@ -53,7 +53,7 @@ abbrev pub long_text_of : Command → List ℕ
 long_text_of recheck = long_bundle_text
 long_text_of c = too_long_text
 
--- all the bytes of the source, at most so many, were read
+-- all the bytes of the source, at most `most`, were read
 pub record IsWhole (most : ℕ) (source : Change) (bytes : List ℕ) : Type 0 where
   pub consumed : Consumes source.before source.after bytes
   pub at_end : IsAtEnd source.after
@@ -128,8 +128,8 @@ Obeys c status source sink w = ObeysSource c status source sink w
 abbrev pub IsVerdictStatus : ℕ → Type 0
 IsVerdictStatus status = (status ≡ 0) ⊎ ((status ≡ 1) ⊎ ((status ≡ 2) ⊎ (status ≡ 7)))
 
--- where input that the command accepts is told and no count of faults rises, the command ends with
--- a verdict, or memory runs out
+-- where the bytes are known, the command accepts them, and no count of faults rises, the command
+-- ends with a verdict, or memory runs out
 abbrev pub CompletesSource : Command → ℕ → Change → Change → Type 0
 CompletesSource c status source sink =
     (bytes : List ℕ) → source.before ≡ Some bytes → length bytes ≤ limit_of c → IsGood c bytes →

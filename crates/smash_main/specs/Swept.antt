@@ -17,7 +17,7 @@ use Rattle.report_text.specs.declared.sweeps.Unfound.{Unfound}
 use Rattle.report_text.specs.declared.sweeps.Unfound.TheVariants as unfound
 use Rattle.smash_main.specs.Analysis.{Witness, no_witness}
 
--- what is told of the assertions that weren't found, behind a sweep of at most so many edges
+-- what is written of the assertions that weren't found, after a sweep of at most `edges` edges
 abbrev pub unfound_at : (edges : ℕ) → SweepEnd → Unfound
 unfound_at edges how.Whole = unfound.Proved
 unfound_at edges how.More = unfound.Spent edges

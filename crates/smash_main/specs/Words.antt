@@ -32,7 +32,7 @@ is_numeral (b ∷ c ∷ bs) = nat_le 49 b && nat_le b 57 && list_all is_digit (c
 abbrev pub max_digits : ℕ
 max_digits = 10
 
--- a number of so many digits at most, from `low` to `high`
+-- a number of at most `max_digits` digits, from `low` to `high`
 pub record IsNumber (low high : ℕ) (text : List ℕ) (n : ℕ) : Type 0 where
   pub numeral : is_numeral text ≡ true
   pub short : length text ≤ max_digits
@@ -81,9 +81,9 @@ pub data IsList : List ℕ → List ℤ → Type 0 where
 abbrev pub Text : Type 0
 Text = List ℕ
 
--- The words behind a command's name, where its options have these names: the options that they
+-- The words after a command's name, where its options have these names: the options that they
 -- give, each with its text, and the words that are none. An option is two words, `--name` and its
--- text, whatever that looks like, or one word, `--name=` and its text. One `--` may stand, behind
+-- text, whatever that looks like, or one word, `--name=` and its text. One `--` may stand, after
 -- which no word is an option. (What looks like an option is no number and no list, so it is none of
 -- the other words of a command.)
 pub data AreParted (names : List Text) : (dashed : Bool) → List Text →

@@ -213,7 +213,7 @@ impl<'a> Maker<'a> {
         Some(Move::KillCall { edge, claim, proof })
     }
 
-    /// What a stored step makes, before which so many queries were asked.
+    /// What a stored step makes, before which `entry` queries were asked.
     fn step_move(
         &self,
         alloc: Global,

@@ -43,7 +43,7 @@ fn words_in(alloc: Global, line: &str) -> Result<Vec<String>, Fail> {
     Ok(words)
 }
 
-/// A source that gives at most so many bytes a call, of which one fails.
+/// A source that gives at most `piece` bytes a call, of which one fails.
 fn source_of(alloc: Global, text: &str, piece: usize, failing: u32) -> Result<MemSource, Fail> {
     let bytes = Vec::from_slice(alloc, text.as_bytes())?;
     let failing = vec![in alloc; failing; 1]?;
@@ -115,7 +115,7 @@ fn answers_programs_with_calls(rt: HostRuntime) -> Result<(), Fail> {
     agree(&rt, rt.alloc(), &CALLS)
 }
 
-/// What may be told in place of a line that says `proved`.
+/// What may be written in place of a line that says `proved`.
 fn unknown_for(alloc: Global, line: &str) -> Result<Option<String>, Fail> {
     let Some(place) = line.strip_suffix("proved") else {
         return Ok(None)
@@ -123,8 +123,7 @@ fn unknown_for(alloc: Global, line: &str) -> Result<Option<String>, Fail> {
     Ok(Some(format!(in alloc; "{place}unknown (budget 20000 spent)\n")?))
 }
 
-/// These lines, with those in place of them that are told, and the summary and the status that
-/// follow.
+/// These lines, or what was written in their place, and the summary and the status that follow.
 fn report_with(alloc: Global, told: &str, lines: &[&str]) -> Result<String, Fail> {
     let mut text = String::new(alloc);
     let (mut proved, mut found, mut unknown) = (0_u32, 0_u32, 0_u32);
@@ -357,7 +356,7 @@ fn bounds_nesting(rt: HostRuntime) -> Result<(), Fail> {
     Ok(())
 }
 
-/// What is written of so many blanks.
+/// What is written of `count` blanks.
 fn of_blanks<R: Threads + Wait + Sync>(
     rt: &R,
     alloc: Global,
@@ -417,7 +416,7 @@ fn values_of_quotients(rt: HostRuntime) -> Result<(), Fail> {
     agree_on_bodies(&rt, rt.alloc(), &DIVIDED)
 }
 
-/// What is written of a head, a part so many times, with its number between its halves, and a tail.
+/// What is written of a head, a repeated part with its number between its halves, and a tail.
 fn of_parts<R: Threads + Wait + Sync>(
     rt: &R,
     alloc: Global,
@@ -513,7 +512,7 @@ fn bundles_sweeps_and_edits_of_words(rt: HostRuntime) -> Result<(), Fail> {
     agree_on_commands(&rt, rt.alloc(), &AFTERWARDS_WORDS)
 }
 
-/// Whether a replay may have a list of so many values.
+/// Whether a replay may have a list of `count` values.
 fn takes_list_of(alloc: Global, count: usize) -> Result<bool, Fail> {
     let mut text = String::from_str(alloc, "[1")?;
     for _ in 1..count {

@@ -33,7 +33,7 @@ abbrev pub type_rejection : TypeError → Rejection
 type_rejection (type_error.Refused f at) = Refused (Types f at)
 type_rejection type_error.Memory = Memory
 
--- the bytes are refused, and what is told of the refusal is its place and its text
+-- the bytes are refused, and what is written of the refusal is its place and its text
 pub record IsRefusedFor (bytes : List ℕ) (why : Refusal) : Type 0 where
   pub at : Pos
   pub text : List ℕ

@@ -1,7 +1,7 @@
 -- How a list of queries grows.
 use Rattle.std.specs.Prelude.{◌≡◌, ℕ, List, ◌++◌, Some, slice_get}
 
--- these stand behind the old ones, each as it is to be
+-- these stand after the old ones, each as it is to be
 pub record IsGrown (P : ℕ → Type 0) (old new : List ℕ) : Type 0 where
   pub more : List ℕ
   pub is : new ≡ old ++ more

@@ -41,7 +41,7 @@ pub record EndsSilent (status : ℕ) (sink : Change) (w : Witness) : Type 0 wher
   pub silent : StaysAsItWas sink
   pub nothing : w ≡ no_witness
 
--- what is told of an assertion at a board that is over
+-- what is written of an assertion at a board that is over
 pub record IsTold (P : PureProgram) (board : Shown) (bytes : List ℕ) (id : ℕ) (t : Told) :
     Type 0 where
   pub place : AssertPlace
@@ -50,7 +50,7 @@ pub record IsTold (P : PureProgram) (board : Shown) (bytes : List ℕ) (id : ℕ
   pub right : HasVerdict board id verdict
   pub told : TellsVerdict board bytes id place verdict t.status t.text.items
 
--- what is told of a bundle that was checked
+-- what is written of a bundle that was checked
 abbrev pub TellsChecked : AssertPlace → Checked → (status : ℕ) → List ℕ → Witness → Type 0
 TellsChecked place Right status text w =
     (status ≡ 0) × (text ≡ accepted_line place) × (w ≡ no_witness)
@@ -77,7 +77,7 @@ IsOfOneSource recheck = ⊥
 IsOfOneSource (edit old_length budget workers) = ⊥
 IsOfOneSource c = Unit {0}
 
--- what is told of a sweep of at most so many edges
+-- what is written of a sweep of at most `edges` edges
 pub record TellsSwept (P : PureProgram) (edges : ℕ) (swept : Swept) (status : ℕ) (text : List ℕ)
     (w : Witness) : Type 0 where
   pub ended : status ≡ sweep_status (unfound_at edges swept.end) (entries_of swept)

@@ -29,7 +29,7 @@ pub record IsKept (P Q : PureProgram) (old : Shown) (summaries : List Summary) :
   pub matching : IsMatchingOf P Q procs asserts
   pub are : summaries ≡ kept procs asserts old.core.table
 
--- so many roots, the first ones, have these verdicts
+-- the first `count` roots have these verdicts
 pub record AreVerdicts (b : Shown) (count : ℕ) (vs : List Verdict) : Type 0 where
   pub each : length vs ≡ count
   pub right : (id : ℕ) (v : Verdict) → slice_get vs id ≡ Some v → HasVerdict b id v

@@ -17,7 +17,7 @@ pub record IsOnLevel (ns : List Node) (level i : ℕ) : Type 0 where
   pub at : slice_get ns i ≡ Some node
   pub is_level : node.level ≡ level
 
--- up from query i, query a is so many levels below the one that is looked for
+-- up from query i, query a is `left` levels below the one that is looked for
 pub record IsOnWay (ns : List Node) (level i : ℕ) (left a : ℕ) : Type 0 where
   pub on : IsOnLevel ns (level + left) a
   pub way : (x : ℕ) → IsAbove ns level a x → IsAbove ns level i x

@@ -6,7 +6,7 @@ use Rattle.bolt_core.specs.Boards.{Shown}
 use Rattle.bolt_core.specs.Groups.{Node}
 use Rattle.bolt_core.specs.Histories.{has_said}
 
--- of so many queries those in the list, each once, with its place
+-- of `count` queries those in the list, each once, with its place
 pub record IsListing (count : ℕ) (ids : List ℕ) (numbers : List (Option ℕ)) : Type 0 where
   pub size : length numbers ≡ count
   pub there : (i n : ℕ) → slice_get numbers i ≡ Some (Some n) → slice_get ids n ≡ Some i

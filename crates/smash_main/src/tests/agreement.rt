@@ -230,7 +230,7 @@ fn count_tests<R: Threads + Wait + Sync>(
     Ok(())
 }
 
-/// The programs of so many heads and all shapes.
+/// The programs of the first `heads` heads and all shapes.
 fn tally_of<R: Threads + Wait + Sync>(
     rt: &R,
     alloc: Global,

@@ -426,7 +426,7 @@ pub const NO_COMMANDS: [Row; 17] = [
 ];
 
 /// The call that fails of a source that gives 4 bytes a call, the room of the sink, and what is
-/// told.
+/// written.
 pub type Fault = (u32, usize, &'static str);
 
 pub const FAULTS: [Fault; 2] = [
@@ -445,7 +445,7 @@ pub const FAULTS: [Fault; 2] = [
 /// What `check` writes of `SUM`.
 pub const SUM_REPORT: &str = "1:35: proved\nsummary: 1 proved, 0 found, 0 unknown\n";
 
-/// A head, what is opened and closed so many times, a tail between, and what is told.
+/// A head, what is opened and closed, a tail between, how often, and what is written.
 pub type Nesting<'a> = (&'a str, (&'a str, &'a str), &'a str, usize, &'a str);
 
 pub const NESTINGS: [Nesting; 3] = [
@@ -546,7 +546,7 @@ pub const BODIES: [(&str, &str); 25] = [
     ),
 ];
 
-/// A head, a part, a tail, how often the part stands between them, and what is told.
+/// A head, a part, a tail, how often the part stands between them, and what is written.
 pub type Limit = (
     &'static str,
     (&'static str, &'static str),
