@@ -1,4 +1,4 @@
--- Parts read one behind the other.
+-- Parts read one after the other.
 use Rattle.std.proofs.Common.{◌≡◌, ℕ, suc, ◌+◌, ◌-◌, ◌<◌, ◌≤◌, Some, None, List, [], ◌∷◌, ◌++◌, arith, refl, sym, ap, ◌∙◌}
 use Rattle.std.proofs.lemmas.List.{append-nil, append_assoc}
 use Rattle.proof_bundle.specs.declared.error.BundleError.{BundleError}

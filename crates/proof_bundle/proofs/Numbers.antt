@@ -13,7 +13,7 @@ use Rattle.proof_bundle.specs.steps.Reading.{◌>>=◌, IsFrom, begins, behind_d
 use Rattle.proof_bundle.proofs.Digits.{Digits, decimal_digits, digits_front, digits_text, front_digits, parted, plain_decimal, value_decimal}
 use Rattle.proof_bundle.proofs.Parsing.{Parses, alike, bind_again, bind_is, some_is, tag_again, tag_takes, test_is}
 
--- a number, with a byte behind it
+-- a number, with a byte after it
 abbrev pub number_text : ℕ → ℕ → List ℕ
 number_text end n = decimal n ++ end ∷ []
 

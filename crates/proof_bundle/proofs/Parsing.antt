@@ -35,7 +35,7 @@ pub test_is : {A : Type 0} (b : Bool) (x y : A) → (if b then Some x else None)
 test_is true x y e = (refl, some_is x y e)
 test_is false x y e = absurd cc
 
--- one text behind the other
+-- one text after the other
 pub glue : (a x b y c : List ℕ) → a ≡ x ++ b → b ≡ y ++ c → a ≡ (x ++ y) ++ c
 glue a x b y c e h = e ∙ ap (λ t. x ++ t) h ∙ sym (append_assoc x y c)
 

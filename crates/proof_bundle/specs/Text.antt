@@ -12,9 +12,9 @@ use Rattle.summary_form.specs.declared.query.ExitKind.TheVariants.{Return, Fail}
 use Rattle.may_partition.specs.declared.region.RegionEdge.{RegionEdge}
 use Rattle.proof_bundle.specs.Claims.{PureBundle, PureClaim, PureMove, split, kill, kill_call}
 
--- Numbers, in decimal: `0`, or digits without a leading 0, behind a `-` below 0
+-- Numbers, in decimal: `0`, or digits without a leading 0, after a `-` below 0
 
--- with a blank behind it, or at the end of a line
+-- with a blank after it, or at the end of a line
 abbrev pub item : ℕ → List ℕ
 item n = decimal n ++ 32 ∷ []
 
@@ -27,7 +27,7 @@ signed_item z = signed_decimal z ++ 32 ∷ []
 abbrev pub signed_last : ℤ → List ℕ
 signed_last z = signed_decimal z ++ 10 ∷ []
 
--- Lists: their length ends a line, and the lines of each are behind it
+-- Lists: their length ends a line, and the lines of each are after it
 abbrev pub lines_text : {A : Type 0} → (A → List ℕ) → List A → List ℕ
 lines_text f xs = last (length xs) ++ flat_map f xs
 

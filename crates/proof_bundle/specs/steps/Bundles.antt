@@ -84,7 +84,7 @@ certificate_at bytes = refutation_at max_nesting bytes
 
 -- Moves
 
--- an edge, with the byte `end` behind it
+-- an edge, with the byte `end` after it
 unfoldable pub edge_at : ℕ → List ℕ → Read RegionEdge
 edge_at end bytes = do
   edge ← number_at 32 max_thing bytes

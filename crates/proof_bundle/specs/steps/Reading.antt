@@ -1,4 +1,4 @@
--- What stands at the front of a text, and the bytes behind it; or that nothing of the kind stands
+-- What stands at the start of a text, and the bytes after it; or that nothing of the kind stands
 -- there.
 use Rattle.std.specs.Prelude.{◌≡◌, ℕ, zero, suc, ◌+◌, ◌-◌, ◌*◌, ◌^◌, ◌<◌, ◌≤◌, nat_le, ◌==◌, Bool, true, false, not, ◌&&◌, Option, Some, None, Result, Ok, Err, List, [], ◌∷◌, length, ℤ, pos, negsuc, if◌then◌else◌}
 use Rattle.std.proofs.Common.{take, drop}
@@ -11,7 +11,7 @@ abbrev pub ◌>>=◌ : {A B : Type 0} → Option A → (A → Option B) → Opti
 None >>= f = None
 (Some x) >>= f = f x
 
--- a value of a text, and the bytes behind it
+-- a value of a text, and the bytes after it
 abbrev pub Read : Type 0 → Type 0
 Read A = Option (A × List ℕ)
 
@@ -27,7 +27,7 @@ Gives view (Err e) read = IfNot e (read ≡ None)
 
 -- Bytes
 
--- what is behind a tag
+-- what is after a tag
 unfoldable pub tag_at : List ℕ → List ℕ → Option (List ℕ)
 tag_at tag bytes =
     if bytes_eq (take (length tag) bytes) tag then Some (drop (length tag) bytes) else None
@@ -69,7 +69,7 @@ plain_value most digits =
     if is_plain digits && nat_le (value_from 0 digits) most then Some (value_from 0 digits) else
     None
 
--- a number of at most `most`, with the byte `end` behind it
+-- a number of at most `most`, with the byte `end` after it
 unfoldable pub number_at : ℕ → ℕ → List ℕ → Read ℕ
 number_at end most bytes = do
   n ← plain_value most (digits_of bytes)
@@ -116,7 +116,7 @@ lines_at one bytes = do
   n ← number_at 10 max_count bytes
   list_at one n.0 n.1
 
--- a list of this kind of lines, behind the words that name it
+-- a list of this kind of lines, after the words that name it
 unfoldable pub tagged_at : {A : Type 0} → List ℕ → (List ℕ → Read A) → List ℕ → Read (List A)
 tagged_at tag one bytes = do
   rest ← tag_at tag bytes
