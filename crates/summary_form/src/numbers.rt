@@ -9,7 +9,7 @@ use std::alloc::AllocError;
 /// long before.
 pub const MAX_NUMBER: u32 = 4_000_000_000;
 
-/// The number of what stands behind so many others.
+/// The number of what stands after `others` others.
 pub fn number_behind(others: usize) -> Result<u32, OutOfMemory>
     ensures { IfOk result (λ n. n ≡ others) }
 {
@@ -19,7 +19,7 @@ pub fn number_behind(others: usize) -> Result<u32, OutOfMemory>
     }
 }
 
-/// The number of what stands behind so many others and so many more.
+/// The number of what stands after `others` others and `more` more.
 pub fn number_behind_both(others: u32, more: u32) -> Result<u32, OutOfMemory>
     ensures { IfOk result (λ n. n ≡ others + more) }
 {
