@@ -46,7 +46,7 @@ use Rattle.query_rules.proofs.Marked.{IsMarked}
 use Rattle.query_rules.proofs.Points.{IsBefore, before, comes_behind, inner_columns, inner_read, parted_by_none}
 use Rattle.query_rules.proofs.Reaching.{Good, fits_must, inner_target}
 
--- the place behind a call
+-- the place after a call
 behind_call : (exit : ExitKind) (to : ℕ) (results : List ℕ) (s : State) (entry vs : List ℤ) (target : List Atom) → LiesBehind exit results s
     entry vs
     target →

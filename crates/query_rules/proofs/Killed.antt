@@ -104,7 +104,7 @@ module _ (table : List Summary) where
     covered = subst (λ o. Covers o (Some level)) (sym low) (covers_more m.lowest (Some level) l h.covered);
   }
 
-  -- a step is put behind
+  -- a step is added at the end
   pushed : (m n : Model) (s : Step) → n.steps ≡ m.steps ++ s ∷ [] → AllKilled m → ((by : Killer) → IsKilledBy table m by →
       IsKilledBy table n by) → ((k : RegionEdge) (by : Killer) → s ≡ step.Kill k by → IsKilledBy table n by) → AllKilled n
   pushed m n s e all stays new j k by at =
@@ -125,7 +125,7 @@ module _ (table : List Summary) where
     tail_of : (a b : Step) (ps qs : List Step) → a ∷ ps ≡ b ∷ qs → ps ≡ qs
     tail_of a b ps qs e = cc
 
-  -- behind another step than an Ask
+  -- after another step than an Ask
   no_ask : (m n : Model) (s : Step) → n.steps ≡ m.steps ++ s ∷ [] → ((k : RegionEdge) (q : Query) (seen : ℕ) → s ≡ step.Ask k q seen → ⊥) →
       Later m n
   no_ask m n s e not i h before k q seen f = absurd (not k q seen (last_is m.steps before s (step.Ask k q seen) (sym e ∙ f)))

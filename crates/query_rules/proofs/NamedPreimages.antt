@@ -95,7 +95,7 @@ slot_within count (x ∷ xs) zero h l = (both (nat_lt x count) (list_all (λ y. 
 slot_within count (x ∷ xs) (suc i) h l = slot_within count xs i (both (nat_lt x count) (list_all (λ y. nat_lt y count) xs) h).1
     (omega (arith, l))
 
--- the columns of a region behind the edge: at the exit so many entry values, and the exit values
+-- the columns of a region after the edge: at the exit the given number of entry values, and the exit values
 abbrev pub named_behind : (allowed : ℕ → Bool) (entries : ℕ) → Edge → ℕ → Bool
 named_behind allowed entries (Return from to slots) x = is_value_column entries (length slots) x
 named_behind allowed entries _ x = allowed x
@@ -105,7 +105,7 @@ pub record NamesColumns (allowed : ℕ → Bool) (rows : List Atom) : Type 0 whe
   pub names : IsTrue (rows_name_only allowed rows)
   pub terms : IsTrue (are_terms rows)
 
--- each column of the kind has 32 bits, and so many slots and entry values are of the kind
+-- each column of the kind has 32 bits, and the given numbers of slots and entry values are of the kind
 module _ (allowed : ℕ → Bool) (count entries : ℕ) (few : count ≤ max_slots) (number : (x : ℕ) → IsTrue (allowed x) → IsTrue (is_number x))
     (slot_allowed : (x : ℕ) → IsTrue (nat_lt x count) → IsTrue (allowed x))
     (entry_allowed : (x : ℕ) → IsTrue (is_entry_column entries x) → IsTrue (allowed x)) where

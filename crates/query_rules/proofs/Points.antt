@@ -81,7 +81,7 @@ inner_read v slots entry x h = by_slot (nat_lt x first_entry) refl h where
       let few : first_entry ≤ first_entry = omega arith in
       entry_stands (slots_at v slots) (values_of v entry) [] first_entry x few l ∙ sym (entry_read v slots entry first_entry x few l)
 
--- behind a return
+-- after a return
 pub value_read : (v : Valuation) (slots entry : List LinearSum) (x : ℕ) → IsTrue (is_value_column first_entry first_entry x) →
     valuation_of (values_of v entry) (values_of v slots) x ≡ replaced_valuation (reading slots entry) v x
 value_read v slots entry x h = by_entry (is_entry_column first_entry x) refl h where
@@ -211,7 +211,7 @@ module _ (gs : List Graph) (linked : AreGraphs gs) (g : Graph) (m : Model) (h : 
         (values_of v t.inputs ++ []) [] entry (f.2 []) in
         subst HoldsValues place there
 
-  -- the trail behind it, at a point of the same entry values that meets its guard and comes into the target
+  -- the trail after it, at a point of the same entry values that meets its guard and enters the target
   pub comes_behind : (t new : Trace) (pre target : List Atom) (v u : Valuation) → IsBefore m t pre v → Is64 u →
       values_of u new.entry ≡ values_of v t.entry → HoldsAll u new.guard.atoms →
       HoldsAll (replaced_valuation (reading new.slots new.entry) u) target → HasPoint (seen_at m.query new target)

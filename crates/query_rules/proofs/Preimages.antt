@@ -54,7 +54,7 @@ slot_of slots i h l = slot_within max_slots slots i h l
 
 -- The preimage
 
--- the columns of a region behind the edge: at the exit the exit values
+-- the columns of a region after the edge: at the exit the exit values
 abbrev pub behind_column : Edge → ℕ → Bool
 behind_column edge x = named_behind inner_column first_entry edge x
 

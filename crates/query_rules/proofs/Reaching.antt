@@ -112,7 +112,7 @@ no_entry C g ok entry halted y go = go
 inner_at : (exit node : ℕ) → (node ≡ exit → ⊥) → (x : ℕ) → node_column exit node x ≡ inner_column x
 inner_at exit node n x = rw (ne_eqb node exit n) refl
 
--- the columns behind an edge, where a region at the exit names the exit values
+-- the columns after an edge, where a region at the exit names the exit values
 behind_named : (g : Graph) (e : Edge) → IsEdge g.nodes g.exit g.fail g.exits g.slots e → (node : ℕ) → node ≡ target e →
     (atoms : List Atom) →
     IsTrue (rows_name_only (node_column g.exit node) atoms) →
@@ -183,7 +183,7 @@ module _ (gs : List Graph) (linked : AreGraphs gs) (g : Graph) where
       IsTrue (are_terms (asked_atoms b.edge b.target.cube.atoms))
   edge_terms m h k b = asked_terms b.edge (ok.are_edges k.edge b.edge b.at_edge).terms b.target.cube.atoms (target_terms m h k b)
 
-  -- the target of a live edge that is no call is a region behind the edge
+  -- the target of a live edge that is no call is a region after the edge
   pub fits_edge : (m : Model) → Good m → (k : RegionEdge) → IsTrue (m.parted.live k) → (b : Between g m k) → is_call b.edge ≡ false →
       FitsEdge b.edge b.target.cube.atoms
   fits_edge m h k live b plain = record {

@@ -170,7 +170,7 @@ module _ (gs : List Graph) (linked : AreGraphs gs) (g : Graph) (q : Query) (at :
   kill_table c k asked s a entails none h =
       keeps_kill c k None (λ d _. idle_asked c.parted k asked a d (entails_not_may gs d asked s entails (none d))) h
 
-  -- by what an asked entry of the edge was told
+  -- by what was reported to an asked entry of the edge
   pub kill_child : (c : Core) (i : ℕ) (a : Asked) (lowest : Option ℕ) → slice_get c.asked i ≡ Some a → a.news ≡ news.NotMay lowest →
       Holding c → Holding (killed a.edge lowest c)
   kill_child c i a lowest e n h = keeps_kill c a.edge lowest (λ d all. idle_asked c.parted a.edge a.query (h.asks i a e) d
@@ -358,7 +358,7 @@ module _ (gs : List Graph) (g : Graph) (q : Query) (ok : IsGraph g.nodes g.exit 
       subst (λ (x : Region). IsTrue (list_all (is_fit (node_column g.exit x.node)) x.cube.atoms)) same
       (fit_beginning (0 + a) (0 + a == first_node g.edges) (0 + a == end_node g q.exit) refl refl)
 
-  -- the node behind the entry is no exit
+  -- the node after the entry is no exit
   entry_apart : first_node g.edges ≡ g.exit → ⊥
   entry_apart e = no_return (ok.are_edges 0 (Entry (first_node g.edges) g.params) (entry_edge g.params g.edges ok.begins)).to_exit where
     no_return : false ≡ (first_node g.edges == g.exit) → ⊥

@@ -76,7 +76,7 @@ pre_columns _ = []
 
 pub record Crossing : Type 0 where
   pub target : List Atom
-  -- the trail behind it, and the sums by which it is carried there
+  -- the trail after it, and the sums by which it is carried there
   pub carried : Trace → Trace
   pub carrying : Trace → List Sum
   -- the preimage of the target, with the sums and the eliminations that it asks for
@@ -139,7 +139,7 @@ module _ (q : Query) (t : Trace) (c : Crossing) where
   abbrev pub rows_across : List Atom
   rows_across = seen_at q (c.carried t) c.target
 
-  -- at the point the trail comes into the target
+  -- at the point the trail enters the target
   pub record ComesInto (point : Point) : Type 0 where
     pub decided : IsCarriedWell
     pub values : Is64 (valuation point)
@@ -207,7 +207,7 @@ module _ (q : Query) (ts : List Trace) (source : List Atom) (c : Crossing) where
     pub fails : (pre ≡ []) ⊎ (IsNever (source ++ pre)
         ⊎ OfSome (λ t. IsRead t (source ++ pre) × IsMet (seen_at q t (source ++ pre))) ts)
 
-  -- each question ends without a limit: no trail comes into the target, and the source isn't split
+  -- each question ends without a limit: no trail enters the target, and the source isn't split
   pub record ServesNeither : Type 0 where
     pub no_trail : OfEach (λ t. IsShownNotToCome q t c) ts
     pub not_split : IsShownNotToSplit
