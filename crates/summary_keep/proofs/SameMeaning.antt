@@ -28,7 +28,7 @@ same_place (x ∷ xs) [] e i y h k = absurd (let no : suc (length xs) ≡ 0 = e 
 same_place (x ∷ xs) (z ∷ ys) e zero y h k = cc
 same_place (x ∷ xs) (z ∷ ys) e (suc i) y h k = same_place xs ys (let q : suc (length xs) ≡ suc (length ys) = e in cc) i y h k
 
--- values behind one another
+-- values one after another
 front : (xs ys : List ℤ) → AreAllValues (xs ++ ys) → AreAllValues xs
 front [] ys h i = refl
 front (x ∷ xs) ys h zero = h zero

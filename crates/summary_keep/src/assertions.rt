@@ -125,7 +125,7 @@ fn pair_procedure(
     }
 }
 
-/// No number for each of so many.
+/// A list of this length without numbers.
 fn no_numbers(alloc: Global, count: usize) -> Result<Vec<Option<AssertId>>, AllocError>
     ensures { IfOk result (λ v. v.items ≡ replicate count None) }
 {
