@@ -26,7 +26,7 @@ same_key p q d e same_p same_d = ap (λ r. key_of r d) same_p ∙ ap (key_of q) 
 
 -- Elements of lists
 
--- one is put behind the others
+-- one is added after the others
 from_behind : {X : Type 0} (xs : List X) (x : X) (i : ℕ) (y : X) → slice_get (xs ++ x ∷ []) i ≡ Some y →
     ((i < length xs) × (slice_get xs i ≡ Some y)) ⊎ ((i ≡ length xs) × (x ≡ y))
 from_behind [] x zero y h = inr (refl, cc)
@@ -108,7 +108,7 @@ now_there table s p d from within none about = record {
   ];
 }
 
--- none stands behind it
+-- none stands after it
 none_behind : (table : List Summary) (s : Summary) (p : ℕ) (d : ExitKind) (from : ℕ) → length table < from →
     NoneFrom (table ++ s ∷ []) p d from
 none_behind table s p d from behind = λ i x l at. elim (from_behind table s i x at) [
@@ -151,7 +151,7 @@ is_last_still table first last next s h own p d n o at = elim (from_put last (ow
   | inr e ↦ last_stays table s p d o (h.is_last p d n o e.1) (not_about p d s e.0)
 ]
 
--- of the new summary none stands behind it
+-- of the new summary none stands after it
 is_next_new : (table : List Summary) (s : Summary) (i : ℕ) (z : Summary) (o : Option ℕ) → i ≡ length table → None ≡ o →
     IsNextFrom (table ++ s ∷ []) (proc_of z) (exit_of z) (suc i) o
 is_next_new table s i z o e is =
@@ -192,7 +192,7 @@ chained_first table first last next s h own was = record {
     none : NoneFrom table (proc_of s) (exit_of s) 0
     none = h.is_last (proc_of s) (exit_of s) own None was
 
--- and else it stands behind the last one
+-- and else it stands after the last one
 chained_behind : (table : List Summary) (first last next : List (Option ℕ)) (s : Summary) (before : ℕ) →
     AreChained table first last next → IsNumbered (proc_of s) (exit_of s) →
     slice_get last (key_of (proc_of s) (exit_of s)) ≡ Some (Some before) →

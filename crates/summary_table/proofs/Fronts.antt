@@ -14,7 +14,7 @@ starts_with_taken all front n e = record {
   is = sym (take-append-drop n all) ∙ ap (λ xs. xs ++ drop n all) (sym e);
 }
 
--- more of the list still begins with its front
+-- more of the list still begins with its prefix
 pub keeps_front : (all old new : List Summary) (known i : ℕ) → StartsWith all old → known ≡ length old → new ≡ take (known + i) all →
     StartsWith new old
 keeps_front all old new known i h k e = record {
@@ -22,11 +22,11 @@ keeps_front all old new known i h k e = record {
   is = e ∙ ap (λ n. take (n + i) all) k ∙ ap (take (length old + i)) h.is ∙ take-append-add old h.rest i;
 }
 
--- what is left behind the front
+-- what is left after the prefix
 rest_taken : {A : Type 0} (known : ℕ) (xs : List A) → take (length xs - known) (drop known xs) ≡ drop known xs
 rest_taken known xs = ap (λ n. take n (drop known xs)) (sym (length-drop known xs)) ∙ take-length (drop known xs)
 
--- an item behind the front
+-- an item after the prefix
 pub item_there : {A : Type 0} (f : A → Summary) (xs : List A) (all : List Summary) (known i : ℕ) (x : A) (s : Summary) → map f xs ≡ all →
     i < length (take (length xs - known) (drop known xs)) → x ≡ get_or (take (length xs - known) (drop known xs)) i x → s ≡ f x →
     slice_get all (known + i) ≡ Some s

@@ -15,7 +15,7 @@ use Rattle.summary_form.specs.declared.path.Path.{Path}
 use Rattle.summary_form.specs.declared.query.Query.{Query}
 use Rattle.summary_table.specs.Asked.{rows_of_query, path_reading, must_rows}
 
--- Rows behind others
+-- Rows after others
 
 holds_behind : (v : Valuation) (atoms others : List Atom) (P : Type 0) → (P → HoldsAll v others) → HoldsAll v atoms → P →
     HoldsAll v (atoms ++ others)

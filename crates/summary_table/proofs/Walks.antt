@@ -45,7 +45,7 @@ abbrev pub places_left : (all : ℕ) → Option ℕ → ℕ
 places_left all None = 0
 places_left all (Some place) = suc (all - place)
 
--- behind a place there are fewer
+-- after a place there are fewer
 pub left_falls : (table : List Summary) (at : Option ℕ) (place : ℕ) (next : Option ℕ) → at ≡ Some place → place < length table →
     ((t : Summary) → slice_get table place ≡ Some t → IsNextFrom table (proc_of t) (exit_of t) (suc place) next) →
     places_left (length table) next < places_left (length table) at
@@ -60,7 +60,7 @@ left_falls table at place next is low h = subst (λ o. places_left (length table
     less p d None w = omega arith
     less p d (Some n) w = omega (arith, w.later, low)
 
--- a place of the chain, or its end, where those before are behind `from`
+-- a place of the chain, or its end, where those before are after `from`
 pub record IsWalking (table : List Summary) (proc : ℕ) (exit : ExitKind) (from : ℕ) (at : Option ℕ) : Type 0 where
   pub begun : ℕ
   pub before : begun ≤ from
@@ -93,7 +93,7 @@ pub walking_within : (table : List Summary) (proc : ℕ) (exit : ExitKind) (from
     IsWalking table proc exit from (Some place) → place < length table
 walking_within table proc exit from place w = slice_get_within table place w.next.summary w.next.there
 
--- the place that isn't behind it is the least one, and at the end there is none
+-- the place that isn't after it is the least one, and at the end there is none
 pub walked_to : (table : List Summary) (proc : ℕ) (exit : ExitKind) (from place : ℕ) → IsWalking table proc exit from (Some place) →
     from ≤ place → IsPlaceFrom table proc exit from place
 walked_to table proc exit from place w l = record {
@@ -125,7 +125,7 @@ no_answer_apart : (q : Query) (s : Summary) → (¬ IsAbout q.proc q.exit s) →
 no_answer_apart q (NotMay n) apart = λ a. apart (a.same_procedure, a.same_exit)
 no_answer_apart q (Must p) apart = λ a. apart (a.same_procedure, a.same_exit)
 
--- what is known stays so behind summaries that aren't asked
+-- what is known stays so after summaries that aren't asked
 so_far_skipped : (q : Query) (table : List Summary) (from to : ℕ) (limit : Option Kept) → IsSoFar q table from limit →
     ((i : ℕ) (s : Summary) → from ≤ i → i < to → slice_get table i ≡ Some s → ¬ IsAbout q.proc q.exit s) → IsSoFar q table to limit
 so_far_skipped q table from to limit h none = record {
@@ -164,7 +164,7 @@ asking_on q table from (Some place) limit h next = record {
   so_far = so_far_skipped q table from place limit h next.none_before;
 }
 
--- behind a place that was asked
+-- after a place that was asked
 pub asked_on : (q : Query) (table : List Summary) (place : ℕ) (next : Option ℕ) (limit before : Option Kept) →
     IsHere q table place before → IsSoFar q table (place + 1) limit →
     ((t : Summary) → slice_get table place ≡ Some t → IsNextFrom table (proc_of t) (exit_of t) (suc place) next) →

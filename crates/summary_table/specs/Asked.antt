@@ -43,7 +43,7 @@ path_reading p x =
 abbrev pub read_sums : Query → Path → List Sum
 read_sums q p = row_sums (path_reading p) (rows_of_query q)
 
--- behind its guard
+-- after its guard
 abbrev pub must_rows : Query → Path → List Atom
 must_rows q p = p.guard.atoms ++ rows_of_sums (read_sums q p)
 

@@ -48,7 +48,7 @@ fn zero(alloc: Global) -> Term
     Term::new(Parts::from_vec(Vec::new(alloc)), 0)
 }
 
-/// The term at a place, 0 behind the last one.
+/// The term at a place, 0 after the last one.
 fn term_at(alloc: Global, terms: &[Term], place: u32) -> Result<Term, OutOfMemory>
     ensures { IfOk result (λ t. t ≡ term_at terms.now place) }
 {

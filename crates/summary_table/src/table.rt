@@ -17,8 +17,8 @@ use std::sync::Arc;
 use summary_form::query::{ExitKind, Query};
 use summary_form::summary::Summary;
 
-/// Summaries in the order in which they came, with room for so many. None is taken away. Those of
-/// one procedure and exit kind are linked, so that none else is looked at for them.
+/// Summaries in the order in which they came, with room for a given number. None is taken away.
+/// Those of one procedure and exit kind are linked, so that none else is looked at for them.
 #[derive(Drop)]
 pub struct Table {
     room: u32,
@@ -51,7 +51,7 @@ impl Model for Table {
 }
 
 impl Table {
-    /// No summary, and room for so many. The only call that takes memory for the lists.
+    /// No summary, and room for the given number. The only call that takes memory for the lists.
     pub fn with_room(alloc: Global, room: u32) -> Result<Table, OutOfMemory>
         ensures { IfOk result (λ t. IsBegun room t) }
     {
@@ -72,7 +72,7 @@ impl Table {
         self.room
     }
 
-    /// Adds a summary behind the others.
+    /// Adds a summary after the others.
     pub fn push(&mut self, summary: Arc<Summary>)
         requires room { length self.old.summaries < self.old.room }
         requires numbers { IsNumbered (proc_of summary.value) (exit_of summary.value) }
@@ -90,8 +90,8 @@ impl Table {
         self.summaries.push_reserved(summary);
     }
 
-    /// Adds the summaries that the other table has and this one hasn't. After want of memory this
-    /// one is still a front of the other.
+    /// Adds the summaries that the other table has and this one hasn't. Once memory runs out this
+    /// one is still a prefix of the other.
     pub fn catch_up(&mut self, from: &Table) -> Result<(), OutOfMemory>
         requires front { StartsWith from.now.summaries self.old.summaries }
         requires room { length from.now.summaries ≤ self.old.room }
@@ -122,7 +122,7 @@ impl Table {
         self.first[key_of(proc, *exit)]
     }
 
-    /// The next place behind this one with a summary of its procedure and exit kind.
+    /// The next place after this one with a summary of its procedure and exit kind.
     pub fn next_of(&self, place: u32) -> Option<u32>
         requires { place < length self.now.summaries }
         ensures { (s : ASummary) → slice_get self.now.summaries place ≡ Some s →
@@ -136,7 +136,7 @@ impl Table {
     pub fn next_from(&self, proc: ProcId, exit: &ExitKind, from: u32) -> Option<u32>
         ensures { IsNextFrom self.now.summaries proc exit.now from result }
     {
-        // (It is told here that the summaries of a table are numbered.)
+        // (This shows that the summaries of a table are numbered.)
         let _ = &self.summaries;
         if !is_numbered(proc, *exit) {
             return None;
