@@ -13,7 +13,7 @@ use Rattle.linear_formula.proofs.Finishing.{cast_wide}
 use Rattle.shadow_elim.specs.Division.{common_divisor, parts_divisor, divided_parts, divided, floor_quotient, ceiling_quotient}
 use Rattle.shadow_elim.proofs.Divisors.{IsGcd-common_divisor, common_divisor-one}
 
--- the parts in front don't matter where those behind have no common divisor
+-- the earlier parts don't matter where the later ones have no common divisor
 pub parts_divisor-one : (k : ℕ) (ps : List (ℕ × ℤ)) → parts_divisor (drop k ps) ≡ 1 → parts_divisor ps ≡ 1
 parts_divisor-one zero ps h = h
 parts_divisor-one (suc k) [] h = h

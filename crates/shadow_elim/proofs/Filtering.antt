@@ -72,7 +72,7 @@ filter-reduced p h rows = filter-reduced_after p h [] rows
 
 -- The rows that stayed already
 
--- the same rows that can fail have one as strong before, or a stronger one behind
+-- the same rows that can fail have one as strong before, or a stronger one later
 abbrev AreCovered : (bs ts cs rs : List LinearSum) → Type 0
 AreCovered bs ts cs rs = (t : LinearSum) → is_trivial t ≡ false → (list_any (is_as_strong t) bs || list_any (is_stronger t) ts)
     ≡ (list_any (is_as_strong t) cs || list_any (is_stronger t) rs)

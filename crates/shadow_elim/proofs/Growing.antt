@@ -1,4 +1,4 @@
--- No fewer rows stay where more are added behind.
+-- No fewer rows stay where more are added at the end.
 use Rattle.std.proofs.Common.{◌≡◌, ◌≤◌, suc, Bool, true, false, not, ◌&&◌, ◌||◌, List, [], ◌∷◌, ◌++◌, length, length-append, append_assoc, append-nil, arith, refl, sym, ap, ◌∙◌}
 use Rattle.std.proofs.Math.Bool.{or-false}
 use Rattle.std.specs.Prelude.{int_lt, if◌then◌else◌}
@@ -37,7 +37,7 @@ between t s u h n k = by_test (int_lt t.constant s.constant) refl where
         constant = omega (arith, ints, e);
       })
 
--- a row behind matters only to those that it is stronger than
+-- a later row matters only to those that it is stronger than
 same-behind : (bs ts : List LinearSum) (t u : LinearSum) → is_stronger t u ≡ false → stays bs t (ts ++ u ∷ []) ≡ stays bs t ts
 same-behind bs ts t u e =
     ap (λ z. not (is_trivial t) && (not (list_any (is_as_strong t) bs) && not z)) (list_any-append (is_stronger t) ts (u ∷ [])

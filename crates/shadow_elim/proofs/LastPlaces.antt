@@ -30,7 +30,7 @@ not_earlier rows i d rising h =
     in
     omega (arith, ints, s.constant, rising a.0 i d l h s.parts))
 
--- a stronger row behind, by its place
+-- a later stronger row, by its place
 stronger_place : (t : LinearSum) (rows : List Candidate) (i : ℕ) (d : Candidate) →
     list_any (is_stronger t) (candidate_terms (drop (i + 1) rows))
     ≡ true → (j : ℕ) × (i < j) × (j < length rows) × ((get_or rows j d).term.parts ≡ t.parts)
@@ -55,7 +55,7 @@ stronger_at rows i n d rising h k e =
     (ap (λ (c : Candidate). is_stronger (get_or rows i d).term c.term) there ∙ test-from_Stronger (get_or rows i d).term
     (get_or rows n d).term s)
 
--- no stronger row is behind exactly where the place is the last one
+-- no stronger row comes later exactly where the place is the last one
 last_behind : (rows : List Candidate) (i : ℕ) (d : Candidate) (o : Option ℕ) → AreRising rows → i < length rows →
     IsRight rows (get_or rows i d).term.parts o → not (list_any (is_stronger (get_or rows i d).term) (candidate_terms (drop (i + 1) rows)))
     ≡ is_found i o

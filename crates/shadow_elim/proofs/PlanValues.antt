@@ -76,7 +76,7 @@ chosen_64 (x ∷ xs) rows values h =
       by_remainder r wide d = absurd (cc)
       by_remainder r too_many d = absurd (cc)
 
--- what is met without a split, or behind one
+-- what is met without a split, or after one
 settled_64 : (splits : List Cube) (atoms : List Atom) (divide : ℕ → ℤ → Search) (values : List (ℕ × ℤ)) →
     ((x : ℕ) (k : ℤ) → divide x k ≡ found values → Is64 (valuation values)) → settled splits atoms divide (outcome_of atoms)
     ≡ found values →

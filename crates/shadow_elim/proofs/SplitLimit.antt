@@ -1,4 +1,4 @@
--- Where too many splits are needed, so many cubes were split, and they are a tree.
+-- Where too many splits are needed, that many cubes were split, and they are a tree.
 use Rattle.std.proofs.Common.{◌≡◌, inl, inr, ℕ, zero, suc, ◌+◌, ◌≤◌, Bool, true, false, List, [], ◌∷◌, ◌++◌, length, ℤ, pos, arith, refl, subst}
 use Rattle.std.specs.Prelude.{◌+ℤ◌, All, nat_le, nat_lt, if◌then◌else◌}
 use Rattle.std.proofs.lemmas.List.{length_push}

@@ -36,7 +36,7 @@ last-cases {X = X} (y ∷ ys) c (b ∷ bs) x after e =
       pass f (inl h) = inl (ap (λ z. z ∷ bs) (sym f) ∙ ap (λ zs. y ∷ zs) h.0, h.1)
       pass f (inr h) = inr (h.0, ap (λ z. z ∷ ys) f ∙ ap (λ zs. b ∷ zs) h.1)
 
--- what stands before and behind an element
+-- what stands before and after an element
 parted : {X : Type 0} (xs : List X) (x : X) → Among x xs → (before : List X) × (after : List X) × (xs ≡ before ++ x ∷ after)
 parted [] x h = absurd h
 parted (y ∷ ys) x (inl e) = ([], ys, ap (λ z. z ∷ ys) e)
@@ -122,7 +122,7 @@ tree-more question cubes c t b before cube after e = by_case (last-cases cubes c
       (subst (λ (ds : List Cube). IsBranchAfter question ds c.atoms) (sym h.0) b)
   by_case (inr h) = t before cube h.0 h.1
 
--- Rows behind those of the question
+-- Rows after those of the question
 
 sides-more : (question : List Atom) (cubes : List Cube) (atoms : List Atom) (s : IsSideOfOne (columns_of (rows_of question)) cubes atoms) →
     HasSides question s.parent.atoms → HasSides question atoms

@@ -350,7 +350,7 @@ right-first base now steps lists e n h =
           c.origin))) lists h;
     })
 
--- the columns behind a place, as the code slices them
+-- the columns after a place, as the code slices them
 pub all-others : (xs : List ℕ) (n : ℕ) (cs : List Candidate) (old new : List (List Candidate)) → AreAdded (take (length xs - n) (drop n xs))
     cs
     old new → AreAdded (drop n xs) cs old new

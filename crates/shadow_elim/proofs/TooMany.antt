@@ -33,7 +33,7 @@ many-behind xs cs ds old mid new a m = record {
   beyond = m.beyond;
 }
 
--- behind the rows that don't name the column
+-- after the rows that don't name the column
 pub many-candidates : (x : ℕ) (xs : List ℕ) (rows us ls fs : List Row) (old mid new : List (List Candidate)) → us ≡ uppers x rows →
     ls ≡ lowers x rows → fs ≡ frees x rows → AreAdded xs (map known fs) old mid → AreTooMany xs (made_of_all x us ls) mid new →
     AreTooMany xs (candidates x rows) old new

@@ -22,7 +22,7 @@ LacksInteger atoms = (column : ℕ) × (at : ℤ) × (outcome_of atoms ≡ split
 abbrev pub IsSide : ℕ → ℤ → LinearSum → Type 0
 IsSide x k t = (t ≡ at_most x k) ⊎ (t ≡ at_least x (k +ℤ pos 1))
 
--- the atoms are those of one of the cubes and, behind them, one side of its split at one of the
+-- the atoms are those of one of the cubes and, after them, one side of its split at one of the
 -- columns
 pub record IsSideOfOne (columns : List ℕ) (cubes : List Cube) (atoms : List Atom) : Type 0 where
   pub parent : Cube
@@ -47,7 +47,7 @@ AreTree question cubes =
     (before : List Cube) (cube : Cube) (after : List Cube) → cubes ≡ before ++ cube ∷ after →
     IsBranchAfter question before cube.atoms
 
--- the rows of the question, and behind them sides of splits of its columns
+-- the rows of the question, and after them sides of splits of its columns
 abbrev pub HasSides : (question : List Atom) → List Atom → Type 0
 HasSides question atoms =
     (sides : List Atom) × (atoms ≡ question ++ sides)
@@ -76,7 +76,7 @@ RightLimitsKeepTrees =
     IfBranches kept.limit (λ cubes. (cube : Cube) × (kept.question ≡ question.Cube cube)
     × AreAllSplit cube.atoms cubes)
 
--- each cube of a tree is its question with sides of splits behind it
+-- each cube of a tree is its question with sides of splits after it
 abbrev pub TreesHaveSides : Type 0
 TreesHaveSides =
     (question : List Atom) (cubes : List Cube) → AreTree question cubes →

@@ -34,7 +34,7 @@ equal_sums s t =
     record { summands = (pos 1, s) ∷ (negsuc 0, t) ∷ []; constant = pos 0 }
     ∷ record { summands = (pos 1, t) ∷ (negsuc 0, s) ∷ []; constant = pos 0 } ∷ []
 
--- the term at a place, 0 behind the last one
+-- the term at a place, 0 after the last one
 abbrev pub term_at : List LinearSum → ℕ → LinearSum
 term_at terms i = slice_index_or terms i (constant_sum (pos 0))
 

@@ -104,7 +104,7 @@ pub fn do_fit(upper: Sizes, lower: Sizes) -> bool
         && left + right <= MAX_CONSTANT as u128
 }
 
-/// Whether the sizes tell that no sum of an upper and a lower row of a column is too wide.
+/// Whether the sizes show that no sum of an upper and a lower row of a column is too wide.
 pub fn do_all_fit(uppers: &[Row], lowers: &[Row]) -> bool
     ensures fit { result ≡ true → (x : ℕ) → All (λ u. IsTrue (is_upper x u.term)) uppers.now →
         All (λ l. IsTrue (is_lower x l.term)) lowers.now → NoneIsWide x uppers.now lowers.now }
