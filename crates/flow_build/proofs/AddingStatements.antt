@@ -95,7 +95,7 @@ repetition_added e step body frame from exits inner again tested left right b0 b
   slot = simp (h.slot, k.slot, m.slot, max_add) refl;
 }
 
--- a loop that tests behind its body
+-- a loop that tests after its body
 pub tested_repetition_added : (body : Statement) (e : Expression) (frame : Frame) (from : ℕ) (exits : Exits) (again left tested : ℕ)
     (b0 b1 b2 b3 : Builder) →
     b1.edges.items ≡ b0.edges.items → b1.next ≡ b0.next + 1 → again ≡ b0.next →
@@ -110,7 +110,7 @@ tested_repetition_added body e frame from exits again left tested b0 b1 b2 b3 e1
   slot = simp (h.slot, k.slot, max_add) refl;
 }
 
--- a value, and an edge behind it
+-- a value, and an edge after it
 pub value_then : (v : _) (d : ℕ → Edge) (from t : ℕ) (b0 b1 b2 : Builder) (l : Landed) → Adds v from t b0 b1 l → b2.edges.items
     ≡ b1.edges.items ++ d l.node ∷ [] → b2.next ≡ b1.next →
     b2.edges.items ≡ b0.edges.items ++ edges_of (Rattle.flow_build.specs.steps.Lowering.value_blocks v from t b0.next

@@ -125,7 +125,7 @@ cond_same : {A : Type 0} (b : Bool) (x : A) → cond b x x ≡ x
 cond_same true x = refl
 cond_same false x = refl
 
--- Without a statement the first node is the one behind it.
+-- Without a statement the first node is the one after it.
 abbrev pub Begins : Statements → (from to : ℕ) → Type 0
 Begins no_statements from to = from ≡ to
 Begins (statement a ss) from to = Unit {0}
@@ -168,7 +168,7 @@ module _ (C : Called) (g : List Edge) (rest : List ℤ) (end : End) (gives : Boo
   wider : (j K n : ℕ) (w : World) (s : State) → j ≤ K → StandsAt j n w s → StandsAt K n w s
   wider j K n w s le b = (b.0, b.1, b.2, (b.3.0, le_by b.3.0 j K b.3.1 le, b.3.2))
 
-  -- one behind the other
+  -- one after the other
   sequence_comes : (F S : State → Relation Flow) (from mid to brk con : ℕ) → RunComes F from mid brk con → RunComes S mid to brk con →
       RunComes (λ s. Then (F s) (λ f. AfterNormal f S)) from to brk con
   sequence_comes F S from mid to brk con first second s σ w m vals K k le h =
@@ -182,7 +182,7 @@ module _ (C : Called) (g : List Edge) (rest : List ℤ) (end : End) (gives : Boo
       on w1 (continued s1) b = (goes w1 (continued s1), refl, b)
       on w1 (returned v) b = (goes w1 (returned v), refl, b)
 
-  -- behind a body whose Break leads to `to`, and whose Continue to where it leads itself
+  -- after a body whose Break leads to `to`, and whose Continue to where it leads itself
   after_body : (j K mid to brk con : ℕ) (Q : State → Relation Flow) (w : World) → j ≤ K →
       ((s : State) → StandsAt j mid w s → Comes C g rest end (Q s) w (BehindFlow K to brk con))
       → (f : Flow) → BehindFlow j mid to mid w f → Comes C g rest end (AfterBody f Q) w (BehindFlow K to brk con)

@@ -322,7 +322,7 @@ module _ (C : Called) (g : List Edge) (rest : List ℤ) (end : End) where
           on w1 true d = (goes w1 false, refl, d)
           on w1 false d = (goes w1 true, refl, d)
 
-      -- the second test, behind the first
+      -- the second test, after the first
       second_comes : (e : Bool) (d : Test) (lo : ℕ) (met unmet : Target) (t u lo2 : ℕ) → TestComes d lo met unmet (t + u) lo2
           → (s σ σ1 : State) (w : World) → Matches vars σ1 (Sees s w) → Keeps e vars t σ σ1 → AreValues σ1 → (K : ℕ) →
           Before C g rest end K (inside lo σ1) w.inputs
@@ -401,7 +401,7 @@ module _ (C : Called) (g : List Edge) (rest : List ℤ) (end : End) where
             (σ2, m2, keep, vals2, subst (λ z. Led C g rest end K (cond z met unmet) σ2 w2.inputs) same led),
           ))
 
-      -- a value and those behind it
+      -- a value and those after it
       values_come_first : (v : Value) (vs : Values) (from t lo : ℕ) → vars ≤ t → IsInSlot v → FitsValue P L vars v →
           IsSettled v (make_call vs) → ValueComes v from t lo →
           ValuesCome vs (landing v from lo) (t + slots_of v) (lo + nodes_of v) → ValuesCome (value v vs) from t lo
@@ -466,7 +466,7 @@ module _ (C : Called) (g : List Edge) (rest : List ℤ) (end : End) where
                   )) r.0 r.2,
             ))
 
-        -- a quotient or a remainder, behind the dividend
+        -- a quotient or a remainder, after the dividend
         quotient_comes : (c : ℤ) (v : Value) (from t lo : ℕ) → vars ≤ t → IsInSlot v → FitsValue P L vars v → IsDivisor c →
             At g (quotient_blocks c (argument_slot v (t + 1)) t (landing v from (lo + 1)) lo (lo + 1 + nodes_of v)) →
             ValueComes v from (t + 1) (lo + 1) → ValueComes (quotient c v) from t lo

@@ -27,7 +27,7 @@ use Rattle.flow_build.proofs.Fine.{Fine, fine_edge, IsSource, IsInner, inner_sou
 use Rattle.flow_build.proofs.FineForms.{blocks_both}
 use Rattle.flow_build.proofs.FineStatements.{enough, returned_fine, statement_fine}
 
--- A procedure of a program that opens with these values and has so many entry values:
+-- A procedure of a program that opens with these values and has the given number of entry values:
 module _ (P : PureProgram) (p : PureProcedure) (opening : List ℤ) (entries : ℕ) where
   abbrev n : ℕ
   n = length P.globals

@@ -42,7 +42,7 @@ any_there f [] k x lt e h = absurd (omega arith)
 any_there f (y ∷ ys) zero x lt e h = or_left (f y) (list_any f ys) (ap f e ∙ h)
 any_there f (y ∷ ys) (suc k) x lt e h = or_right (f y) (list_any f ys) (any_there f ys k x (omega arith) e h)
 
--- In a program with so many globals, in a procedure of this body, whose graph has so many nodes and slots:
+-- In a program with the given number of globals, in a procedure of this body, whose graph has the given numbers of nodes and slots:
 module _ (globals : ℕ) (body : Statements) (nodes slots : ℕ) where
   -- what each edge but the entry keeps
   pub record Fine (e : Edge) : Type 0 where

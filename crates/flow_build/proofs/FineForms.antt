@@ -27,7 +27,8 @@ use Rattle.flow_build.proofs.GlobalSlots.{slots_count, results_count, slots_belo
 use Rattle.flow_build.proofs.Occurring.{Keeps, KeepsAll, KeepsTest}
 use Rattle.flow_build.proofs.Fine.{Fine, IsInner, inner_source, IsLin, assign_fine, input_fine, call_fine, IsOperand, variable_is, constant_is, constant_lin_is, multiple_is, pair_is, plus_one, minus_one, operand_lin_is, rows_are, AllFine, fine_both, IsTarget, ways_fine, IsDivisorHere, taken_away, above_fine, below_fine}
 
--- In a procedure of this body, whose names lie so, whose graph has so many nodes and slots, and whose temporaries lie from vars on:
+-- In a procedure of this body, whose names lie so, whose graph has the given numbers of nodes and slots, and whose temporaries lie from
+-- vars on:
 module _ (P : PureProgram) (L : Layout) (body : Statements) (nodes slots vars : ℕ) (low : L.params + L.globals ≤ vars) where
   -- what the edges of blocks keep
   abbrev pub BlocksFine : List Block → Type 0
@@ -57,7 +58,7 @@ module _ (P : PureProgram) (L : Layout) (body : Statements) (nodes slots vars : 
   abbrev pub KeepsOfTest : Test → Type 0
   KeepsOfTest c = KeepsTest (IsCoefficient body) Divides Called c
 
-  -- there is room for so many nodes from lo on, and so many slots from t on
+  -- there is room for the given number of nodes from lo on, and of slots from t on
   pub record Room (t lo taken above : ℕ) : Type 0 where
     pub fresh : 6 ≤ lo
     pub few_nodes : lo + taken ≤ nodes
@@ -137,7 +138,7 @@ module _ (P : PureProgram) (L : Layout) (body : Statements) (nodes slots vars : 
   argument_is (remainder c v) t i h le room = omega arith
   argument_is (truth c) t i h le room = omega arith
 
-  -- what was there before the slots that a form takes, or is one of them behind the first
+  -- what was there before the slots that a form takes, or is one of them after the first
   argument_apart : (v : Value) (t : ℕ) → IsInSlot v → FitsValue P L vars v → vars ≤ t → argument_slot v (t + 1) ≡ t → ⊥
   argument_apart (literal false n) t i h le e = absurd i
   argument_apart (literal true n) t i h le e = omega arith
@@ -191,7 +192,7 @@ module _ (P : PureProgram) (L : Layout) (body : Statements) (nodes slots vars : 
       IsTarget L.globals body nodes slots met → IsTarget L.globals body nodes slots unmet → Room t lo (nodes_of_test c) (slots_of_test c) →
       BlocksFine (test_blocks c from met unmet t lo)
 
-  -- two values, and edges behind them that read their operands
+  -- two values, and edges after them that read their operands
   module _ (v u : Value) (vf : ValueFine v) (uf : ValueFine u) (from t lo : ℕ) (fits : FitsValue P L vars v × FitsValue P L vars u)
       (keeps : KeepsValue v × KeepsValue u) (inner : IsInner L.globals body nodes slots from)
       (room : Room t lo (nodes_of v + nodes_of u) (slots_of v + slots_of u)) where

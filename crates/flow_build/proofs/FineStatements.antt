@@ -21,7 +21,8 @@ use Rattle.flow_build.proofs.Occurring.{or_left, or_right, Allows, allows_left, 
 use Rattle.flow_build.proofs.Fine.{Fine, IsInner, inner_source, assign_fine, no_rows, guard_fine, return_fine, minus_one, one_divides, constant_lin_is, operand_lin_is, IsTarget}
 use Rattle.flow_build.proofs.FineForms.{BlocksFine, blocks_both, Called, Divides, Room, smaller, fresh_inner, lands_inner, operand_is, argument_is, edge_fine, value_fine, test_fine}
 
--- In a procedure of this body, whose names lie so, which has so many variables, and whose graph has so many nodes and slots:
+-- In a procedure of this body, whose names lie so, which has the given number of variables, and whose graph the given numbers of nodes and
+-- slots:
 module _ (P : PureProgram) (L : Layout) (own : ℕ) (low : L.params ≤ own) (body : Statements) (nodes slots : ℕ) (six : 6 ≤ nodes)
     (some : own + L.globals < slots) where
   -- the slots from here on are free

@@ -53,7 +53,7 @@ module _ (P : PureProgram) (opening : List ℤ) (entries : ℕ) (p : PureProcedu
   abbrev front : List Block
   front = opening_blocks entry_node body_node first_free 0 opening
 
-  -- what stands behind the opening
+  -- what stands after the opening
   abbrev rear : List Block
   rear =
       one end_node (Assign end_node return_node (free_slot n p) (constant_lin (pos 0)))

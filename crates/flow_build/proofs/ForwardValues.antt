@@ -221,7 +221,7 @@ module _ (C : Called) (g : List Edge) (rest : List ℤ) (end : End) where
     argument_apart (remainder c v) t fits low q = omega (arith, q)
     argument_apart (truth c) t fits low q = omega (arith, q)
 
-    -- the state behind a quotient still matches
+    -- the state after a quotient still matches
     quotient_matches : (t : ℕ) (z : ℤ) (σ σ' S : State) → vars ≤ t → Quotient t z σ σ' → Matches vars σ S → Matches vars σ' S
     quotient_matches t z σ σ' S low k m = record { each = λ x lt. k.0 x (λ q. omega (arith, q, lt, low)) ∙ m.each x lt }
 

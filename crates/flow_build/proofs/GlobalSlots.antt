@@ -21,7 +21,7 @@ slots_below slots x (suc n) h =
     both_in (nat_lt x slots) (list_all (λ y. nat_lt y slots) (slots_from (suc x) n)) (lt-ltb x slots (omega arith))
     (slots_below slots (suc x) n (omega arith))
 
--- A slot before or behind them isn't one of them.
+-- A slot before or after them isn't one of them.
 apart_from : (z x n : ℕ) → (z < x) ⊎ (x + n ≤ z) → list_any (λ y. y == z) (slots_from x n) ≡ false
 apart_from z x zero h = refl
 apart_from z x (suc n) h =
@@ -41,7 +41,7 @@ each_once x (suc n) =
     both_in (not (list_any (λ y. y == x) (slots_from (suc x) n))) (are_distinct (slots_from (suc x) n))
     (ap not (apart_from x (suc x) n (inl (omega arith)))) (each_once (suc x) n)
 
--- with a slot behind them in front
+-- with a slot after them in front
 pub distinct_behind : (t x n : ℕ) → x + n ≤ t → IsTrue (are_distinct (t ∷ slots_from x n))
 distinct_behind t x n h =
     both_in (not (list_any (λ y. y == t) (slots_from x n))) (are_distinct (slots_from x n)) (ap not (apart_from t x n (inr h)))

@@ -30,7 +30,7 @@ or_cases : (a b : Bool) → IsTrue (a || b) → IsTrue a ⊎ IsTrue b
 or_cases true b h = inl refl
 or_cases false b h = inr h
 
--- In a procedure with so many slots, where a procedure is called with so many arguments:
+-- In a procedure with the given number of slots, where a procedure is called with the given number of arguments:
 module _ (P : PureProgram) (slots q n : ℕ) where
   abbrev Takes : Type 0
   Takes = IsCallable P q n
@@ -107,7 +107,7 @@ module _ (P : PureProgram) (slots q n : ℕ) where
     statements_take l (statement a ss) s h = by_either (runs_well_scoped P slots l a) (all_well_scoped P slots l ss) (statement_calls q n a)
         (statements_call q n ss) (λ x y. statement_takes l a x y) (λ x y. statements_take l ss x y) s h
 
--- of a procedure other than `main` there are so many entry values
+-- of a procedure other than `main` there is the given number of entry values
 entries_by : (m k : ℕ) (b : Bool) → IsTrue (not_bool b) → cond b m k ≡ k
 entries_by m k true h = absurd cc
 entries_by m k false h = refl

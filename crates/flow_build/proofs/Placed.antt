@@ -20,7 +20,7 @@ use Rattle.flow_build.specs.steps.Procedures.{layout_of, free_slot, procedure_bl
 use Rattle.flow_build.proofs.Outgoing.{At}
 use Rattle.flow_build.proofs.Fresh.{Fresh, fresh_none, fresh_both, Leave, leave_both, fresh_block, Range, fresh_within, fresh_then, fresh_three, fresh_first}
 
--- A value is in place, or its blocks begin at `from`, go on behind lo and lead to lo.
+-- A value is in place, or its blocks begin at `from`, go on after lo and lead to lo.
 pub record InPlace (v : Value) (from t lo : ℕ) : Type 0 where
   pub blocks : value_blocks v from t lo ≡ []
   pub lands : landing v from lo ≡ from
@@ -70,7 +70,7 @@ fresh_edge n lo hi e h = fresh_first n lo hi (e ∷ []) (h, tt)
 abbrev LandsAlways : Value → Type 0
 LandsAlways v = (from t lo : ℕ) → from < lo → Lands v from t lo
 
--- two values, and what leaves the node behind them
+-- two values, and what leaves the node after them
 two_values : (v u : Value) → LandsAlways v → LandsAlways u → (from t lo hi : ℕ) (es : List Edge) → from < lo → lo + nodes_of v
     + nodes_of u ≤ hi → Leave (landing u (landing v from lo) (lo + nodes_of v)) es →
     Fresh (Range from lo hi) (value_blocks v from t lo ++ (value_blocks u (landing v from lo) (t + slots_of v) (lo + nodes_of v)
@@ -283,7 +283,7 @@ mutual
   test_fresh (both c d) from met unmet t lo lt = two_tests c d (test_fresh c) (test_fresh d) from (Node lo) unmet met unmet t lo lt
   test_fresh (either c d) from met unmet t lo lt = two_tests c d (test_fresh c) (test_fresh d) from met (Node lo) met unmet t lo lt
 
--- a value, and an edge at the node behind it
+-- a value, and an edge at the node after it
 value_edge : (v : Value) (from t lo : ℕ) (e : Edge) → from < lo → source e ≡ Some (landing v from lo) →
     Fresh (Range from lo (lo + nodes_of v)) (value_blocks v from t lo ++ one (landing v from lo) e ∷ [])
 value_edge v from t lo e lt h =
@@ -300,7 +300,7 @@ append_none [] = refl
 append_none (x ∷ xs) = ap (λ l. x ∷ l) (append_none xs)
 
 module _ (L : Layout) (gives : Bool) (t : ℕ) where
-  -- a statement and those behind it
+  -- a statement and those after it
   followed : (s : Statement) (ss : Statements) (from to brk con lo : ℕ) → from < lo →
       ((to : ℕ) (lo : ℕ) → from < lo → Fresh (Range from lo (lo + nodes_of_statement L s)) (statement_blocks L gives t s from to brk con
       lo)) →

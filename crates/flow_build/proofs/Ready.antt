@@ -27,7 +27,7 @@ pub record Ready (P : PureProgram) (gs : List Graph) : Type 0 where
   pub opening : AreAllValues P.globals
   pub main_takes_none : IsTrue (takes (slice_get P.procedures P.main) 0)
 
--- the frame of the entry list begins, behind the opening values, as the procedure does
+-- the frame of the entry list begins, after the opening values, as the procedure does
 pub record Begins (P : PureProgram) (i : ℕ) (p : PureProcedure) (args list : List ℤ) (w : World) : Type 0 where
   pub matches : Matches (free_slot (length P.globals) p) (opened (entered list) 0 (opening_of P i))
       (seen (layout_of (length P.globals) p) (entered args) w.globals)

@@ -8,7 +8,7 @@ use Rattle.flow_build.specs.declared.layout.Layout.{Layout}
 use Rattle.flow_build.specs.steps.Layouts.{variable_slot, global_slot, slots_from, seen}
 
 module _ (L : Layout) (s g : State) where
-  -- below the parameters, among the globals, and behind them
+  -- below the parameters, among the globals, and after them
   pub seen_first : (z : ℕ) → z < L.params → seen L s g z ≡ s z
   seen_first z h = rw (lt-ltb z L.params h) refl
 
@@ -115,7 +115,7 @@ seen_set_global L s g y v lt z = on (side L z)
 
 -- Lists of slots
 
--- what slots one behind another hold, where that is known of each
+-- what slots one after another hold, where that is known of each
 pub slots_hold : (σ g : State) (x i n : ℕ) → ((k : ℕ) → k < n → σ (x + k) ≡ g (i + k)) → map σ (slots_from x n) ≡ values_from g i n
 slots_hold σ g x i zero h = refl
 slots_hold σ g x i (suc n) h =
@@ -127,7 +127,7 @@ slots_hold σ g x i (suc n) h =
     let d : suc i + k ≡ i + suc k = omega arith in
     ap σ c ∙ h (suc k) (omega (arith, lt)) ∙ sym (ap g d)))
 
--- slots one behind another that were written
+-- slots one after another that were written
 pub written_in : (σ g : State) (x i n k z : ℕ) → z ≡ x + k → k < n → with_slots σ (slots_from x n) (values_from g i n) z ≡ g (i + k)
 written_in σ g x i zero k z e lt = absurd (omega (arith, lt))
 written_in σ g x i (suc n) zero z e lt =

@@ -56,7 +56,7 @@ few_rows Unequal a b = omega arith
 few_rows And a b = omega arith
 few_rows Or a b = omega arith
 
--- the edges behind a comparison
+-- the edges after a comparison
 few_sides : (op : Op) (a b : Operand) (n : ℕ) (met unmet : Target) →
     size (record { node = n; edges = ways n met (rows_where op a b) ++ ways n unmet (rows_where (opposite_op op) a b) } ∷ []) ≤ 3
 few_sides op a b n met unmet =

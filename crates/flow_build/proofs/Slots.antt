@@ -72,7 +72,7 @@ matches_with vars x v z σ s e m = record { each = λ y lt. ap (λ u. cond (eqb 
 pub matches_same : (vars : ℕ) (σ s r : State) → ((x : ℕ) → s x ≡ r x) → Matches vars σ s → Matches vars σ r
 matches_same vars σ s r e m = record { each = λ x lt. m.each x lt ∙ e x }
 
--- The state behind a call: the globals have new values, and slot t what is returned.
+-- The state after a call: the globals have new values, and slot t what is returned.
 module _ (L : Layout) (vars t : ℕ) (fit : L.params + L.globals ≤ vars) (low : vars ≤ t) (σ s g g' : State) (v : ℤ) where
   abbrev pub called : State
   called = with_slots σ (t ∷ global_slots L) (v ∷ values_from g' 0 L.globals)

@@ -139,7 +139,7 @@ taken_low [] j n h = cc
 taken_low (x ∷ ps) zero n h = omega arith
 taken_low (x ∷ ps) (suc j) n h = let lt = taken_low ps j n h in omega (arith, lt)
 
--- behind the loop each procedure has its graph
+-- after the loop each procedure has its graph
 module _ (P : PureProgram) (i : ℕ) (gs : List Graph) (h : Made P i gs) (all : length P.procedures ≤ i) where
   pub all_graphs : AreGraphsOf P 0 P.procedures gs
   all_graphs = let A : List PureProcedure → Type 0 = λ l. AreGraphsOf P 0 l gs in subst A (take_all P.procedures i all) h.graphs

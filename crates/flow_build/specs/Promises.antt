@@ -11,7 +11,7 @@ use Rattle.flow_graph.specs.declared.graph.Edge.TheVariants.{Entry, Assign, Guar
 use Rattle.flow_graph.specs.declared.graph.Graph.{Graph}
 use Rattle.c_tree.specs.Constants.{constant_value}
 
--- the call of a procedure with so many arguments stands there
+-- the call of procedure p with this number of arguments stands there
 module _ (p arguments : ℕ) where
   abbrev mutual
     pub calls : Expression → Bool
@@ -177,7 +177,7 @@ are_pick_rows body rows = length rows == 2 && list_all (is_pick_row body) rows
 abbrev pub are_small_rows : List Atom → Bool
 are_small_rows rows = nat_le (length rows) 2 && list_all is_small_row rows
 
--- what an edge of a procedure's graph keeps, in a program with so many globals
+-- what an edge of a procedure's graph keeps, in a program with the given number of globals
 abbrev pub IsBoundedEdge : (globals : ℕ) → Statements → Edge → Type 0
 IsBoundedEdge n body (Entry to params) = Unit {0}
 IsBoundedEdge n body (Assign from to slot value) =

@@ -27,7 +27,7 @@ use linear_formula::error::OutOfMemory;
 use linear_formula::formula::{Atoms, Cube};
 use std::alloc::{AllocError, Global};
 
-/// The fixed node behind the end of the body.
+/// The fixed node after the end of the body.
 const END_NODE: u32 = 2;
 
 /// The fixed node to which the entry leads. No other edge leads there.
@@ -147,7 +147,7 @@ fn lower(
     Ok(reached.max(free + 1))
 }
 
-/// The graph of a procedure, with so many entry values.
+/// The graph of a procedure, with the given number of entry values.
 fn graph(
     alloc: Global,
     procedure: &Procedure,

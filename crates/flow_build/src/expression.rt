@@ -376,7 +376,7 @@ fn difference(
 }
 
 /// A sum, a difference or a product. A product is a multiple by a side that has a value before the
-/// run; without one a side stops the run, and the edge behind both is never taken.
+/// run; without one a side stops the run, and the edge after both is never taken.
 #[cycle(expressions)]
 fn arithmetic(
     b: &mut Builder,

@@ -16,7 +16,7 @@ use std::alloc::{AllocError, Global};
 /// Where a value leaves off.
 #[derive(Clone, Copy)]
 pub struct Landed {
-    /// The node behind it.
+    /// The node after it.
     pub node: u32,
     pub operand: Operand,
     /// The first slot that it doesn't take.
@@ -132,21 +132,21 @@ pub struct Reached {
     pub slot: u32,
 }
 
-/// The slot of an argument, and what is behind it.
+/// The slot of an argument, and what is after it.
 #[derive(Clone, Copy)]
 pub struct ArgumentSlot {
     pub slot: Slot,
     pub last: Reached,
 }
 
-/// Both sides of an operation, the right one behind the left one.
+/// Both sides of an operation, the right one after the left one.
 #[derive(Clone, Copy)]
 pub struct BothSides {
     pub left: Operand,
     pub right: Landed,
 }
 
-/// The nodes at which a test becomes a value, and the one behind them.
+/// The nodes at which a test becomes a value, and the one after them.
 #[derive(Clone, Copy)]
 pub struct Truth {
     pub to: u32,

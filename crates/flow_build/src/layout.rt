@@ -7,7 +7,7 @@ use c_tree::tree::Slot;
 use flow_graph::graph::Slots;
 use std::alloc::{AllocError, Global};
 
-/// So many parameters, and so many globals behind them.
+/// How many parameters there are, and how many globals after them.
 #[derive(Clone, Copy)]
 pub struct Layout {
     pub params: u8,
@@ -15,7 +15,7 @@ pub struct Layout {
 }
 
 impl Layout {
-    /// The slot of a variable: a parameter keeps its own, the others stand behind the globals.
+    /// The slot of a variable: a parameter keeps its own, the others stand after the globals.
     pub fn variable(self, slot: Slot) -> Slot
         requires { slot < 24 }
         ensures { result ≡ variable_slot self slot }
@@ -46,7 +46,7 @@ pub fn push_globals(slots: &mut Vec<Slot>, layout: Layout) -> Result<(), AllocEr
     Ok(())
 }
 
-/// A slot, and those of the globals behind it.
+/// A slot, and those of the globals after it.
 pub fn with_globals(alloc: Global, slot: Slot, layout: Layout) -> Result<Slots, AllocError>
     ensures { IfOk result (λ slots. slots ≡ slot ∷ global_slots layout) }
 {

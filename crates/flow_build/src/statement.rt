@@ -23,7 +23,7 @@ use std::alloc::{AllocError, Global};
 /// The fixed node at which frames have returned.
 pub const EXIT_NODE: u32 = 0;
 
-/// The fixed node that returns the first slot behind the variables.
+/// The fixed node that returns the first slot after the variables.
 pub const RETURN_NODE: u32 = 3;
 
 /// What the statements of a procedure share.
@@ -32,7 +32,7 @@ pub struct Frame {
     /// Whether the procedure gives a value.
     pub gives: bool,
     pub layout: Layout,
-    /// The first slot behind the variables and the globals.
+    /// The first slot after the variables and the globals.
     pub free: u32,
 }
 
@@ -56,7 +56,7 @@ fn skip(b: &mut Builder, alloc: Global, from: u32, to: u32) -> Result<(), AllocE
     b.push(Edge::Guard { from, to, rows })
 }
 
-/// The node behind a statement: a new one, but behind the last.
+/// The node after a statement: a new one, but after the last.
 fn next_node(b: &mut Builder, is_last: bool, to: u32) -> u32
     requires { b.old.next + 1 < 2 ^ 32 }
     ensures node { result ≡ node_where is_last b.old.next to }
@@ -343,7 +343,7 @@ fn repetition(
     Ok(tested.max(left.max(right)))
 }
 
-/// A loop that tests behind its body.
+/// A loop that tests after its body.
 #[cycle(statements)]
 fn tested_repetition(
     b: &mut Builder,

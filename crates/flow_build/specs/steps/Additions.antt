@@ -26,7 +26,7 @@ binary_test L op a b = test_by op (constant_value a) (constant_value b) (has_cal
 abbrev pub argument_of : (later_call : Bool) → Value → Value
 argument_of later_call v = in_slot (kept_if later_call v)
 
--- the numbers of so many expression nodes fit
+-- the numbers of n expression nodes fit
 pub record HasRoom (n t : ℕ) (old : Builder) : Type 0 where
   pub nodes : old.next + 5 * n ≤ 4000000000
   pub slots : t + 2 * n ≤ 4000000000
@@ -40,7 +40,7 @@ pub record TakesFewAll (n t : ℕ) (old new : Builder) (slot : ℕ) : Type 0 whe
   pub nodes : new.next ≤ old.next + 5 * n
   pub slots : slot ≤ t + 2 * n
 
--- these blocks are added, and so many nodes taken
+-- these blocks are added, and the given number of nodes taken
 pub record AddsBlocks (blocks : List Block) (nodes : ℕ) (old new : Builder) : Type 0 where
   pub edges : new.edges.items ≡ old.edges.items ++ edges_of blocks
   pub next : new.next ≡ old.next + nodes

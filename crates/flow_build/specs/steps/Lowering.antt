@@ -22,7 +22,7 @@ operand_at (literal false n) t = Constant n
 operand_at (read false x) t = Variable x
 operand_at v t = Variable t
 
--- the node behind a value
+-- the node after a value
 abbrev pub landing : Value → (from lo : ℕ) → ℕ
 landing (literal false n) from lo = from
 landing (read false x) from lo = from
@@ -196,7 +196,7 @@ abbrev mutual
       (t + slots_of_test c)
       (lo + 1 + nodes_of_test c)
 
--- the node between a statement and those behind it
+-- the node between a statement and those after it
 abbrev pub between : Statements → (to lo : ℕ) → ℕ
 between no_statements to lo = to
 between (statement s ss) to lo = lo
@@ -259,7 +259,7 @@ module _ (L : Layout) where
     slots_of_statements no_statements = 0
     slots_of_statements (statement s ss) = max (slots_of_statement s) (slots_of_statements ss)
 
--- the edge behind a returned value: a `void` procedure returns 0
+-- the edge after a returned value: a `void` procedure returns 0
 abbrev pub return_edge : Layout → (gives : Bool) → ℕ → (slot t : ℕ) → Edge
 return_edge L true n slot t = Return n exit_node (slot ∷ global_slots L)
 return_edge L false n slot t = Assign n return_node t (constant_lin (pos 0))

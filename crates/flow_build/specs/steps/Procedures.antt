@@ -13,7 +13,7 @@ use Rattle.flow_build.specs.steps.Operands.{constant_lin}
 use Rattle.flow_build.specs.steps.Blocks.{Block, edges_of, one, opening_blocks, exit_node, fail_node, end_node, return_node, entry_node, body_node, first_free}
 use Rattle.flow_build.specs.steps.Lowering.{nodes_of_statements, slots_of_statements, statement_blocks}
 
--- where the names of a procedure lie, in a program with so many globals
+-- where the names of a procedure lie, in a program with n globals
 abbrev pub layout_of : (globals : ℕ) → PureProcedure → Layout
 layout_of n p = record { params = p.params; globals = n }
 
@@ -21,8 +21,8 @@ layout_of n p = record { params = p.params; globals = n }
 abbrev pub free_slot : (globals : ℕ) → PureProcedure → ℕ
 free_slot n p = p.slots + n
 
--- What the body is behind: the entry leads to it, over the opening values, and 0 is returned at its
--- end.
+-- What stands before and after the body: the entry leads to it, over the opening values, and 0 is
+-- returned at its end.
 abbrev pub procedure_blocks : (globals : ℕ) (opening : List ℤ) → PureProcedure → List Block
 procedure_blocks n opening p =
     opening_blocks entry_node body_node first_free 0 opening
@@ -73,7 +73,7 @@ AreGraphsOf P i [] (g ∷ gs) = ⊥
 AreGraphsOf P i (p ∷ ps) [] = ⊥
 AreGraphsOf P i (p ∷ ps) (g ∷ gs) = IsGraphOf P i p g × AreGraphsOf P (suc i) ps gs
 
--- what a procedure's graph is made of, with so many slots in all
+-- what a procedure's graph is made of, with this number of slots in all
 pub record Makes (n : ℕ) (opening : List ℤ) (entries : ℕ) (p : PureProcedure) (b : Builder)
     (slots : ℕ) : Type 0 where
   pub nodes : b.next ≡ nodes_of_procedure n opening p
