@@ -71,6 +71,40 @@ heard lead gs table s new h i number known tells must shows =
           (λ b e. h.fitting i b (subst (λ (xs : List Asked). slice_get xs i ≡ Some b) a.shows.asked e)));
     }
 
+-- What a closed child says
+
+must_holds : MustAnswers → (gs : List Graph) (table : List Summary) (child : Seen) (path : Path) →
+    (e : IsEnded gs table child (ends.Closed (closing.Must path))) →
+    MustHolds (graph_runs gs) (arity_in gs path.proc) path × AnswersYes e.model.query path
+must_holds answers gs table child path e =
+    let a = e.analysed in
+    answers gs e.graph table e.model.query e.model.ancestors e.model a.grounded path e.closed
+
+not_may_holds : NoRun → (gs : List Graph) (table : List Summary) (child : Seen) → IsEnded gs table child (ends.Closed closing.NotMay) →
+    child.lowest ≡ None → NotMayHolds (graph_runs gs) child.query
+not_may_holds never gs table child e none =
+    let a = e.analysed in
+    subst (NotMayHolds (graph_runs gs)) a.shows.query
+    (never gs e.graph table e.model.query e.model.ancestors e.model a.grounded e.closed (a.shows.lowest ∙ none))
+
+-- What the table gets
+
+pub must_kept : MustAnswers → ALongerTable → (gs : List Graph) (table after : List Summary) (s child : Seen) (path copied : Path) →
+    IsReady gs table s → IsEnded gs table child (ends.Closed (closing.Must path)) → copied ≡ path → after ≡ table ++ Must copied ∷ [] →
+    IsReady gs after s
+must_kept answers longer gs table after s child path copied h e same is =
+    subst (λ (l : List Summary). IsReady gs l s) (sym (is ∙ ap (λ (p : Path). table ++ Must p ∷ []) same))
+    (ready_longer longer gs table (Must path) s (must_holds answers gs table child path e).0 h)
+
+pub not_may_kept : NoRun → ALongerTable → (gs : List Graph) (table after : List Summary) (s child : Seen) (copied : Query) →
+    IsReady gs table s → IsEnded gs table child (ends.Closed closing.NotMay) → child.lowest ≡ None → copied ≡ child.query →
+    after ≡ table ++ NotMay copied ∷ [] → IsReady gs after s
+not_may_kept never longer gs table after s child copied h e none same is =
+    subst (λ (l : List Summary). IsReady gs l s) (sym (is ∙ ap (λ (q : Query). table ++ NotMay q ∷ []) same))
+    (ready_longer longer gs table (NotMay child.query) s (not_may_holds never gs table child e none) h)
+
+-- What the state learns
+
 module _ (gs : List Graph) (table after : List Summary) (s child new : Seen) (i number : ℕ) (h : IsReady gs table s)
     (asked : IsAskedAs s i child.query) where
   -- A must
@@ -84,7 +118,7 @@ module _ (gs : List Graph) (table after : List Summary) (s child new : Seen) (i 
   must_learned answers longer lead path copied e same is shows =
       let a = e.analysed in
       let got : MustHolds (graph_runs gs) (arity_in gs path.proc) path × AnswersYes e.model.query path =
-      answers gs e.graph table e.model.query e.model.ancestors e.model a.grounded path e.closed
+      must_holds answers gs table child path e
       in
       let long = ready_longer longer gs table (Must path) s got.0 h in
       let query = λ (b : Asked) (at : slice_get s.asked i ≡ Some b). a.shows.query
@@ -101,34 +135,32 @@ module _ (gs : List Graph) (table after : List Summary) (s child new : Seen) (i 
 
   -- A not-may
   module _ (no : NoRun) (e : IsEnded gs table child (ends.Closed closing.NotMay)) (none : child.lowest ≡ None) where
-    not_may_holds : NotMayHolds (graph_runs gs) child.query
-    not_may_holds =
-        let a = e.analysed in
-        subst (NotMayHolds (graph_runs gs)) a.shows.query
-        (no gs e.graph table e.model.query e.model.ancestors e.model a.grounded e.closed (a.shows.lowest ∙ none))
+    holds : NotMayHolds (graph_runs gs) child.query
+    holds = not_may_holds no gs table child e none
 
     pub not_may_tells : MayTell s i (news.NotMay None)
-    not_may_tells = (gs, h.model, h.analysed.shows, tells_in gs table s h i child.query (news.NotMay None) asked not_may_holds)
+    not_may_tells = (gs, h.model, h.analysed.shows, tells_in gs table s h i child.query (news.NotMay None) asked holds)
 
     pub not_may_learned : ALongerTable → NewsLead → (copied : Query) → copied ≡ child.query → after ≡ table ++ NotMay copied ∷ [] →
         ((m : Model) → ShowsModel s m → ShowsModel new (told i number (news.NotMay None) m)) → IsReady gs after new
     not_may_learned longer lead copied same is shows =
-        let long = ready_longer longer gs table (NotMay child.query) s not_may_holds h in
+        let long = ready_longer longer gs table (NotMay child.query) s holds h in
         subst (λ (l : List Summary). IsReady gs l new) (sym (is ∙ ap (λ (q : Query). table ++ NotMay q ∷ []) same))
         (heard lead gs (table ++ NotMay child.query ∷ []) s new long i number (news.NotMay None)
-        (tells_in gs (table ++ NotMay child.query ∷ []) s long i child.query (news.NotMay None) asked not_may_holds) (λ b at told. cc)
+        (tells_in gs (table ++ NotMay child.query ∷ []) s long i child.query (news.NotMay None) asked holds) (λ b at told. cc)
         shows)
 
--- More of the budget
+-- News without an answer
 
-module _ (gs : List Graph) (table : List Summary) (s new : Seen) (i number : ℕ) (q : Query) (h : IsReady gs table s)
-    (asked : IsAskedAs s i q)
+module _ (gs : List Graph) (table : List Summary) (s new : Seen) (i number : ℕ) (q : Query) (known : News) (h : IsReady gs table s)
+    (asked : IsAskedAs s i q) (fits : IsTrueNews gs (levels_of h.model.ancestors h.model.query) q known)
   where
-    starved_in : Tells gs h.model i news.Starved
-    starved_in = tells_in gs table s h i q news.Starved asked tt
+    open_in : Tells gs h.model i known
+    open_in = tells_in gs table s h i q known asked fits
 
-    pub starved_tells : MayTell s i news.Starved
-    starved_tells = (gs, h.model, h.analysed.shows, starved_in)
+    pub open_tells : MayTell s i known
+    open_tells = (gs, h.model, h.analysed.shows, open_in)
 
-    pub starved_learned : NewsLead → ((m : Model) → ShowsModel s m → ShowsModel new (told i number news.Starved m)) → IsReady gs table new
-    starved_learned lead shows = heard lead gs table s new h i number news.Starved starved_in (λ b at told. cc) shows
+    pub open_learned : NewsLead → (known ≡ news.Must → ⊥) → ((m : Model) → ShowsModel s m → ShowsModel new (told i number known m)) →
+        IsReady gs table new
+    open_learned lead none shows = heard lead gs table s new h i number known open_in (λ b at is. absurd (none is)) shows

@@ -1,18 +1,19 @@
 //! Slices with calls: what they ask, and what they make of what they are told.
 
-ghost use Rattle.std.specs.Prelude.{IfOk};
+ghost use Rattle.std.specs.Prelude.{IfOk, OnOk};
 ghost use Rattle.query_rules.specs.States.{AllHold};
 ghost use Rattle.step_tests.specs.Ready.{IsReady};
 
 use crate::families::{MEETING, MISSING, begun_beside, begun_root};
-use crate::learning::{ask_child, learn, learn_starved};
+use crate::learning::{ask_child, keep_end, learn, learn_given_up, learn_starved};
 use crate::ready::{no_table, sliced};
 use flow_graph::graphs::Graphs;
 use linear_formula::assignment::Assignment;
 use linear_formula::term::Term;
 use punch_step::slice::{SliceEnd, Sliced};
 use query_rules::state::QueryState;
-use query_rules::step::{Closing, Killer, Step};
+use query_rules::step::{Closing, Killer, Step, Why};
+use shadow_elim::limit::LimitKind;
 use std::alloc::Global;
 use std::test::Fail;
 use summary_form::query::ExitKind;
@@ -52,6 +53,8 @@ enum Last {
     Asks { proc: u32, exit: ExitKind },
     KillsByChild(u32),
     KillsByTable(u32),
+    /// An edge was given up as the child of this asked query was.
+    GivesUpByChild(u32),
     Other,
 }
 
@@ -73,6 +76,12 @@ fn last_in(state: &QueryState) -> Last {
                 ..
             },
         ) => Last::KillsByTable(*place),
+        Some(
+            Step::Stuck {
+                why: Why::Child { asked },
+                ..
+            },
+        ) => Last::GivesUpByChild(*asked),
         _ => Last::Other,
     }
 }
@@ -216,6 +225,10 @@ enum Play {
     Alone,
     /// The second query is asked with a not-may in the table, and that child is starved.
     Feeds,
+    /// The third query is asked after two rounds, and that child is given up.
+    GivesUp,
+    /// The same, where the table has a summary of that query by then.
+    Serves,
 }
 
 fn play_fails(
@@ -297,6 +310,61 @@ fn play_feeds(
     })
 }
 
+/// The table alone learns of the asked query of this number, which is sliced to its end.
+fn child_kept(
+    alloc: Global,
+    graphs: &Graphs,
+    table: &mut Table,
+    parent: &QueryState,
+    asked: u32,
+) -> Result<(), Fail>
+    requires { IsReady graphs.now.graphs table.old.summaries parent.now }
+    ensures { OnOk result (IsReady graphs.now.graphs table.new.summaries parent.now) }
+{
+    let mut child = ask_child(alloc, graphs, table, parent, asked)?;
+    let made = sliced(alloc, graphs, table, &mut child, 99, 99)?;
+    keep_end(alloc, graphs, table, parent, &child, &made.end)
+}
+
+/// Two rounds.
+fn two_rounds(
+    alloc: Global,
+    graphs: &Graphs,
+    table: &mut Table,
+    parent: &mut QueryState,
+) -> Result<(), Fail>
+    requires { IsReady graphs.now.graphs table.old.summaries parent.old }
+    ensures { OnOk result (IsReady graphs.now.graphs table.new.summaries parent.new) }
+{
+    goes(alloc, graphs, table, parent, 99)?;
+    round(alloc, graphs, table, parent, 0)?;
+    round(alloc, graphs, table, parent, 1)?;
+    Ok(())
+}
+
+/// The third child is given up, and the caller goes on.
+fn play_given_up(
+    alloc: Global,
+    graphs: &Graphs,
+    table: &mut Table,
+    parent: &mut QueryState,
+    is_kept: bool,
+) -> Result<Played, Fail>
+    requires { IsReady graphs.now.graphs table.old.summaries parent.old }
+{
+    two_rounds(alloc, graphs, table, parent)?;
+    if is_kept {
+        child_kept(alloc, graphs, table, parent, 2)?;
+    }
+    learn_given_up(graphs, table, parent, 2, LimitKind::Wide)?;
+    let gone = goes(alloc, graphs, table, parent, 99)?;
+    Ok(Played {
+        rounds: None,
+        more: [Some(gone), None, None, None, None],
+        inputs: false,
+    })
+}
+
 /// The play from the beginning of the caller.
 fn play_with(alloc: Global, graphs: &Graphs, table: &mut Table, play: Play) -> Result<Played, Fail>
     requires { AllHold graphs.now.graphs table.old.summaries }
@@ -307,6 +375,8 @@ fn play_with(alloc: Global, graphs: &Graphs, table: &mut Table, play: Play) -> R
         Play::Kills => play_kills(alloc, graphs, table, &mut parent),
         Play::Alone => play_alone(alloc, graphs, table, &mut parent),
         Play::Feeds => play_feeds(alloc, graphs, table, &mut parent),
+        Play::GivesUp => play_given_up(alloc, graphs, table, &mut parent, false),
+        Play::Serves => play_given_up(alloc, graphs, table, &mut parent, true),
     }
 }
 
@@ -368,5 +438,26 @@ fn a_starved_child_is_fed(rt: HostRuntime) -> Result<(), Fail> {
     let made = play_family(rt.alloc(), &MEETING, Play::Feeds)?;
     let fed = made.more[2].map(|gone| gone.0);
     assert!(rt; made.more[1] == Some(asks(2, ExitKind::Return)) && fed == Some((1, End::Fed(1))));
+    Ok(())
+}
+
+/// An edge is given up as its child was, unless a must or a not-may of the table serves it.
+#[test]
+fn an_edge_is_given_up_unless_a_summary_serves(rt: HostRuntime) -> Result<(), Fail> {
+    let given_up = ((1, End::Stuck), Last::GivesUpByChild(2));
+    let cases = [
+        (MEETING, Play::GivesUp, given_up),
+        (MEETING, Play::Serves, ((2, End::Must), Last::Other)),
+        (MISSING, Play::GivesUp, given_up),
+        (
+            MISSING,
+            Play::Serves,
+            ((1, End::NotMay), Last::KillsByTable(2)),
+        ),
+    ];
+    for (shapes, play, wanted) in cases {
+        let made = play_family(rt.alloc(), &shapes, play)?;
+        assert!(rt; made.more[0] == Some(wanted));
+    }
     Ok(())
 }

@@ -14,6 +14,7 @@ use punch_step::slice::SliceEnd;
 use query_rules::laws::{a_longer_state, a_longer_table, a_must, no_run};
 use query_rules::state::QueryState;
 use query_rules::step::{Asked, Closing, News};
+use shadow_elim::limit::LimitKind;
 use std::alloc::Global;
 use std::sync::Arc;
 use std::test::Fail;
@@ -152,6 +153,24 @@ fn learn_not_may(
     Ok(())
 }
 
+/// The parent is told that the child was given up at such a limit.
+pub fn learn_given_up(
+    graphs: &Graphs,
+    table: &Table,
+    parent: &mut QueryState,
+    asked: u32,
+    kind: LimitKind,
+) -> Result<(), Fail>
+    requires { IsReady graphs.now.graphs table.now.summaries parent.old }
+    ensures { OnOk result (IsReady graphs.now.graphs table.now.summaries parent.new) }
+{
+    a_longer_state();
+    let entry = entry_of(parent, asked)?;
+    see_asked(parent, asked, &entry.query)?;
+    parent.tell(asked, 1, News::Stuck(kind));
+    Ok(())
+}
+
 /// The parent is told that the child has used up its part of the budget.
 pub fn learn_starved(
     graphs: &Graphs,
@@ -190,6 +209,70 @@ pub fn learn(
         SliceEnd::Closed(Closing::NotMay) => {
             learn_not_may(alloc, graphs, table, parent, asked, child)
         }
+        _ => Err(Fail::new("the child isn't closed so")),
+    }
+}
+
+/// The table gets the path, of which the parent isn't told.
+fn keep_must(
+    alloc: Global,
+    graphs: &Graphs,
+    table: &mut Table,
+    parent: &QueryState,
+    child: &QueryState,
+    path: &Path,
+) -> Result<(), Fail>
+    requires parent { IsReady graphs.now.graphs table.old.summaries parent.now }
+    requires child { IsEnded graphs.now.graphs table.old.summaries child.now
+        (ends.Closed (closing.Must path.now)) }
+    ensures { OnOk result (IsReady graphs.now.graphs table.new.summaries parent.now) }
+{
+    a_must();
+    a_longer_table();
+    let copied = path.copy(alloc)?;
+    keep(alloc, table, Summary::Must(copied))?;
+    Ok(())
+}
+
+/// The table gets the query as a not-may, of which the parent isn't told.
+fn keep_not_may(
+    alloc: Global,
+    graphs: &Graphs,
+    table: &mut Table,
+    parent: &QueryState,
+    child: &QueryState,
+) -> Result<(), Fail>
+    requires parent { IsReady graphs.now.graphs table.old.summaries parent.now }
+    requires child { IsEnded graphs.now.graphs table.old.summaries child.now
+        (ends.Closed closing.NotMay) }
+    ensures { OnOk result (IsReady graphs.now.graphs table.new.summaries parent.now) }
+{
+    no_run();
+    a_longer_table();
+    leans_on_none(child)?;
+    let copied = copied_query(alloc, child)?;
+    keep(alloc, table, Summary::NotMay(copied))?;
+    Ok(())
+}
+
+/// The table alone learns how the child is closed.
+pub fn keep_end(
+    alloc: Global,
+    graphs: &Graphs,
+    table: &mut Table,
+    parent: &QueryState,
+    child: &QueryState,
+    end: &SliceEnd,
+) -> Result<(), Fail>
+    requires parent { IsReady graphs.now.graphs table.old.summaries parent.now }
+    requires child { IsEnded graphs.now.graphs table.old.summaries child.now end.now }
+    ensures { OnOk result (IsReady graphs.now.graphs table.new.summaries parent.now) }
+{
+    match end {
+        SliceEnd::Closed(Closing::Must(path)) => {
+            keep_must(alloc, graphs, table, parent, child, path)
+        }
+        SliceEnd::Closed(Closing::NotMay) => keep_not_may(alloc, graphs, table, parent, child),
         _ => Err(Fail::new("the child isn't closed so")),
     }
 }

@@ -1,5 +1,6 @@
 use Rattle.std.proofs.lemmas.Option.{slice_get_within}
-use Rattle.step_tests.proofs.Learned.{starved_learned, starved_tells}
+use Rattle.query_rules.specs.declared.step.News.TheVariants as news
+use Rattle.step_tests.proofs.Learned.{open_learned, open_tells}
 use Rattle.step_tests.proofs.learning.learn_starved.Goals as goal
 
 pub tell-requires-clause-exists : goal.tell-requires-clause-exists
@@ -7,10 +8,10 @@ tell-requires-clause-exists c = slice_get_within c.args.parent.now.asked c.args.
 
 pub tell-requires-clause-tells : goal.tell-requires-clause-tells
 tell-requires-clause-tells c =
-    starved_tells c.args.graphs.now.graphs c.args.table.now.summaries c.args.parent.now c.args.parent.now c.args.asked 1 _ c.requires
-    c.in_ok-see_asked.ensures
+    open_tells c.args.graphs.now.graphs c.args.table.now.summaries c.args.parent.now c.args.parent.now c.args.asked 1 _ news.Starved
+    c.requires c.in_ok-see_asked.ensures tt
 
 pub returns : goal.returns
 returns c =
-    starved_learned c.args.graphs.now.graphs c.args.table.now.summaries c.args.parent.now c.tell.new.self c.args.asked 1 _ c.requires
-    c.in_ok-see_asked.ensures c.a_longer_state.ensures.news c.tell.ensures.shows
+    open_learned c.args.graphs.now.graphs c.args.table.now.summaries c.args.parent.now c.tell.new.self c.args.asked 1 _ news.Starved
+    c.requires c.in_ok-see_asked.ensures tt c.a_longer_state.ensures.news (λ e. cc) c.tell.ensures.shows
