@@ -146,6 +146,15 @@ impl Atoms {
         Ok(())
     }
 
+    /// Moves the atoms of the other to the end. Without memory the list stays as it was.
+    pub fn append(&mut self, other: Atoms) -> Result<(), OutOfMemory>
+        ensures { OnOk result (self.new ≡ self.old ++ other) }
+    {
+        let mut items = other.into_vec();
+        self.items.append(&mut items)?;
+        Ok(())
+    }
+
     /// The atoms, in order.
     pub fn into_vec(self) -> Vec<Atom>
         ensures value { result.items ≡ self }
@@ -216,7 +225,7 @@ impl Atom {
     }
 }
 
-fn copy_onto(out: &mut Atoms, alloc: Global, atoms: &[Atom]) -> Result<(), OutOfMemory>
+pub(crate) fn copy_onto(out: &mut Atoms, alloc: Global, atoms: &[Atom]) -> Result<(), OutOfMemory>
     ensures { OnOk result (out.new ≡ out.old ++ atoms.now) }
 {
     for atom in atoms {
@@ -287,6 +296,17 @@ impl Cube {
         let mut atoms = Atoms::with_capacity(alloc, left.len() + right.len())?;
         copy_onto(&mut atoms, alloc, left)?;
         copy_onto(&mut atoms, alloc, right)?;
+        Ok(Cube { atoms })
+    }
+
+    /// The atoms of both, in order. Those of the other are moved.
+    pub fn followed_by(&self, alloc: Global, other: Cube) -> Result<Cube, OutOfMemory>
+        ensures { IfOk result (λ cube. cube.atoms ≡ self.now.atoms ++ other.atoms) }
+    {
+        let left = self.atoms.as_slice();
+        let mut atoms = Atoms::with_capacity(alloc, left.len() + other.atoms.as_slice().len())?;
+        copy_onto(&mut atoms, alloc, left)?;
+        atoms.append(other.atoms)?;
         Ok(Cube { atoms })
     }
 

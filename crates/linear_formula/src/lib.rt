@@ -11,6 +11,7 @@ mod merge;
 pub mod question;
 pub mod reading;
 mod renaming;
+pub mod shared;
 mod sums;
 pub mod term;
 

@@ -198,6 +198,29 @@ impl Term {
         ensures wide { IsErrOf result LinError.Wide →
             ¬ IsTrue (is_within (combination parts.now constant)) }
     {
+        if constant == 0 && parts.len() == 2 {
+            let (first, left) = &parts[0];
+            let (second, right) = &parts[1];
+            if is_multiplier(*first) && is_multiplier(*second) {
+                return Term::add_multiples(alloc, *first, left, *second, right);
+            }
+        }
+        Term::combine_by_column(alloc, parts, constant)
+    }
+
+    /// The same, by the exact sum at each column.
+    fn combine_by_column(
+        alloc: Global,
+        parts: &[(i64, Term)],
+        constant: i64,
+    ) -> Result<Term, LinError>
+        ensures value { IfOk result (λ t. t ≡ combination parts.now constant) }
+        ensures kept { IfOk result (λ t. IsTrue (is_term t)) }
+        ensures law { IfOk result (λ t. (v : ℕ → ℤ) → value_of v t ≡ combination_value v parts.now
+            constant) }
+        ensures wide { IsErrOf result LinError.Wide →
+            ¬ IsTrue (is_within (combination parts.now constant)) }
+    {
         let mut sums = Sums::new(alloc);
         let mut total = ExactSum::new(constant);
         let mut left = parts.len();
@@ -348,6 +371,14 @@ impl Term {
             constant,
         })
     }
+}
+
+/// Whether a row may be multiplied by it in one pass.
+fn is_multiplier(multiplier: i64) -> bool
+    ensures { IsTrue result → unsigned_abs multiplier ≤ max_coefficient }
+{
+    let wide = i128::from(multiplier);
+    wide <= MAX_COEFFICIENT && -MAX_COEFFICIENT <= wide
 }
 
 fn value_of_sum(constant: i128, parts: &[(u32, i128)], at: &Assignment) -> i128

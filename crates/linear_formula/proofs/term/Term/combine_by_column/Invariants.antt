@@ -1,5 +1,5 @@
 use Rattle.linear_formula.proofs.Combining.{Adding}
-use Rattle.linear_formula.proofs.term.Term.combine.Given as goal
+use Rattle.linear_formula.proofs.term.Term.combine_by_column.Given as goal
 
 abbrev pub invariant-loop-left : goal.invariant-loop-left
 invariant-loop-left l = Adding l.parts l.constant l.left l.sums l.total

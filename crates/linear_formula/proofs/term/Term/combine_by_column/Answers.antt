@@ -12,7 +12,7 @@ use Rattle.linear_formula.proofs.Finishing.{SameSum, sum_same}
 use Rattle.linear_formula.proofs.Gathering.{factors_passed}
 use Rattle.linear_formula.proofs.Limits.{IsTerm-from_test, Within-from_test}
 use Rattle.linear_formula.proofs.Values.{value-combination}
-use Rattle.linear_formula.proofs.term.Term.combine.Goals as goal
+use Rattle.linear_formula.proofs.term.Term.combine_by_column.Goals as goal
 
 pub add_all-requires-clause-limits : goal.add_all-requires-clause-limits
 add_all-requires-clause-limits c =
