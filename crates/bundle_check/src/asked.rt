@@ -48,13 +48,9 @@ pub fn asked_over(
     let Some(kind) = exit_at(graph.fail, exit, place.target.node) else {
         return Ok(None);
     };
-    match ask_of(
-        alloc,
-        &place.source.cube,
-        place.over,
-        &place.target.cube,
-        kind,
-    ) {
+    let source = place.source.cube.to_cube(alloc)?;
+    let target = place.target.cube.to_cube(alloc)?;
+    match ask_of(alloc, &source, place.over, &target, kind) {
         Ok(asking) => Ok(Some(asking.query)),
         Err(ProjectionError::Limit(_)) => Ok(None),
         Err(ProjectionError::Memory) => Err(AllocError),

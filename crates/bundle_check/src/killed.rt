@@ -43,6 +43,6 @@ pub fn is_killed(
     let Some(before) = preimage_of(alloc, place.over, &place.target.cube)? else {
         return Ok(false);
     };
-    let rows = place.source.cube.and(alloc, &before)?;
+    let rows = place.source.cube.cube_with(alloc, before)?;
     Ok(is_refuted(&rows, by))
 }

@@ -6,6 +6,7 @@ ghost use Rattle.bundle_check.specs.steps.Places.{HasNoPlace, IfPreimage, IsPlac
 use flow_graph::graph::{Edge, Graph};
 use linear_formula::error::OutOfMemory;
 use linear_formula::formula::Cube;
+use linear_formula::shared::SharedCube;
 use may_partition::partition::Partition;
 use may_partition::region::{Region, RegionEdge};
 use shadow_elim::projection::ProjectionError;
@@ -47,9 +48,8 @@ pub fn place_of<'a>(
     })
 }
 
-/// The cube of the states that go over an edge into the target; none over a call, or where the
-/// preimage meets a limit.
-pub fn preimage_of(alloc: Global, over: &Edge, target: &Cube) -> Result<Option<Cube>, OutOfMemory>
+/// The same as `preimage_of`, of a cube with atoms of its own.
+fn preimage_over(alloc: Global, over: &Edge, target: &Cube) -> Result<Option<Cube>, OutOfMemory>
     ensures { IfOk result (IfPreimage over.now target.now.atoms) }
 {
     if over.is_call() {
@@ -60,4 +60,17 @@ pub fn preimage_of(alloc: Global, over: &Edge, target: &Cube) -> Result<Option<C
         Err(ProjectionError::Limit(_)) => Ok(None),
         Err(ProjectionError::Memory) => Err(AllocError),
     }
+}
+
+/// The cube of the states that go over an edge into the target; none over a call, or where the
+/// preimage meets a limit.
+pub fn preimage_of(
+    alloc: Global,
+    over: &Edge,
+    target: &SharedCube,
+) -> Result<Option<Cube>, OutOfMemory>
+    ensures { IfOk result (IfPreimage over.now target.now.atoms) }
+{
+    let plain = target.to_cube(alloc)?;
+    preimage_over(alloc, over, &plain)
 }

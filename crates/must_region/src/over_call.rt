@@ -20,6 +20,7 @@ use c_tree::tree::{AssertId, Slot};
 use flow_graph::graph::Edge;
 use linear_formula::error::OutOfMemory;
 use linear_formula::formula::{Atoms, Cube};
+use linear_formula::shared::SharedCube;
 use linear_formula::term::Term;
 use shadow_elim::sum::{Sum, push_equal, total_rows};
 use std::alloc::Global;
@@ -62,31 +63,26 @@ fn match_rows(alloc: Global, trail: &Trail, args: &[Slot], must: &Path) -> Resul
     total_rows(alloc, &sums)
 }
 
-/// Adds the atoms of a cube.
-fn push_all(out: &mut Atoms, rows: Cube) -> Result<(), OutOfMemory>
-    ensures { OnOk result (out.new ≡ out.old ++ rows.atoms) }
-{
-    for atom in rows.atoms.into_vec() {
-        out.push(atom)?;
-    }
-    Ok(())
-}
-
-/// The guards of both, and then the rows.
-fn joined_guard(alloc: Global, trail: &Trail, must: &Path, rows: Cube) -> Result<Cube, OutOfMemory>
+/// The guards of both, and then the rows. The trail's own rows are shared.
+fn joined_guard(
+    alloc: Global,
+    trail: &Trail,
+    must: &Path,
+    rows: &Cube,
+) -> Result<SharedCube, OutOfMemory>
     ensures { IfOk result
         (λ c. c.atoms ≡ (trail.now.guard.atoms ++ renamed_atoms_by (shifted trail.now.symbols)
-        must.now.guard.atoms) ++ rows.atoms) }
+        must.now.guard.atoms) ++ rows.now.atoms) }
 {
-    let mut atoms = trail.guard.atoms.copy(alloc)?;
+    let mut atoms = Atoms::new(alloc);
     push_shifted_atoms(
         alloc,
         &mut atoms,
         must.guard.atoms.as_slice(),
         trail.symbols,
     )?;
-    push_all(&mut atoms, rows)?;
-    Ok(Cube { atoms })
+    let guards = trail.guard.and(alloc, &Cube { atoms })?;
+    guards.and(alloc, rows)
 }
 
 /// The inputs of both.
@@ -166,7 +162,7 @@ pub fn draft_by_must(
     };
     let symbols = number_behind_both(trail.symbols, must.symbols)?;
     let rows = match_rows(alloc, trail, args.as_slice(), must)?;
-    let guard = joined_guard(alloc, trail, must, rows)?;
+    let guard = joined_guard(alloc, trail, must, &rows)?;
     let entry = trail.entry.copy(alloc)?;
     let inputs = joined_inputs(alloc, trail, must)?;
     let slots = slots_behind(alloc, trail, results.as_slice(), must)?;

@@ -49,6 +49,36 @@ pub fn read_rows(alloc: Global, at_end: &AtEnd, cube: &Cube) -> Result<Cube, Tra
     total_rows(alloc, &sums)
 }
 
+/// The rows of a start and then of an end, with the terms at the end of a trail in the places of
+/// their columns.
+pub fn read_both(
+    alloc: Global,
+    at_end: &AtEnd,
+    start: &Cube,
+    end: &Cube,
+) -> Result<Cube, TrailError>
+    ensures rows { IfOk result
+        (λ c. c.atoms ≡ rows_of_sums (row_sums (reading at_end.now.slots.now at_end.now.entry.now)
+        start.now.atoms ++ row_sums (reading at_end.now.slots.now at_end.now.entry.now)
+        end.now.atoms)) }
+    ensures decided { IfOk result
+        (λ _. first_wide (row_sums (reading at_end.now.slots.now at_end.now.entry.now)
+        start.now.atoms ++ row_sums (reading at_end.now.slots.now at_end.now.entry.now)
+        end.now.atoms) ≡ None) }
+    ensures limit { IfErr result
+        (λ e. IfRefused e (IsFirstWide (row_sums (reading at_end.now.slots.now
+        at_end.now.entry.now) start.now.atoms ++ row_sums (reading at_end.now.slots.now
+        at_end.now.entry.now) end.now.atoms))) }
+    ensures right { IfErr result (λ e. IfRefused e IsRight) }
+{
+    let first = start.atoms.as_slice();
+    let second = end.atoms.as_slice();
+    let mut sums = Vec::with_capacity(alloc, first.len() + second.len())?;
+    push_read(alloc, &mut sums, at_end, first)?;
+    push_read(alloc, &mut sums, at_end, second)?;
+    total_rows(alloc, &sums)
+}
+
 /// The value of an assignment at the terms of the slots.
 fn assigned_sum(alloc: Global, slots: &[Term], value: &Lin) -> Result<Sum, OutOfMemory>
     ensures { IfOk result (λ s. s ≡ value_sum slots.now value.now) }

@@ -21,6 +21,7 @@ use flow_graph::graph::{Edge, Graph, Slots};
 use flow_graph::graphs::Graphs;
 use linear_formula::error::OutOfMemory;
 use linear_formula::formula::{Atoms, Cube};
+use linear_formula::shared::SharedCube;
 use must_region::error::TrailError;
 use must_region::trail::Trail;
 use std::alloc::Global;
@@ -167,7 +168,7 @@ fn trail_over(
     let trail = Trail {
         node,
         symbols,
-        guard: no_rows(alloc),
+        guard: SharedCube::new(alloc),
         entry,
         inputs: Terms::from_vec(Vec::new(alloc)),
         slots,
@@ -245,9 +246,10 @@ fn over_edge(
         inputs,
         ..
     } = trail;
+    let rows = guard.to_cube(alloc)?;
     Ok(Step {
         frame: next,
-        rows: guard,
+        rows,
         read: inputs,
         symbols,
     })

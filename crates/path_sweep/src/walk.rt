@@ -174,6 +174,7 @@ impl Walk {
             slots,
             ..
         } = Trail::begin(alloc, graph)?;
+        let guard = guard.to_cube(alloc)?;
         let frame = Frame {
             proc: main,
             place: Place::At(node),

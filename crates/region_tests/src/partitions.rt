@@ -90,7 +90,7 @@ fn edge_of(live: Live) -> RegionEdge
 /// Whether the regions have these nodes and as many atoms.
 fn has_regions(partition: &Partition, wanted: &[(u32, usize)]) -> bool {
     for (region, (node, atoms)) in partition.regions().iter().zip(wanted) {
-        if region.node != *node || region.cube.atoms.as_slice().len() != *atoms {
+        if region.node != *node || region.cube.as_slice().len() != *atoms {
             return false;
         }
     }
@@ -149,7 +149,7 @@ fn after_split(alloc: Global, shape: &Shape, at: Live, rows: &[Row]) -> Result<P
 /// The part and the constant of the last atom of a region.
 fn last_atom(partition: &Partition, region: usize) -> Option<(i128, i128)> {
     let region = partition.regions().get(region)?;
-    let atom = region.cube.atoms.as_slice().last()?;
+    let atom = region.cube.as_slice().last()?.atom();
     let part = atom.term.parts().first()?;
     Some((part.1, atom.term.constant()))
 }

@@ -4,6 +4,7 @@
 use flow_graph::columns::{FIRST_SYMBOL, MAX_SLOTS};
 use flow_graph::graph::{Edge, Graph};
 use linear_formula::question::Question;
+use linear_formula::shared::SharedCube;
 use must_region::error::TrailError;
 use must_region::trail::Trail;
 use shadow_elim::limit::{Kept, LimitKind};
@@ -15,7 +16,7 @@ use test_forms::edges::{Does, Step, call_of, edge_of};
 use test_forms::graphs::{Shape, graph_of};
 use test_forms::kept::{Counts, has_slots, names_below};
 use test_forms::queries::query_of;
-use test_forms::rows::{Plain, Row, are_rows, are_terms, cube_of};
+use test_forms::rows::{Plain, Row, are_rows, are_terms, cube_of, is_term};
 
 /// What a trail is wanted to hold.
 #[derive(Clone, Copy)]
@@ -47,12 +48,23 @@ const LAST_SYMBOL: Plain = (&[(30_002, 1)], 0);
 
 const ZERO: Plain = (&[], 0);
 
+/// Whether these are the rows, in order.
+fn has_rows(guard: &SharedCube, wanted: &[Plain]) -> bool {
+    let atoms = guard.as_slice();
+    for (shared, plain) in atoms.iter().zip(wanted) {
+        if !is_term(&shared.atom().term, plain) {
+            return false;
+        }
+    }
+    atoms.len() == wanted.len()
+}
+
 /// Whether the trail is the wanted one, with the first symbol as its entry value.
 fn is_trail(trail: &Trail, wanted: &Wanted) -> bool {
     trail.node == wanted.node
         && trail.symbols == wanted.symbols
         && trail.failed == wanted.failed
-        && are_rows(&trail.guard, wanted.guard)
+        && has_rows(&trail.guard, wanted.guard)
         && are_terms(trail.entry.as_slice(), &[SYMBOL])
         && are_terms(trail.inputs.as_slice(), wanted.inputs)
         && are_terms(trail.slots.as_slice(), wanted.slots)

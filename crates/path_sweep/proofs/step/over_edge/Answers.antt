@@ -1,5 +1,6 @@
 use Rattle.std.proofs.Common.{◌≡◌, Some, refl, sym, subst, ◌∙◌, ap}
 use Rattle.std.specs.Prelude.{slice_get, IfOk, IfErr}
+use Rattle.linear_formula.specs.declared.formula.Cube.{Cube}
 use Rattle.flow_graph.specs.Shapes.{source}
 use Rattle.flow_graph.proofs.Slots.{edges_name_slots}
 use Rattle.must_region.specs.Traces.{trace_of}
@@ -73,13 +74,13 @@ returns c =
           c.args.node
           c.index-as_slice-number.result record {
             frame = c.in_ok-next-2.next;
-            rows = c.in_ok-trail.trail.guard;
+            rows = c.in_ok-rows.rows;
             read = c.in_ok-trail.trail.inputs;
             symbols = c.in_ok-trail.trail.symbols;
           } stage c.requires.at c.index-graphs-frame.result k.at k.here k.leaves (not_call c.index-as_slice-number.result
           c.in_default.not-Call)
-          (trace_of c.in_ok-trail.trail) c.in_ok-trail.ensures.trail c.in_ok-trail.ensures.decided c.in_ok-next-2.ensures refl refl refl
-          refl h;
+          (trace_of c.in_ok-trail.trail) c.in_ok-trail.ensures.trail c.in_ok-trail.ensures.decided c.in_ok-next-2.ensures refl
+          (ap (λ (x : Cube). x.atoms) c.in_ok-rows.ensures) refl refl h;
       limit = tt;
       right = tt;
     }

@@ -1,4 +1,5 @@
 use Rattle.std.proofs.Common.{[], None, refl, ap, ◌∙◌}
+use Rattle.linear_formula.specs.declared.formula.Cube.{Cube}
 use Rattle.flow_graph.specs.declared.graph.Graph.{Graph}
 use Rattle.flow_graph.specs.WellFormed.{first_node}
 use Rattle.must_region.specs.Traces.{trace_of}
@@ -27,13 +28,13 @@ returns-clause-walk c =
     walk_begins c.args.graphs.now.graphs c.args.main c.args.graphs.now.well_formed g c.requires.main.1 c.requires.main.2 (trace_of t)
     (c.in_ok-node.ensures ∙ ap (λ (x : Graph). begin_trail (first_node x.edges) x.params x.slots) same) record {
       frame = record { proc = c.args.main; place = At t.node; slots = t.slots; entry = t.entry; caller = None };
-      guard = t.guard;
+      guard = c.in_ok-guard.guard;
       inputs = c.new.result;
       symbols = 0;
       levels = c.new-2.result;
       next = c.first_edge-next.result;
       counted = 1;
       found = c.in_ok-found.found;
-    } refl refl c.new.ensures.items refl c.new-2.ensures.items
+    } refl (ap (λ (x : Cube). x.atoms) c.in_ok-guard.ensures) c.new.ensures.items refl c.new-2.ensures.items
     (c.first_edge-next.ensures c.args.graphs.now.graphs [] (runs g t.node t.slots t.entry []) c.requires.links
     (refl, c.requires.main.1, refl, refl, tt)) refl c.args.asserts c.in_ok-found.ensures
