@@ -4,6 +4,7 @@ use Rattle.linear_formula.specs.LinearSum.{LinearSum}
 use Rattle.linear_formula.specs.declared.formula.Atom.{Atom}
 use Rattle.shadow_elim.specs.Projection.{gives, refuses}
 use Rattle.shadow_elim.specs.Shadows.{pair_rows}
+use Rattle.flow_graph.specs.Calls.{call_site, call_edge}
 use Rattle.flow_graph.specs.declared.graph.Graph.{Graph}
 use Rattle.flow_graph.specs.declared.graph.Edge.{Edge}
 use Rattle.flow_graph.specs.declared.graph.Edge.TheVariants.{Entry, Assign, Guard, Input, Pick, Call, Assert, Return}
@@ -14,7 +15,6 @@ use Rattle.may_partition.specs.declared.region.RegionEdge.{RegionEdge}
 use Rattle.may_partition.specs.Shown.{Shown}
 use Rattle.call_bridge.specs.Asked.{asked}
 use Rattle.call_bridge.specs.Asking.{IsAsking}
-use Rattle.call_bridge.specs.Calls.{arguments, procedure, results_of}
 use Rattle.call_bridge.specs.declared.asking.Asking.{Asking}
 use Rattle.query_rules.specs.Rows.{call_exit}
 use Rattle.bundle_check.specs.steps.Places.{Asks, AsksNone, IsPlace}
@@ -23,7 +23,7 @@ use Rattle.bundle_check.proofs.Deciding.{between, same_edge_of, same_source, sam
 record IsACall (e : Edge) : Type 0 where
   pub from : ℕ
   pub to : ℕ
-  pub same : e ≡ Call from to (procedure e) (arguments e) (results_of e)
+  pub same : e ≡ call_edge from to (call_site e)
 
 a_call : (e : Edge) → is_call e ≡ true → IsACall e
 a_call (Entry to params) c = absurd cc
@@ -44,9 +44,7 @@ module _ (g : Graph) (exit : ExitKind) (s : Shown) (k : RegionEdge) (edge : Edge
           between = between g s k p sh edge source target at;
           from = c.from;
           to = c.to;
-          proc = procedure edge;
-          args = arguments edge;
-          results = results_of edge;
+          site = call_site edge;
           is_call = c.same;
           kind = kind;
           is_kind = is_kind;
@@ -57,15 +55,15 @@ module _ (g : Graph) (exit : ExitKind) (s : Shown) (k : RegionEdge) (edge : Edge
         sym is.query,
       )
 
-  pub none_limited : (kept : _) → asked kind (arguments edge) (results_of edge) source.cube.atoms target.cube.atoms ≡ refuses kept →
+  pub none_limited : (kept : _) → asked kind (call_site edge) source.cube.atoms target.cube.atoms ≡ refuses kept →
       AsksNone g exit s k
   none_limited kept is p sh h =
       let e = same_edge_of g s k p sh edge source target at h.between in
       let f = same_source g s k p sh edge source target at h.between in
       let t = same_target g s k p sh edge source target at h.between in
       let same : h.kind ≡ kind = same_kind (sym h.is_kind ∙ (ap (λ (r : Region). call_exit g.fail exit r.node) t ∙ is_kind)) in
-      let call : edge ≡ Call h.from h.to h.proc h.args h.results = sym e ∙ h.is_call in
-      apart (sym h.is_asked ∙ ((λ i. asked (same i) (sym (ap arguments call) i) (sym (ap results_of call) i) (f i).cube.atoms
+      let call : edge ≡ call_edge h.from h.to h.site = sym e ∙ h.is_call in
+      apart (sym h.is_asked ∙ ((λ i. asked (same i) (sym (ap call_site call) i) (f i).cube.atoms
       (t i).cube.atoms) ∙ is))
     where
       same_kind : {a b : ExitKind} → Some a ≡ Some b → a ≡ b

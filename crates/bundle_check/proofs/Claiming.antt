@@ -41,9 +41,13 @@ asked_same g exit p k a b =
     let source : x.source ≡ y.source = same_Some x.source y.source (sym x.at_source ∙ y.at_source) in
     let target : x.target ≡ y.target = same_Some x.target y.target (sym x.at_target ∙ y.at_target) in
     let call = sym a.is_call ∙ (edge ∙ b.is_call) in
-    let proc : a.proc ≡ b.proc = same_proc a.from a.to a.proc b.from b.to b.proc a.args a.results b.args b.results call in
-    let args : a.args ≡ b.args = same_args a.from a.to a.proc b.from b.to b.proc a.args a.results b.args b.results call in
-    let results : a.results ≡ b.results = same_results a.from a.to a.proc b.from b.to b.proc a.args a.results b.args b.results call in
+    let proc : a.site.procedure ≡ b.site.procedure = same_proc a.from a.to a.site.procedure b.from b.to b.site.procedure a.site b.site call
+    in
+    let args : a.site.arguments ≡ b.site.arguments = same_args a.from a.to a.site.procedure b.from b.to b.site.procedure a.site b.site call
+    in
+    let results : a.site.results ≡ b.site.results = same_results a.from a.to a.site.procedure b.from b.to b.site.procedure a.site b.site
+    call
+    in
     let kind : a.kind ≡ b.kind = same_Some a.kind b.kind (sym a.is_kind ∙ ap (λ (r : Region). call_exit g.fail exit r.node) target
     ∙ b.is_kind) in
     let same : a.rows ≡ b.rows = same_rows a.rows b.rows a.pair b.pair (sym a.is_asked ∙ (λ i. asked (kind i) (args i) (results i)

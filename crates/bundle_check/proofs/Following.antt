@@ -12,9 +12,9 @@ use Rattle.linear_formula.proofs.Limits.{both, both_in}
 use Rattle.infeasible_cert.specs.Refutation.{Refutation, refutation_of}
 use Rattle.infeasible_cert.specs.declared.certificate.Certificate.{Certificate}
 use Rattle.shadow_elim.specs.Questions.{with_negation}
+use Rattle.flow_graph.specs.Calls.{call_edge}
 use Rattle.flow_graph.specs.declared.graph.Graph.{Graph}
 use Rattle.flow_graph.specs.declared.graph.Edge.{Edge}
-use Rattle.flow_graph.specs.declared.graph.Edge.TheVariants.{Call}
 use Rattle.flow_graph.specs.Linked.{AreGraphs}
 use Rattle.flow_graph.specs.Shapes.{is_call}
 use Rattle.summary_form.specs.declared.query.Query.{Query}
@@ -357,9 +357,7 @@ module _ (g : Graph) (killed : ℕ → Bool) (m : Model) (p : Parted) (h : Follo
     between = between a.call.between;
     from = a.call.from;
     to = a.call.to;
-    proc = a.call.proc;
-    args = a.call.args;
-    results = a.call.results;
+    site = a.call.site;
     is_call = a.call.is_call;
     kind = a.call.exit;
     is_kind = a.call.is_kind;
@@ -463,10 +461,10 @@ module _ (gs : List Graph) (linked : AreGraphs gs) (g : Graph) (table : List Sum
         let d = h.dead i l.entry l.there named in
         let a = good.keeps.asks i l.entry l.there in
         let dead : p.live k ≡ false = subst (λ x. p.live x ≡ false) l.same d.dead in
-        let at : slice_get g.edges k.edge ≡ Some (Call a.from a.to a.proc a.args a.results) = subst
-        (λ (x : RegionEdge). slice_get g.edges x.edge ≡ Some (Call a.from a.to a.proc a.args a.results)) l.same a.call in
+        let at : slice_get g.edges k.edge ≡ Some (call_edge a.from a.to a.site) = subst
+        (λ (x : RegionEdge). slice_get g.edges x.edge ≡ Some (call_edge a.from a.to a.site)) l.same a.call in
         inl (follows_dead g killed m (stepped g (take n table) (step.Kill k (killer.Child i)) m) p k refl refl dead
-        (Call a.from a.to a.proc a.args a.results) at refl h)
+        (call_edge a.from a.to a.site) at refl h)
     kills n k (killer.Ancestor level proof) live l named =
         at_call (step.Kill k (killer.Ancestor level proof)) n k l.asks.call refl refl
         (λ t. call_kill g killed m p h claims k l.query l.summary l.asks proof l.entails (named l.summary l.there) t)

@@ -98,9 +98,7 @@ module _ (gs : List Graph) (linked : AreGraphs gs) (g : Graph) (q : Query) (quer
       between = between_of a.between;
       from = a.from;
       to = a.to;
-      proc = a.proc;
-      args = a.args;
-      results = a.results;
+      site = a.site;
       is_call = a.is_call;
       exit = a.kind;
       is_kind = a.is_kind;

@@ -11,6 +11,7 @@ use Rattle.linear_formula.specs.declared.formula.Atom.{Atom}
 use Rattle.linear_formula.proofs.Limits.{both, both_in}
 use Rattle.shadow_elim.specs.declared.sum.Sum.{Sum}
 use Rattle.shadow_elim.proofs.Projecting.{or-cases}
+use Rattle.flow_graph.specs.Calls.{call_edge}
 use Rattle.flow_graph.specs.declared.graph.Graph.{Graph}
 use Rattle.flow_graph.specs.declared.graph.Edge.{Edge}
 use Rattle.flow_graph.specs.declared.graph.Edge.TheVariants.{Entry, Assign, Guard, Input, Pick, Call, Assert, Return}
@@ -240,13 +241,14 @@ module _ (gs : List Graph) (linked : AreGraphs gs) (g : Graph) where
     call_own table holds k place atoms proofs live l =
         let c = l.call in
         let b = c.between in
-        let e : slice_get g.edges k.edge ≡ Some (Call c.from c.to c.proc c.args c.results) = b.at_edge ∙ ap Some c.is_call in
-        let joined = h.keeps.connected k live (Call c.from c.to c.proc c.args c.results) e b.source b.target b.at_source b.at_target in
-        let is_edge = ok.are_edges k.edge (Call c.from c.to c.proc c.args c.results) e in
-        let slots = both (list_all (λ x. nat_lt x g.slots) c.results) (list_all (λ x. nat_lt x g.slots) c.args) is_edge.slots_named in
-        let apart = leads_exit g ok (Call c.from c.to c.proc c.args c.results) is_edge refl b.target.node joined.1 in
-        preimage_names (is_own_column g) (own_inner g ok) l.path c.args c.results b.target.cube.atoms atoms l.is_pre.0 (record {
-          args_allowed = slots_own c.args slots.1;
+        let e : slice_get g.edges k.edge ≡ Some (call_edge c.from c.to c.site) = b.at_edge ∙ ap Some c.is_call in
+        let joined = h.keeps.connected k live (call_edge c.from c.to c.site) e b.source b.target b.at_source b.at_target in
+        let is_edge = ok.are_edges k.edge (call_edge c.from c.to c.site) e in
+        let slots = both (list_all (λ x. nat_lt x g.slots) c.site.results) (list_all (λ x. nat_lt x g.slots) c.site.arguments)
+        is_edge.slots_named in
+        let apart = leads_exit g ok (call_edge c.from c.to c.site) is_edge refl b.target.node joined.1 in
+        preimage_names (is_own_column g) (own_inner g ok) l.path c.site b.target.cube.atoms atoms l.is_pre.0 (record {
+          args_allowed = slots_own c.site.arguments slots.1;
           target_allowed = rows_wider (own_at g b.target.node) (is_own_column g) (from_inside g b.target.node apart) b.target.cube.atoms
               (own k.to b.target b.at_target);
           numbers = l.must_at.numbers;
@@ -256,7 +258,7 @@ module _ (gs : List Graph) (linked : AreGraphs gs) (g : Graph) where
         IsTrue (m.parted.live k) → SplitsCall g table m k place atoms proofs → IsTrue (are_terms atoms)
     call_terms table holds k place atoms proofs live l =
         let c = l.call in
-        (must_region l.path c.args c.results c.between.target.cube.atoms
+        (must_region l.path c.site c.between.target.cube.atoms
         (fits_must gs linked g table holds m h k live c place l.path l.must_at) atoms l.is_pre.0 l.is_pre.1).terms
 
     call_splits_own : (table : List Summary) → AllHold gs table → (k : RegionEdge) (place : ℕ) (atoms : List Atom) (proofs : List _) →

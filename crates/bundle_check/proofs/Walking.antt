@@ -5,8 +5,8 @@ use Rattle.std.proofs.lemmas.Option.{same_Some, slice_get_within}
 use Rattle.std.proofs.lemmas.List.{length-append}
 use Rattle.infeasible_cert.specs.Refutation.{refutation_of}
 use Rattle.infeasible_cert.specs.declared.certificate.Certificate.{Certificate}
+use Rattle.flow_graph.specs.Calls.{call_edge}
 use Rattle.flow_graph.specs.declared.graph.Graph.{Graph}
-use Rattle.flow_graph.specs.declared.graph.Edge.TheVariants.{Call}
 use Rattle.flow_graph.specs.Linked.{AreGraphs}
 use Rattle.flow_graph.specs.Shapes.{is_call}
 use Rattle.summary_form.specs.declared.query.ExitKind.{ExitKind}
@@ -113,11 +113,11 @@ module _ (gs : List Graph) (linked : AreGraphs gs) (g : Graph) (table : List Sum
         let d = h.dead j l.entry l.there (told_kill last.steps i k j at) in
         let a = good.keeps.asks j l.entry l.there in
         let dead : p.live k ≡ false = subst (λ x. p.live x ≡ false) l.same d.dead in
-        let call : slice_get g.edges k.edge ≡ Some (Call a.from a.to a.proc a.args a.results) = subst
-        (λ (x : RegionEdge). slice_get g.edges x.edge ≡ Some (Call a.from a.to a.proc a.args a.results)) l.same a.call in
+        let call : slice_get g.edges k.edge ≡ Some (call_edge a.from a.to a.site) = subst
+        (λ (x : RegionEdge). slice_get g.edges x.edge ≡ Some (call_edge a.from a.to a.site)) l.same a.call in
         none_made (step.Kill k (killer.Child j)) one
         (follows_dead g killed m (stepped g (take n table) (step.Kill k (killer.Child j)) m) p k refl refl dead
-        (Call a.from a.to a.proc a.args a.results) call refl h) e
+        (call_edge a.from a.to a.site) call refl h) e
     kill_made k (killer.Ancestor level proofs) live l i at one w =
         call_made (step.Kill k (killer.Ancestor level proofs)) k l.query l.summary proofs l.asks l.entails refl refl one
         (w l.summary (ap (λ qs. slice_get qs level) extends ∙ l.there))

@@ -12,9 +12,9 @@ use Rattle.infeasible_cert.specs.Right.{Refutes}
 use Rattle.infeasible_cert.specs.Terms.{HasTerms}
 use Rattle.shadow_elim.specs.Projection.{gives}
 use Rattle.shadow_elim.specs.Questions.{with_negation}
+use Rattle.flow_graph.specs.Calls.{CallSite, call_edge}
 use Rattle.flow_graph.specs.declared.graph.Graph.{Graph}
 use Rattle.flow_graph.specs.declared.graph.Edge.{Edge}
-use Rattle.flow_graph.specs.declared.graph.Edge.TheVariants.{Call}
 use Rattle.flow_graph.specs.Columns.{is_entry_column, rows_name_only}
 use Rattle.flow_graph.specs.Shapes.{is_call}
 use Rattle.weakest_pre.specs.Preimage.{preimage}
@@ -55,20 +55,18 @@ pub record HasAsked (g : Graph) (exit : ExitKind) (p : Parted) (k : RegionEdge) 
   pub between : Between g p k
   pub from : ℕ
   pub to : ℕ
-  pub proc : ℕ
-  pub args : List ℕ
-  pub results : List ℕ
-  pub is_call : between.edge ≡ Call from to proc args results
+  pub site : CallSite
+  pub is_call : between.edge ≡ call_edge from to site
   pub kind : ExitKind
   pub is_kind : call_exit g.fail exit between.target.node ≡ Some kind
   pub rows : List Atom
   pub pair : Option (ℕ × (LinearSum × LinearSum))
-  pub is_asked : asked kind args results between.source.cube.atoms between.target.cube.atoms
+  pub is_asked : asked kind site between.source.cube.atoms between.target.cube.atoms
       ≡ gives rows pair
 
 abbrev pub asked_query : {g : Graph} {exit : ExitKind} {p : Parted} {k : RegionEdge} →
     HasAsked g exit p k → Query
-asked_query a = query_of a.proc a.kind a.rows
+asked_query a = query_of a.site.procedure a.kind a.rows
 
 -- Certificates
 
@@ -140,7 +138,7 @@ pub record KillsCall (g : Graph) (exit : ExitKind) (claims : List Query) (p : Pa
   pub asks : HasAsked g exit p k
   pub claim : Query
   pub there : slice_get claims number ≡ Some claim
-  pub of_procedure : claim.proc ≡ asks.proc
+  pub of_procedure : claim.proc ≡ asks.site.procedure
   pub of_exit : claim.exit ≡ asks.kind
   pub shown : AreShown (rows_of_query (asked_query asks))
       (missing (rows_of_query (asked_query asks)) (rows_of_query claim)) cs

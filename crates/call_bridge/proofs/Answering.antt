@@ -4,6 +4,7 @@ use Rattle.std.specs.Prelude.{slice_get, IsTrue, if◌then◌else◌}
 use Rattle.std.specs.List.{list_all}
 use Rattle.std.proofs.lemmas.Option.{none-some, same_Some}
 use borrow.Author.Tests.{ltb-true}
+use Rattle.flow_graph.specs.Calls.{call_site}
 use Rattle.flow_graph.specs.WellFormed.{has_slots, max_slots}
 use Rattle.call_bridge.specs.Laws.{AreSlots}
 use Rattle.std.proofs.lemmas.List.{drop_more, drop_all}
@@ -18,16 +19,14 @@ use Rattle.flow_graph.specs.declared.graph.Edge.TheVariants.{Call}
 use Rattle.shadow_elim.specs.declared.sum.Sum.{Sum}
 use Rattle.shadow_elim.specs.Sums.{equal_sums}
 use Rattle.shadow_elim.specs.Shadows.{pair_rows}
-use Rattle.summary_form.specs.declared.path.Path.{Path}
 use Rattle.summary_form.specs.declared.query.Query.{Query}
 use Rattle.summary_form.specs.declared.query.ExitKind.{ExitKind}
 use Rattle.summary_form.specs.NotMays.{Fits}
 use Rattle.call_bridge.specs.declared.asking.Asking.{Asking}
 use Rattle.call_bridge.specs.declared.musts.Matching.{Matching}
-use Rattle.call_bridge.specs.Calls.{procedure, arguments, results_of}
-use Rattle.call_bridge.specs.Asked.{asked, FitsCall, HoldsCalls, HoldsNoOtherCall}
+use Rattle.call_bridge.specs.Asked.{FitsCall, HoldsCalls, HoldsNoOtherCall}
 use Rattle.call_bridge.specs.Asking.{IsAsking, rows_of_query}
-use Rattle.call_bridge.specs.Musts.{is_number, single, is_new, with_symbol, replacing, other_sums, must_preimage}
+use Rattle.call_bridge.specs.Musts.{is_number, single, is_new, with_symbol, replacing, other_sums}
 use Rattle.call_bridge.proofs.Calling.{asked_holds, asked_exact}
 use Rattle.call_bridge.proofs.Queries.{asked_fits, query_holds}
 
@@ -40,7 +39,7 @@ each_below limit (x ∷ xs) h zero a e =
     subst (λ y. y < limit) (same_Some x a e) (ltb-true x limit r.0)
 each_below limit (x ∷ xs) h (suc j) a e = each_below limit xs (both (nat_lt x limit) (list_all (λ y. nat_lt y limit) xs) h).1 j a e
 
-pub call_slots : (edge : Edge) → IsTrue (has_slots max_slots edge) → AreSlots (arguments edge) (results_of edge)
+pub call_slots : (edge : Edge) → IsTrue (has_slots max_slots edge) → AreSlots (call_site edge)
 call_slots (Call from to proc args results) h =
     let r = both (list_all (λ x. nat_lt x max_slots) results) (list_all (λ x. nat_lt x max_slots) args) h in
     record { are_slots = each_below max_slots args r.1; results_low = each_below max_slots results r.0 }
@@ -48,47 +47,33 @@ call_slots _ h = record { are_slots = λ j a e. absurd (none-some a e); results_
 
 -- The asked query
 
--- the rows of a call by its parts
-pub asked_at : (exit : ExitKind) (call : Edge) (from to proc : ℕ) (args slice results others : List ℕ) (source target : List Atom) → call
-    ≡ Call from to proc args results → slice ≡ args → others ≡ results →
-    asked exit (arguments call) (results_of call) source target ≡ asked exit slice others source target
-asked_at exit call from to proc args slice results others source target e f h =
-    ap (λ (k : Edge). asked exit (arguments k) (results_of k) source target) e ∙ ap (λ (l : List ℕ). asked exit l results source target)
-    (sym f) ∙ ap (λ (l : List ℕ). asked exit slice l source target) (sym h)
-
 module _ (exit : ExitKind) (call : Edge) (source target : List Atom) (a : Asking) (is : IsAsking exit call source target a) where
-  pub asking_holds : FitsCall (arguments call) (results_of call) source target → HoldsCalls exit (arguments call) (results_of call) source
+  pub asking_holds : FitsCall (call_site call) source target → HoldsCalls exit (call_site call) source
       target (rows_of_query a.query)
   asking_holds f s entry values vs ve vx h l =
-      subst (λ (q : Query). HoldsAll (valuation_of (map s (arguments call)) values) (rows_of_query q)) (sym is.query)
-      ((query_holds (valuation_of (map s (arguments call)) values) is.rows).1
-      (asked_holds exit (arguments call) (results_of call) source target f is.rows (pair_rows a.inexact) is.are_asked s entry values vs ve
+      subst (λ (q : Query). HoldsAll (valuation_of (map s (call_site call).arguments) values) (rows_of_query q)) (sym is.query)
+      ((query_holds (valuation_of (map s (call_site call).arguments) values) is.rows).1
+      (asked_holds exit (call_site call) source target f is.rows (pair_rows a.inexact) is.are_asked s entry values vs ve
       vx h l))
 
-  pub asking_exact : a.inexact ≡ None → FitsCall (arguments call) (results_of call) source target → HoldsNoOtherCall exit (arguments call)
-      (results_of call) source target (rows_of_query a.query)
+  pub asking_exact : a.inexact ≡ None → FitsCall (call_site call) source target → HoldsNoOtherCall exit (call_site call) source target
+      (rows_of_query a.query)
   asking_exact none f called values vc vx many h =
-      asked_exact exit (arguments call) (results_of call) source target f is.rows (pair_rows a.inexact) is.are_asked (ap pair_rows none)
+      asked_exact exit (call_site call) source target f is.rows (pair_rows a.inexact) is.are_asked (ap pair_rows none)
       called values vc vx many ((query_holds (valuation_of called values) is.rows).0
       (subst (λ (q : Query). HoldsAll (valuation_of called values) (rows_of_query q)) is.query h))
 
-  pub asking_fits : FitsCall (arguments call) (results_of call) source target → Fits (procedure call) (record {
-    entries = length (arguments call);
-    exits = length (results_of call);
+  pub asking_fits : FitsCall (call_site call) source target → Fits (call_site call).procedure (record {
+    entries = length (call_site call).arguments;
+    exits = length (call_site call).results;
   }) a.query
   asking_fits f =
-      subst (λ (q : Query). Fits (procedure call) (record { entries = length (arguments call); exits = length (results_of call) }) q)
+      subst (λ (q : Query). Fits (call_site call).procedure
+      (record { entries = length (call_site call).arguments; exits = length (call_site call).results }) q)
       (sym is.query)
-      (asked_fits (procedure call) exit (arguments call) (results_of call) source target is.rows (pair_rows a.inexact) f is.are_asked)
+      (asked_fits (call_site call).procedure exit (call_site call) source target is.rows (pair_rows a.inexact) f is.are_asked)
 
 -- The preimage over a must
-
-pub preimage_at : (must : Path) (call : Edge) (from to proc : ℕ) (args slice results others : List ℕ) (target : List Atom) → call
-    ≡ Call from to proc args results → slice ≡ args → others ≡ results →
-    must_preimage must (arguments call) (results_of call) target ≡ must_preimage must slice others target
-preimage_at must call from to proc args slice results others target e f h =
-    ap (λ (k : Edge). must_preimage must (arguments k) (results_of k) target) e ∙ ap (λ (l : List ℕ). must_preimage must l results target)
-    (sym f) ∙ ap (λ (l : List ℕ). must_preimage must slice l target) (sym h)
 
 term_numbers : (ps : List (ℕ × ℤ)) → IsTrue (has_columns ps) → IsTrue (list_all (λ p. is_number p.0) ps)
 term_numbers [] h = refl

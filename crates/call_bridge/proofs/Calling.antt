@@ -5,6 +5,7 @@ use Rattle.std.specs.Prelude.{slice_get, IsTrue, Contains, if◌then◌else◌}
 use Rattle.std.proofs.lemmas.Option.{same_Some, none-some, slice_get_within}
 use borrow.Author.Tests.{eqb-true, ne_eqb, lt-ltb, le-ltb, ltb-true, ltb-false, le-leb, leb-true}
 use Rattle.c_tree.specs.Meaning.{State, with_slot, is_value}
+use Rattle.flow_graph.specs.Calls.{CallSite}
 use Rattle.flow_graph.specs.Runs.{with_slots}
 use Rattle.linear_formula.specs.LinearSum.{Valuation, Is64, is64}
 use Rattle.linear_formula.specs.Results.{renamed_column}
@@ -126,18 +127,18 @@ module _ (s : State) (entry values : List ℤ) (args : List ℕ) where
 
 -- The rows of a call at a valuation that reads the caller's columns by their new numbers
 
-module _ (args : List ℕ) (results : List ℕ) (source target : List Atom) (f : FitsCall args results source target) (s : State)
+module _ (site : CallSite) (source target : List Atom) (f : FitsCall site source target) (s : State)
     (entry values : List ℤ)
-    (w : Valuation) (low : (x : ℕ) → x < first_exit → w (renamed_column (argument_columns 0 args) x) ≡ columns_of s entry [] x)
+    (w : Valuation) (low : (x : ℕ) → x < first_exit → w (renamed_column (argument_columns 0 site.arguments) x) ≡ columns_of s entry [] x)
     (out : (i : ℕ) → i < first_entry → w (first_exit + i) ≡ value_at values i) where
-  source_agrees : (x : ℕ) → IsTrue (inner_column x) → columns_of s entry [] x ≡ w (renamed_column (argument_columns 0 args) x)
+  source_agrees : (x : ℕ) → IsTrue (inner_column x) → columns_of s entry [] x ≡ w (renamed_column (argument_columns 0 site.arguments) x)
   source_agrees x k = sym (low x (inner_low x k))
 
   -- each result's slot has the exit value of its column
   results_agree : (i : ℕ) (some : List ℕ) (vals : List ℤ) → ((j a : ℕ) → slice_get some j ≡ Some a → a < first_entry) →
       ((j : ℕ) → j < length some → w (first_exit + (i + j)) ≡ value_at vals j) → (x : ℕ) → IsTrue (inner_column x) →
       columns_of (with_slots s some vals) entry [] x
-      ≡ w (renamed_column (argument_columns 0 args) (renamed_column (result_columns i some) x))
+      ≡ w (renamed_column (argument_columns 0 site.arguments) (renamed_column (result_columns i some) x))
   results_agree i [] vals lows outs x k = source_agrees x k
   results_agree i (y ∷ ys) vals lows outs x k =
       by_test (x == y) refl
@@ -152,16 +153,18 @@ module _ (args : List ℕ) (results : List ℕ) (source target : List Atom) (f :
           ap (λ o. w (first_exit + o)) n ∙ e ∙ sym (others_at vals j)
 
       by_test : (t : Bool) → (x == y) ≡ t → columns_of (with_slots s ys (drop 1 vals)) entry [] x
-          ≡ w (renamed_column (argument_columns 0 args) (renamed_column (result_columns (i + 1) ys) x)) →
+          ≡ w (renamed_column (argument_columns 0 site.arguments) (renamed_column (result_columns (i + 1) ys) x)) →
           columns_of (with_slot (with_slots s ys (drop 1 vals)) y (value_at vals 0)) entry [] x
-          ≡ w (renamed_column (argument_columns 0 args) (if t then (first_exit + i) else renamed_column (result_columns (i + 1) ys) x))
+          ≡ w (renamed_column (argument_columns 0 site.arguments) (if t then (first_exit + i) else renamed_column
+          (result_columns (i + 1) ys)
+          x))
       by_test true e rest =
           let small : nat_lt x first_entry ≡ true = lt-ltb x first_entry
           (subst (λ o. o < first_entry) (sym (eqb-true x y e)) (lows 0 y refl)) in
           let here : with_slot (with_slots s ys (drop 1 vals)) y z x ≡ z = rw e refl in
           let n : i + 0 ≡ i = omega arith in
           slot_at (with_slot (with_slots s ys (drop 1 vals)) y z) entry [] x small ∙ here ∙ sym (outs 0 (omega arith))
-          ∙ ap (λ o. w (first_exit + o)) n ∙ sym (ap w (fixed_at 0 args f.are_slots (first_exit + i) (omega arith)))
+          ∙ ap (λ o. w (first_exit + o)) n ∙ sym (ap w (fixed_at 0 site.arguments f.are_slots (first_exit + i) (omega arith)))
       by_test false e rest = changed (nat_lt x first_entry) refl ∙ rest where
         changed : (b : Bool) → nat_lt x first_entry ≡ b → columns_of (with_slot (with_slots s ys (drop 1 vals)) y (value_at vals 0)) entry
             []
@@ -170,45 +173,56 @@ module _ (args : List ℕ) (results : List ℕ) (source target : List Atom) (f :
             ∙ sym (slot_at (with_slots s ys (drop 1 vals)) entry [] x g)
         changed false g = rw g refl
 
-  target_agrees : (x : ℕ) → IsTrue (inner_column x) → columns_of (with_slots s results values) entry [] x
-      ≡ w (renamed_column (argument_columns 0 args) (exit_column kind.Return results x))
+  target_agrees : (x : ℕ) → IsTrue (inner_column x) → columns_of (with_slots s site.results values) entry [] x
+      ≡ w (renamed_column (argument_columns 0 site.arguments) (exit_column kind.Return site.results x))
   target_agrees x k =
-      results_agree 0 results values f.results_low
+      results_agree 0 site.results values f.results_low
       (λ j h. let n : 0 + j ≡ j = omega arith in
       ap (λ o. w (first_exit + o)) n ∙ out j (omega (arith, h, f.few_results))) x k
 
   source_in : HoldsAll (columns_of s entry []) source →
-      HoldsAll w (rows_of_sums (row_sums (renaming (renamed_column (argument_columns 0 args))) source))
-  source_in h = renaming-hold w (renamed_column (argument_columns 0 args)) source (holds_agree inner_column (columns_of s entry [])
-      (λ x. w (renamed_column (argument_columns 0 args) x)) source source_agrees f.source_names h)
+      HoldsAll w (rows_of_sums (row_sums (renaming (renamed_column (argument_columns 0 site.arguments))) source))
+  source_in h = renaming-hold w (renamed_column (argument_columns 0 site.arguments)) source
+      (holds_agree inner_column (columns_of s entry [])
+      (λ x. w (renamed_column (argument_columns 0 site.arguments) x)) source source_agrees f.source_names h)
 
-  source_out : HoldsAll w (rows_of_sums (row_sums (renaming (renamed_column (argument_columns 0 args))) source)) →
+  source_out : HoldsAll w (rows_of_sums (row_sums (renaming (renamed_column (argument_columns 0 site.arguments))) source)) →
       HoldsAll (columns_of s entry []) source
-  source_out h = holds_agree inner_column (λ x. w (renamed_column (argument_columns 0 args) x)) (columns_of s entry []) source
-      (agree_back inner_column (columns_of s entry []) (λ x. w (renamed_column (argument_columns 0 args) x)) source_agrees) f.source_names
-      (hold-renaming w (renamed_column (argument_columns 0 args)) source h)
+  source_out h = holds_agree inner_column (λ x. w (renamed_column (argument_columns 0 site.arguments) x)) (columns_of s entry []) source
+      (agree_back inner_column (columns_of s entry []) (λ x. w (renamed_column (argument_columns 0 site.arguments) x)) source_agrees)
+      f.source_names
+      (hold-renaming w (renamed_column (argument_columns 0 site.arguments)) source h)
 
-  target_in : (exit : ExitKind) → LiesBehind exit results s entry values target →
-      HoldsAll w (rows_of_sums (row_sums (renaming (λ x. renamed_column (argument_columns 0 args) (exit_column exit results x))) target))
-  target_in kind.Return h = renaming-hold w (λ x. renamed_column (argument_columns 0 args) (exit_column kind.Return results x)) target
-      (holds_agree inner_column (columns_of (with_slots s results values) entry [])
-      (λ x. w (renamed_column (argument_columns 0 args) (exit_column kind.Return results x))) target target_agrees f.target_names h)
-  target_in (kind.Fail id) h = renaming-hold w (renamed_column (argument_columns 0 args)) target
-      (holds_agree inner_column (columns_of s entry []) (λ x. w (renamed_column (argument_columns 0 args) x)) target source_agrees
+  target_in : (exit : ExitKind) → LiesBehind exit site.results s entry values target →
+      HoldsAll w (rows_of_sums
+      (row_sums (renaming (λ x. renamed_column (argument_columns 0 site.arguments) (exit_column exit site.results x)))
+      target))
+  target_in kind.Return h = renaming-hold w (λ x. renamed_column (argument_columns 0 site.arguments)
+      (exit_column kind.Return site.results x))
+      target
+      (holds_agree inner_column (columns_of (with_slots s site.results values) entry [])
+      (λ x. w (renamed_column (argument_columns 0 site.arguments) (exit_column kind.Return site.results x))) target target_agrees
+      f.target_names h)
+  target_in (kind.Fail id) h = renaming-hold w (renamed_column (argument_columns 0 site.arguments)) target
+      (holds_agree inner_column (columns_of s entry []) (λ x. w (renamed_column (argument_columns 0 site.arguments) x)) target source_agrees
       f.target_names h)
 
   target_out : (exit : ExitKind) →
-      HoldsAll w (rows_of_sums (row_sums (renaming (λ x. renamed_column (argument_columns 0 args) (exit_column exit results x))) target)) →
-      LiesBehind exit results s entry values target
+      HoldsAll w (rows_of_sums
+      (row_sums (renaming (λ x. renamed_column (argument_columns 0 site.arguments) (exit_column exit site.results x)))
+      target)) →
+      LiesBehind exit site.results s entry values target
   target_out kind.Return h = holds_agree inner_column
-      (λ x. w (renamed_column (argument_columns 0 args) (exit_column kind.Return results x)))
-      (columns_of (with_slots s results values) entry []) target
-      (agree_back inner_column (columns_of (with_slots s results values) entry [])
-      (λ x. w (renamed_column (argument_columns 0 args) (exit_column kind.Return results x))) target_agrees) f.target_names (hold-renaming w
-      (λ x. renamed_column (argument_columns 0 args) (exit_column kind.Return results x)) target h)
-  target_out (kind.Fail id) h = holds_agree inner_column (λ x. w (renamed_column (argument_columns 0 args) x)) (columns_of s entry [])
-      target (agree_back inner_column (columns_of s entry []) (λ x. w (renamed_column (argument_columns 0 args) x)) source_agrees)
-      f.target_names (hold-renaming w (renamed_column (argument_columns 0 args)) target h)
+      (λ x. w (renamed_column (argument_columns 0 site.arguments) (exit_column kind.Return site.results x)))
+      (columns_of (with_slots s site.results values) entry []) target
+      (agree_back inner_column (columns_of (with_slots s site.results values) entry [])
+      (λ x. w (renamed_column (argument_columns 0 site.arguments) (exit_column kind.Return site.results x))) target_agrees) f.target_names
+      (hold-renaming w
+      (λ x. renamed_column (argument_columns 0 site.arguments) (exit_column kind.Return site.results x)) target h)
+  target_out (kind.Fail id) h = holds_agree inner_column (λ x. w (renamed_column (argument_columns 0 site.arguments) x))
+      (columns_of s entry [])
+      target (agree_back inner_column (columns_of s entry []) (λ x. w (renamed_column (argument_columns 0 site.arguments) x)) source_agrees)
+      f.target_names (hold-renaming w (renamed_column (argument_columns 0 site.arguments)) target h)
 
 -- each place of a slot has the value of its first place
 module _ (w : Valuation) (columns : List (ℕ × ℕ)) where
@@ -285,124 +299,142 @@ same_map s (a ∷ args) [] e k = absurd (omega (arith, e))
 same_map s (a ∷ args) (z ∷ called) e k = ap (λ y. y ∷ map s args) (k 0 a refl) ∙ ap (λ zs. z ∷ zs)
     (same_map s args called (omega (arith, e)) (λ j b f. k (suc j) b f))
 
-module _ (exit : ExitKind) (args : List ℕ) (results : List ℕ) (source target : List Atom) (f : FitsCall args results source target)
+module _ (exit : ExitKind) (site : CallSite) (source target : List Atom) (f : FitsCall site source target)
     (rows : List Atom)
-    (pair : Pair) (is : asked exit args results source target ≡ gives rows pair) where
-  answer : IsAnswer exit args results source target rows pair
-  answer = answer_is exit args results source target rows pair is
+    (pair : Pair) (is : asked exit site source target ≡ gives rows pair) where
+  answer : IsAnswer exit site source target rows pair
+  answer = answer_is exit site source target rows pair is
 
-  fits : FitsProjection (caller_columns (call_rows exit args results source target)) (call_rows exit args results source target)
-  fits = kind_fits (λ x. nat_lt x first_exit) (call_rows exit args results source target) (call_rows_terms exit args results source target f
+  fits : FitsProjection (caller_columns (call_rows exit site source target)) (call_rows exit site source target)
+  fits = kind_fits (λ x. nat_lt x first_exit) (call_rows exit site source target) (call_rows_terms exit site source target f
       answer.decided)
 
   -- every call from the source into the target meets the rows
-  pub asked_holds : HoldsCalls exit args results source target rows
+  pub asked_holds : HoldsCalls exit site source target rows
   asked_holds s entry values vs ve vx h l =
-      let v : Valuation = asked_at s entry values args in
-      let kept : HoldsAll v answer.left = projections-keep (caller_columns (call_rows exit args results source target))
-      (call_rows exit args results source target) answer.left pair answer.was v bits all_hold in
-      let read : HoldsAll (λ x. valuation_of (map s args) values (as_entry x)) answer.left = holds_agree (λ x. nat_le first_exit x) v
-      (λ x. valuation_of (map s args) values (as_entry x)) answer.left (λ x k. high_at s entry values args x (leb-true first_exit x k))
+      let v : Valuation = asked_at s entry values site.arguments in
+      let kept : HoldsAll v answer.left = projections-keep (caller_columns (call_rows exit site source target))
+      (call_rows exit site source target) answer.left pair answer.was v bits all_hold in
+      let read : HoldsAll (λ x. valuation_of (map s site.arguments) values (as_entry x)) answer.left = holds_agree
+      (λ x. nat_le first_exit x)
+      v
+      (λ x. valuation_of (map s site.arguments) values (as_entry x)) answer.left (λ x k. high_at s entry values site.arguments x
+      (leb-true first_exit x k))
       above kept in
-      subst (HoldsAll (valuation_of (map s args) values)) (sym answer.made) (renaming-hold (valuation_of (map s args) values) as_entry
+      subst (HoldsAll (valuation_of (map s site.arguments) values)) (sym answer.made)
+      (renaming-hold (valuation_of (map s site.arguments) values) as_entry
       answer.left read)
     where
       above : IsTrue (rows_name_only (λ x. nat_le first_exit x) answer.left)
-      above = rows_wider (λ x. is_call_column exit (length args) (length results) x && not (nat_lt x first_exit)) (λ x. nat_le first_exit x)
+      above = rows_wider (λ x. is_call_column exit (length site.arguments) (length site.results) x && not (nat_lt x first_exit))
+          (λ x. nat_le first_exit x)
           not_low
           answer.left
-          (left_names (λ x. nat_lt x first_exit) (is_call_column exit (length args) (length results))
-          (call_rows exit args results source target) answer.left
+          (left_names (λ x. nat_lt x first_exit) (is_call_column exit (length site.arguments) (length site.results))
+          (call_rows exit site source target) answer.left
           pair
-          fits answer.was (call_rows_named exit args results source target f)) where
-            not_low : (x : ℕ) → IsTrue (is_call_column exit (length args) (length results) x && not (nat_lt x first_exit)) →
+          fits answer.was (call_rows_named exit site source target f)) where
+            not_low : (x : ℕ) → IsTrue (is_call_column exit (length site.arguments) (length site.results) x && not (nat_lt x first_exit)) →
                 IsTrue (nat_le first_exit x)
-            not_low x k = by_test (nat_lt x first_exit) refl (both (is_call_column exit (length args) (length results) x)
+            not_low x k = by_test (nat_lt x first_exit) refl (both (is_call_column exit (length site.arguments) (length site.results) x)
                 (not (nat_lt x first_exit))
                 k).1 where
                   by_test : (b : Bool) → nat_lt x first_exit ≡ b → IsTrue (not b) → IsTrue (nat_le first_exit x)
                   by_test true e q = absurd cc
                   by_test false e q = le-leb first_exit x (ltb-false x first_exit e)
 
-      known : (j a : ℕ) → slice_get args j ≡ Some a → (asked_at s entry values args (first_argument + (0 + j)) ≡ s a) × (a < first_entry)
+      known : (j a : ℕ) → slice_get site.arguments j ≡ Some a → (asked_at s entry values site.arguments (first_argument + (0 + j)) ≡ s a)
+          × (a < first_entry)
       known j a e =
-          let within = slice_get_within args j a e in
+          let within = slice_get_within site.arguments j a e in
           let n : 0 + j ≡ j = omega arith in (
-            subst (λ o. asked_at s entry values args (first_argument + o) ≡ s a) (sym n)
-                (argument_at s entry values args j (omega (arith, within, f.few)) ∙ map_at s args j a e),
+            subst (λ o. asked_at s entry values site.arguments (first_argument + o) ≡ s a) (sym n)
+                (argument_at s entry values site.arguments j (omega (arith, within, f.few)) ∙ map_at s site.arguments j a e),
             f.are_slots j a e,
           )
 
-      low : (x : ℕ) → x < first_exit → asked_at s entry values args (renamed_column (argument_columns 0 args) x) ≡ columns_of s entry [] x
-      low x k = renamed_at s entry values args 0 args known x k
+      low : (x : ℕ) → x < first_exit → asked_at s entry values site.arguments (renamed_column (argument_columns 0 site.arguments) x)
+          ≡ columns_of s entry [] x
+      low x k = renamed_at s entry values site.arguments 0 site.arguments known x k
 
-      out : (i : ℕ) → i < first_entry → asked_at s entry values args (first_exit + i) ≡ value_at values i
-      out i k = high_at s entry values args (first_exit + i) (omega arith) ∙ exit_value (map s args) values i k
+      out : (i : ℕ) → i < first_entry → asked_at s entry values site.arguments (first_exit + i) ≡ value_at values i
+      out i k = high_at s entry values site.arguments (first_exit + i) (omega arith) ∙ exit_value (map s site.arguments) values i k
 
-      first : (j a : ℕ) → slice_get args j ≡ Some a → asked_at s entry values args (first_argument + (0 + j)) ≡ asked_at s entry values args
-          (renamed_column (argument_columns 0 args) a)
+      first : (j a : ℕ) → slice_get site.arguments j ≡ Some a → asked_at s entry values site.arguments (first_argument + (0 + j))
+          ≡ asked_at s entry values site.arguments
+          (renamed_column (argument_columns 0 site.arguments) a)
       first j a e = let m = known j a e in m.0 ∙ sym (low a (omega (arith, m.1)) ∙ slot_at s entry [] a (lt-ltb a first_entry m.1))
 
-      all_hold : HoldsAll (asked_at s entry values args) (call_rows exit args results source target)
+      all_hold : HoldsAll (asked_at s entry values site.arguments) (call_rows exit site source target)
       all_hold =
-          let v : Valuation = asked_at s entry values args in
-          let by : ℕ → ℕ = renamed_column (argument_columns 0 args) in
-          sums-append v (row_sums (renaming by) source) (row_sums (renaming (λ x. by (exit_column exit results x))) target
-          ++ place_sums (argument_columns 0 args) 0 args) (source_in args results source target f s entry values v low out h) (sums-append v
-          (row_sums (renaming (λ x. by (exit_column exit results x))) target) (place_sums (argument_columns 0 args) 0 args)
-          (target_in args results source target f s entry values v low out exit l) (places_in v (argument_columns 0 args) 0 args first))
+          let v : Valuation = asked_at s entry values site.arguments in
+          let by : ℕ → ℕ = renamed_column (argument_columns 0 site.arguments) in
+          sums-append v (row_sums (renaming by) source) (row_sums (renaming (λ x. by (exit_column exit site.results x))) target
+          ++ place_sums (argument_columns 0 site.arguments) 0 site.arguments) (source_in site source target f s entry values v low out h)
+          (sums-append v
+          (row_sums (renaming (λ x. by (exit_column exit site.results x))) target) (place_sums (argument_columns 0 site.arguments) 0
+          site.arguments)
+          (target_in site source target f s entry values v low out exit l) (places_in v (argument_columns 0 site.arguments) 0 site.arguments
+          first))
 
-      bits : Is64 (asked_at s entry values args)
+      bits : Is64 (asked_at s entry values site.arguments)
       bits x = by_test (nat_lt x first_exit) where
-        by_test : (t : Bool) → IsTrue (is64 (if t then columns_of s entry [] x else valuation_of (map s args) values (as_entry x)))
+        by_test : (t : Bool) →
+            IsTrue (is64 (if t then columns_of s entry [] x else valuation_of (map s site.arguments) values (as_entry x)))
         by_test true = columns_64 s entry [] vs ve none_values x
-        by_test false = values_64 (map s args) values (values_map s vs args) vx (as_entry x)
+        by_test false = values_64 (map s site.arguments) values (values_map s vs site.arguments) vx (as_entry x)
 
   -- where no pair is told, values that meet the rows are those of a call
   module _ (none : pair ≡ None) (called values : List ℤ) (vc : AreAllValues called) (vx : AreAllValues values)
-      (many : length called ≡ length args) (h : HoldsAll (valuation_of called values) rows) where
+      (many : length called ≡ length site.arguments) (h : HoldsAll (valuation_of called values) rows) where
     v_bits : Is64 (λ x. valuation_of called values (as_entry x))
     v_bits x = values_64 called values vc vx (as_entry x)
 
     v_meets : HoldsAll (λ x. valuation_of called values (as_entry x)) answer.left
     v_meets = hold-renaming (valuation_of called values) as_entry answer.left (subst (HoldsAll (valuation_of called values)) answer.made h)
 
-    found : (w : Valuation) × Is64 w × ((x : ℕ) → (Contains (caller_columns (call_rows exit args results source target)) x → ⊥) →
-        w x ≡ valuation_of called values (as_entry x)) × HoldsAll w (call_rows exit args results source target)
-    found = projections-lose-none (caller_columns (call_rows exit args results source target)) (call_rows exit args results source target)
+    found : (w : Valuation) × Is64 w × ((x : ℕ) → (Contains (caller_columns (call_rows exit site source target)) x → ⊥) →
+        w x ≡ valuation_of called values (as_entry x)) × HoldsAll w (call_rows exit site source target)
+    found = projections-lose-none (caller_columns (call_rows exit site source target)) (call_rows exit site source target)
         answer.left fits (answer.was ∙ ap (gives answer.left) none) (λ x. valuation_of called values (as_entry x)) v_bits v_meets
 
     high : (x : ℕ) → first_exit ≤ x → found.0 x ≡ valuation_of called values (as_entry x)
     high x k = found.2 x (λ c. let m = filter-among (λ y. nat_lt y first_exit)
-        (named_columns (rows_of (call_rows exit args results source target)))
-        x (contains-among (caller_columns (call_rows exit args results source target)) x c) in omega (arith, k, ltb-true x first_exit m.1))
+        (named_columns (rows_of (call_rows exit site source target)))
+        x (contains-among (caller_columns (call_rows exit site source target)) x c) in omega (arith, k, ltb-true x first_exit m.1))
 
     out : (i : ℕ) → i < first_entry → found.0 (first_exit + i) ≡ value_at values i
     out i k = high (first_exit + i) (omega arith) ∙ exit_value called values i k
 
     abbrev state : State
-    state x = found.0 (renamed_column (argument_columns 0 args) x)
+    state x = found.0 (renamed_column (argument_columns 0 site.arguments) x)
 
-    split : HoldsAll found.0 (rows_of_sums (row_sums (renaming (renamed_column (argument_columns 0 args))) source)) × HoldsAll found.0
-        (rows_of_sums (row_sums (renaming (λ x. renamed_column (argument_columns 0 args) (exit_column exit results x))) target
-        ++ place_sums (argument_columns 0 args) 0 args))
-    split = sums-split found.0 (row_sums (renaming (renamed_column (argument_columns 0 args))) source)
-        (row_sums (renaming (λ x. renamed_column (argument_columns 0 args) (exit_column exit results x))) target
-        ++ place_sums (argument_columns 0 args) 0 args) found.3
+    split : HoldsAll found.0 (rows_of_sums (row_sums (renaming (renamed_column (argument_columns 0 site.arguments))) source))
+        × HoldsAll found.0
+        (rows_of_sums (row_sums (renaming (λ x. renamed_column (argument_columns 0 site.arguments) (exit_column exit site.results x)))
+        target
+        ++ place_sums (argument_columns 0 site.arguments) 0 site.arguments))
+    split = sums-split found.0 (row_sums (renaming (renamed_column (argument_columns 0 site.arguments))) source)
+        (row_sums (renaming (λ x. renamed_column (argument_columns 0 site.arguments) (exit_column exit site.results x))) target
+        ++ place_sums (argument_columns 0 site.arguments) 0 site.arguments) found.3
 
     behind : HoldsAll found.0
-        (rows_of_sums (row_sums (renaming (λ x. renamed_column (argument_columns 0 args) (exit_column exit results x)))
+        (rows_of_sums (row_sums (renaming (λ x. renamed_column (argument_columns 0 site.arguments) (exit_column exit site.results x)))
         target))
-        × HoldsAll found.0 (rows_of_sums (place_sums (argument_columns 0 args) 0 args))
-    behind = sums-split found.0 (row_sums (renaming (λ x. renamed_column (argument_columns 0 args) (exit_column exit results x))) target)
-        (place_sums (argument_columns 0 args) 0 args) split.1
+        × HoldsAll found.0 (rows_of_sums (place_sums (argument_columns 0 site.arguments) 0 site.arguments))
+    behind = sums-split found.0
+        (row_sums (renaming (λ x. renamed_column (argument_columns 0 site.arguments) (exit_column exit site.results x)))
+        target)
+        (place_sums (argument_columns 0 site.arguments) 0 site.arguments) split.1
 
-    passed : (j a : ℕ) → slice_get args j ≡ Some a → state a ≡ value_at called j
+    passed : (j a : ℕ) → slice_get site.arguments j ≡ Some a → state a ≡ value_at called j
     passed j a e =
         let n : 0 + j ≡ j = omega arith in
-        let within = slice_get_within args j a e in
+        let within = slice_get_within site.arguments j a e in
         let small : j < first_entry = omega (arith, within, f.few) in
-        sym (places_out found.0 (argument_columns 0 args) 0 args behind.1 j a e) ∙ ap (λ o. found.0 (first_argument + o)) n
+        sym (places_out found.0 (argument_columns 0 site.arguments) 0 site.arguments behind.1 j a e)
+        ∙ ap (λ o. found.0 (first_argument + o))
+        n
         ∙ high (first_argument + j) (omega arith) ∙ argument_value called values j small
 
     -- the entry values, listed to this number
@@ -410,29 +442,30 @@ module _ (exit : ExitKind) (args : List ℕ) (results : List ℕ) (source target
       abbrev entry : List ℤ
       entry = listed count (λ i. found.0 (first_entry + i))
 
-      low : (x : ℕ) → x < first_exit → found.0 (renamed_column (argument_columns 0 args) x) ≡ columns_of state
+      low : (x : ℕ) → x < first_exit → found.0 (renamed_column (argument_columns 0 site.arguments) x) ≡ columns_of state
           (listed count (λ i. found.0 (first_entry + i))) [] x
       low x k = by_test (nat_lt x first_entry) refl where
-        by_test : (b : Bool) → nat_lt x first_entry ≡ b → found.0 (renamed_column (argument_columns 0 args) x) ≡ columns_of state
+        by_test : (b : Bool) → nat_lt x first_entry ≡ b → found.0 (renamed_column (argument_columns 0 site.arguments) x) ≡ columns_of state
             (listed count (λ i. found.0 (first_entry + i))) [] x
         by_test true e = sym (slot_at state (listed count (λ i. found.0 (first_entry + i))) [] x e)
         by_test false e =
             let great : first_entry ≤ x = ltb-false x first_entry e in
             let n : x ≡ first_entry + (x - first_entry) = omega (arith, great) in
-            ap found.0 (fixed_at 0 args f.are_slots x great ∙ n) ∙ sym (listed_at count (λ i. found.0 (first_entry + i)) (x - first_entry)
+            ap found.0 (fixed_at 0 site.arguments f.are_slots x great ∙ n)
+            ∙ sym (listed_at count (λ i. found.0 (first_entry + i)) (x - first_entry)
             (omega (arith, all, great, k))) ∙ sym (entry_column state (listed count (λ i. found.0 (first_entry + i))) [] x great k)
 
-      is_called : IsCalled exit args results source target called values
+      is_called : IsCalled exit site source target called values
       is_called = record {
         state = state;
         entry = entry;
-        are_values = λ x. value_of_64 (state x) (found.1 (renamed_column (argument_columns 0 args) x));
+        are_values = λ x. value_of_64 (state x) (found.1 (renamed_column (argument_columns 0 site.arguments) x));
         entry_values = listed_values count (λ i. found.0 (first_entry + i)) (λ i. value_of_64 (found.0 (first_entry + i))
             (found.1 (first_entry + i)));
-        passes = same_map state args called many passed;
-        from = source_out args results source target f state entry values found.0 low out split.0;
-        into = target_out args results source target f state entry values found.0 low out exit behind.0;
+        passes = same_map state site.arguments called many passed;
+        from = source_out site source target f state entry values found.0 low out split.0;
+        into = target_out site source target f state entry values found.0 low out exit behind.0;
       }
 
-  pub asked_exact : pair ≡ None → HoldsNoOtherCall exit args results source target rows
+  pub asked_exact : pair ≡ None → HoldsNoOtherCall exit site source target rows
   asked_exact none called values vc vx many h = is_called none called values vc vx many h first_entry refl

@@ -5,9 +5,7 @@ use Rattle.linear_formula.specs.Results.{renamed_column}
 use Rattle.linear_formula.specs.declared.formula.Atom.{Atom}
 use Rattle.linear_formula.specs.declared.question.Question.{Question}
 use Rattle.linear_formula.specs.declared.question.Question.TheVariants as asks
-use Rattle.flow_graph.specs.declared.graph.Edge.{Edge}
-use Rattle.flow_graph.specs.declared.graph.Edge.TheVariants as edges
-use Rattle.call_bridge.specs.Calls.{arguments, results_of}
+use Rattle.flow_graph.specs.Calls.{CallSite}
 use Rattle.infeasible_cert.specs.Right.{rows_of}
 use Rattle.shadow_elim.specs.declared.shadow.Pair.{Pair}
 use Rattle.shadow_elim.specs.declared.sum.Sum.{Sum}
@@ -25,47 +23,48 @@ abbrev RowPair : Type 0
 RowPair = Option (ℕ × (LinearSum × LinearSum))
 
 -- no sum is too wide, and the elimination gives this pair
-pub asked_left : (exit : ExitKind) (args : List ℕ) (results : List ℕ) (source target rows : List Atom) (pair : RowPair) →
-    asked exit args results source
+pub asked_left : (exit : ExitKind) (site : CallSite) (source target rows : List Atom) (pair : RowPair) →
+    asked exit site source
     target ≡ gives rows pair →
-    (first_wide (call_sums exit args results source target) ≡ None)
-    × ((left : List Atom) × (projected (caller_columns (call_rows exit args results source target))
-    (call_rows exit args results source target)
+    (first_wide (call_sums exit site source target) ≡ None)
+    × ((left : List Atom) × (projected (caller_columns (call_rows exit site source target))
+    (call_rows exit site source target)
     ≡ gives left pair))
-asked_left exit args results source target rows pair h =
-    let all = call_rows exit args results source target in
+asked_left exit site source target rows pair h =
+    let all = call_rows exit site source target in
     let next = projected (caller_columns all) all in
-    let u = unless-none (first_wide (call_sums exit args results source target)) (then_summed (row_sums (renaming as_entry)) next) rows pair
+    let u = unless-none (first_wide (call_sums exit site source target)) (then_summed (row_sums (renaming as_entry)) next) rows pair
     h
     in
     let made = then-made (row_sums (renaming as_entry)) next rows pair u.1 in
     (u.0, (made.left, made.is))
 
-pub record IsMustLeft (must : Path) (args : List ℕ) (results : List ℕ) (target : List Atom) (pair : RowPair) : Type 0 where
-  pub narrow : first_wide (must_sums must args results target) ≡ None
-  pub renamed : first_wide (slot_sums must args (plain_rows must args results target)) ≡ None
+pub record IsMustLeft (must : Path) (site : CallSite) (target : List Atom) (pair : RowPair) : Type 0 where
+  pub narrow : first_wide (must_sums must site target) ≡ None
+  pub renamed : first_wide (slot_sums must site.arguments (plain_rows must site target)) ≡ None
   pub left : List Atom
-  pub is : projected (symbol_columns (must_rows must args results target)) (must_rows must args results target) ≡ gives left pair
+  pub is : projected (symbol_columns (must_rows must site target)) (must_rows must site target) ≡ gives left pair
 
-pub must_left : (must : Path) (args : List ℕ) (results : List ℕ) (target rows : List Atom) (pair : RowPair) →
-    must_preimage must args results target
-    ≡ gives rows pair → IsMustLeft must args results target pair
-must_left must args results target rows pair h =
-    let plain = plain_rows must args results target in let all = must_rows must args results target in
-    let u = unless-none (first_wide (must_sums must args results target)) (slotted (replacing [] args must.entry) plain) rows pair h in
-    let k = unless-none (first_wide (slot_sums must args plain)) (projected (symbol_columns all) all) rows pair u.1 in
+pub must_left : (must : Path) (site : CallSite) (target rows : List Atom) (pair : RowPair) →
+    must_preimage must site target
+    ≡ gives rows pair → IsMustLeft must site target pair
+must_left must site target rows pair h =
+    let plain = plain_rows must site target in let all = must_rows must site target in
+    let u = unless-none (first_wide (must_sums must site target)) (slotted (replacing [] site.arguments must.entry) plain) rows pair h in
+    let k = unless-none (first_wide (slot_sums must site.arguments plain)) (projected (symbol_columns all) all) rows pair u.1 in
     record { narrow = u.0; renamed = k.0; left = rows; is = k.1 }
 
 -- the rows by slots, as the code makes them
-pub must_rows_are : (must : Path) (args : List ℕ) (results : List ℕ) (target others plain rows : List Atom)
+pub must_rows_are : (must : Path) (site : CallSite) (target others plain rows : List Atom)
     (items sums again renamed : List Sum)
-    (columns : List (ℕ × ℕ)) → items ≡ sums → sums ≡ must_sums must args results target → columns ≡ replacing [] args must.entry →
+    (columns : List (ℕ × ℕ)) → items ≡ sums → sums ≡ must_sums must site target → columns ≡ replacing [] site.arguments must.entry →
     others ≡ rows_of_sums items → plain ≡ must.guard.atoms ++ others → again ≡ renamed →
-    renamed ≡ row_sums (renaming (renamed_column columns)) plain → rows ≡ rows_of_sums again → rows ≡ must_rows must args results target
-must_rows_are must args results target others plain rows items sums again renamed columns i is col o pl a r e =
-    let all : plain ≡ plain_rows must args results target = pl
+    renamed ≡ row_sums (renaming (renamed_column columns)) plain → rows ≡ rows_of_sums again → rows ≡ must_rows must site target
+must_rows_are must site target others plain rows items sums again renamed columns i is col o pl a r e =
+    let all : plain ≡ plain_rows must site target = pl
     ∙ ap (λ (l : List Atom). must.guard.atoms ++ l) (o ∙ ap rows_of_sums (i ∙ is)) in
-    e ∙ ap rows_of_sums (a ∙ r ∙ ap (λ (m : List (ℕ × ℕ)). row_sums (renaming (renamed_column m)) plain) col ∙ ap (slot_sums must args) all)
+    e ∙ ap rows_of_sums (a ∙ r ∙ ap (λ (m : List (ℕ × ℕ)). row_sums (renaming (renamed_column m)) plain) col
+    ∙ ap (slot_sums must site.arguments) all)
 
 -- the columns and rows by which the elimination is written
 pub left_at : (columns others : List ℕ) (atoms rows : List Atom) (pair : RowPair) → columns ≡ others → atoms ≡ rows →
@@ -84,22 +83,6 @@ ends_with columns others atoms pair other c p l =
     ∙ ap (λ (x : Pair). gives l.0 (pair_rows (Some x))) (sym p) in
     let e = projected-left columns atoms l.0 (pair_rows (Some pair)) h in
     (rows_of l.0, e.eliminated, e.first)
-
--- The rows of a call by its parts
-
-pub call_rows_at : (exit : ExitKind) (call : Edge) (from to proc : ℕ) (args slice results others : List ℕ) (source target : List Atom) →
-    call ≡ edges.Call from to proc args results → slice ≡ args → others ≡ results → call_rows exit slice others source target
-    ≡ call_rows exit (arguments call) (results_of call) source target
-call_rows_at exit call from to proc args slice results others source target e f h =
-    ap (λ (l : List ℕ). call_rows exit slice l source target) h ∙ ap (λ (l : List ℕ). call_rows exit l results source target) f
-    ∙ ap (λ (k : Edge). call_rows exit (arguments k) (results_of k) source target) (sym e)
-
-pub must_rows_at : (must : Path) (call : Edge) (from to proc : ℕ) (args slice results others : List ℕ) (target : List Atom) → call
-    ≡ edges.Call from to proc args results → slice ≡ args → others ≡ results → must_rows must slice others target
-    ≡ must_rows must (arguments call) (results_of call) target
-must_rows_at must call from to proc args slice results others target e f h =
-    ap (λ (l : List ℕ). must_rows must slice l target) h ∙ ap (λ (l : List ℕ). must_rows must l results target) f
-    ∙ ap (λ (k : Edge). must_rows must (arguments k) (results_of k) target) (sym e)
 
 -- the question of an elimination, at equal rows
 pub question_at : (columns : List Atom → List ℕ) (question : Question) (rows others : List Atom) (listed : List ℕ) → question

@@ -5,6 +5,7 @@ use Rattle.std.specs.List.{list_all}
 use Rattle.std.proofs.lemmas.Int.{ints}
 use borrow.Author.Tests.{eqb-true, eq-eqb, ne_eqb, lt-ltb, le-ltb, leb-true}
 use Rattle.c_tree.specs.Meaning.{State, with_slot}
+use Rattle.flow_graph.specs.Calls.{CallSite}
 use Rattle.flow_graph.specs.Runs.{with_slots}
 use Rattle.linear_formula.specs.LinearSum.{LinearSum, Valuation, Is64, is64, is_zero, value_of, value_of_parts}
 use Rattle.linear_formula.specs.Results.{renamed_column}
@@ -359,33 +360,33 @@ module _ (results : List ℕ) (results_low : (j a : ℕ) → slice_get results j
 
 -- The laws
 
-module _ (must : Path) (args : List ℕ) (results : List ℕ) (target : List Atom) (f : FitsMust must args results target) (rows : List Atom)
+module _ (must : Path) (site : CallSite) (target : List Atom) (f : FitsMust must site target) (rows : List Atom)
     (pair : Pair)
-    (is : must_preimage must args results target ≡ gives rows pair) where
-  answer : IsPreimageAnswer must args results target rows pair
-  answer = must_answer must args results target rows pair is
+    (is : must_preimage must site target ≡ gives rows pair) where
+  answer : IsPreimageAnswer must site target rows pair
+  answer = must_answer must site target rows pair is
 
-  named : MustNames inner_column must args target
+  named : MustNames inner_column must site.arguments target
   named = record {
     args_allowed = λ j a e. slot_inner a (f.behind.are_slots j a e);
     target_allowed = f.behind.names;
     numbers = f.numbers;
   }
 
-  fits : FitsProjection (symbol_columns (must_rows must args results target)) (must_rows must args results target)
-  fits = kind_fits (λ x. nat_le first_symbol x) (must_rows must args results target)
-      (must_rows_terms inner_column (λ x h. h) must args results target named answer.decided)
+  fits : FitsProjection (symbol_columns (must_rows must site target)) (must_rows must site target)
+  fits = kind_fits (λ x. nat_le first_symbol x) (must_rows must site target)
+      (must_rows_terms inner_column (λ x h. h) must site target named answer.decided)
 
   -- the rows are terms that name slots and entry values alone
   pub must_region : IsRegion rows
   must_region = record {
-    names = preimage_names inner_column (λ x h. h) must args results target rows pair named is;
-    terms = projections-terms (symbol_columns (must_rows must args results target)) (must_rows must args results target) rows pair fits
+    names = preimage_names inner_column (λ x h. h) must site target rows pair named is;
+    terms = projections-terms (symbol_columns (must_rows must site target)) (must_rows must site target) rows pair fits
         answer.was;
   }
 
   -- the caller's columns, and the must's symbols
-  module _ (s : State) (entry : List ℤ) (vs : AreValues s) (ve : AreAllValues entry) (l : Leads must args results target s entry) where
+  module _ (s : State) (entry : List ℤ) (vs : AreValues s) (ve : AreAllValues entry) (l : Leads must site target s entry) where
     abbrev v : Valuation
     v x = if nat_lt x first_symbol then columns_of s entry [] x else l.symbols x
 
@@ -395,7 +396,7 @@ module _ (must : Path) (args : List ℕ) (results : List ℕ) (target : List Ato
     v_high : (x : ℕ) → IsTrue (is_symbol_column must.symbols x) → l.symbols x ≡ v x
     v_high x h = rw (le-ltb x first_symbol (symbol_high must.symbols x h)) refl
 
-    v_slots : (j a : ℕ) → slice_get args j ≡ Some a → v a ≡ s a
+    v_slots : (j a : ℕ) → slice_get site.arguments j ≡ Some a → v a ≡ s a
     v_slots j a e =
         let small = f.behind.are_slots j a e in
         v_low a (omega (arith, small)) ∙ slot_at s entry [] a (lt-ltb a first_entry small)
@@ -406,80 +407,84 @@ module _ (must : Path) (args : List ℕ) (results : List ℕ) (target : List Ato
       by_test true = columns_64 s entry [] vs ve none_values x
       by_test false = l.bits x
 
-    matched : Matches v args must.entry
-    matched = matches_in v l.symbols s args must.entry l.passes
+    matched : Matches v site.arguments must.entry
+    matched = matches_in v l.symbols s site.arguments must.entry l.passes
         (sym (terms_agree (is_symbol_column must.symbols) l.symbols v must.entry v_high must.well_formed.entry_names)) v_slots
 
-    plain : HoldsAll v (plain_rows must args results target)
+    plain : HoldsAll v (plain_rows must site target)
     plain =
-        holds_append v must.guard.atoms (rows_of_sums (must_sums must args results target))
+        holds_append v must.guard.atoms (rows_of_sums (must_sums must site target))
         (holds_agree (is_symbol_column must.symbols) l.symbols v must.guard.atoms v_high must.well_formed.guard_names l.guard)
-        (sums-append v (other_sums [] args must.entry) (row_sums (exit_reading must.exit results must.outcome) target)
-        (others_in v [] args must.entry matched) (target_in results f.behind.results_low target f.behind.names must.outcome
+        (sums-append v (other_sums [] site.arguments must.entry) (row_sums (exit_reading must.exit site.results must.outcome) target)
+        (others_in v [] site.arguments must.entry matched) (target_in site.results f.behind.results_low target f.behind.names must.outcome
         (values_of l.symbols must.outcome) s entry v (λ x h. v_low x (omega (arith, h)))
         (sym (terms_agree (is_symbol_column must.symbols) l.symbols v must.outcome v_high must.well_formed.outcome_names)) must.exit
         l.into))
 
-    all_hold : HoldsAll v (must_rows must args results target)
+    all_hold : HoldsAll v (must_rows must site target)
     all_hold =
-        renaming-hold v (renamed_column (replacing [] args must.entry)) (plain_rows must args results target)
-        (holds-same v (λ x. v (renamed_column (replacing [] args must.entry) x)) (plain_rows must args results target)
-        (λ x. sym (pairs_same v (replacing [] args must.entry) (replacing_pairs v [] args must.entry matched tt) x)) plain)
+        renaming-hold v (renamed_column (replacing [] site.arguments must.entry)) (plain_rows must site target)
+        (holds-same v (λ x. v (renamed_column (replacing [] site.arguments must.entry) x)) (plain_rows must site target)
+        (λ x. sym (pairs_same v (replacing [] site.arguments must.entry) (replacing_pairs v [] site.arguments must.entry matched tt) x))
+        plain)
 
     held : HoldsAll (columns_of s entry []) rows
     held =
         holds_agree inner_column v (columns_of s entry []) rows (λ x h. let low = inner_low x h in v_low x (omega (arith, low)))
-        must_region.names (projections-keep (symbol_columns (must_rows must args results target)) (must_rows must args results target) rows
+        must_region.names (projections-keep (symbol_columns (must_rows must site target)) (must_rows must site target) rows
         pair
         answer.was v v_bits all_hold)
 
   -- the preimage holds of every state from which the must leads into the target
-  pub must_holds : HoldsMust must args results target rows
+  pub must_holds : HoldsMust must site target rows
   must_holds s entry vs ve l = held s entry vs ve l
 
   -- where no pair is told, the must leads into the target from every state of the preimage
   module _ (none : pair ≡ None) (s : State) (entry : List ℤ) (vs : AreValues s) (ve : AreAllValues entry)
       (h : HoldsAll (columns_of s entry []) rows) where
-    found : (w : Valuation) × Is64 w × ((x : ℕ) → (Contains (symbol_columns (must_rows must args results target)) x → ⊥) →
-        w x ≡ columns_of s entry [] x) × HoldsAll w (must_rows must args results target)
-    found = projections-lose-none (symbol_columns (must_rows must args results target)) (must_rows must args results target) rows fits
+    found : (w : Valuation) × Is64 w × ((x : ℕ) → (Contains (symbol_columns (must_rows must site target)) x → ⊥) →
+        w x ≡ columns_of s entry [] x) × HoldsAll w (must_rows must site target)
+    found = projections-lose-none (symbol_columns (must_rows must site target)) (must_rows must site target) rows fits
         (answer.was ∙ ap (gives rows) none) (columns_of s entry []) (columns_64 s entry [] vs ve none_values) h
 
     low : (x : ℕ) → x < first_symbol → found.0 x ≡ columns_of s entry [] x
     low x k = found.2 x (λ c. let m = filter-among (λ y. nat_le first_symbol y)
-        (named_columns (rows_of (must_rows must args results target)))
-        x (contains-among (symbol_columns (must_rows must args results target)) x c) in omega (arith, k, leb-true first_symbol x m.1))
+        (named_columns (rows_of (must_rows must site target)))
+        x (contains-among (symbol_columns (must_rows must site target)) x c) in omega (arith, k, leb-true first_symbol x m.1))
 
     abbrev u : Valuation
-    u y = found.0 (renamed_column (replacing [] args must.entry) y)
+    u y = found.0 (renamed_column (replacing [] site.arguments must.entry) y)
 
-    u_low : (x : ℕ) → x < first_symbol → found.0 (renamed_column (replacing [] args must.entry) x) ≡ found.0 x
-    u_low x k = ap found.0 (fixed_column x (replacing [] args must.entry) (replacing_high x k must.symbols [] args must.entry
+    u_low : (x : ℕ) → x < first_symbol → found.0 (renamed_column (replacing [] site.arguments must.entry) x) ≡ found.0 x
+    u_low x k = ap found.0 (fixed_column x (replacing [] site.arguments must.entry) (replacing_high x k must.symbols [] site.arguments
+        must.entry
         must.well_formed.entry_names refl))
 
-    split : HoldsAll u must.guard.atoms × HoldsAll u (rows_of_sums (must_sums must args results target))
-    split = holds_split u must.guard.atoms (rows_of_sums (must_sums must args results target))
-        (hold-renaming found.0 (renamed_column (replacing [] args must.entry)) (plain_rows must args results target) found.3)
+    split : HoldsAll u must.guard.atoms × HoldsAll u (rows_of_sums (must_sums must site target))
+    split = holds_split u must.guard.atoms (rows_of_sums (must_sums must site target))
+        (hold-renaming found.0 (renamed_column (replacing [] site.arguments must.entry)) (plain_rows must site target) found.3)
 
-    behind : HoldsAll u (rows_of_sums (other_sums [] args must.entry))
-        × HoldsAll u (rows_of_sums (row_sums (exit_reading must.exit results must.outcome) target))
-    behind = sums-split u (other_sums [] args must.entry) (row_sums (exit_reading must.exit results must.outcome) target) split.1
+    behind : HoldsAll u (rows_of_sums (other_sums [] site.arguments must.entry))
+        × HoldsAll u (rows_of_sums (row_sums (exit_reading must.exit site.results must.outcome) target))
+    behind = sums-split u (other_sums [] site.arguments must.entry) (row_sums (exit_reading must.exit site.results must.outcome) target)
+        split.1
 
-    small_slot : (j a : ℕ) → slice_get args j ≡ Some a → a < first_symbol
+    small_slot : (j a : ℕ) → slice_get site.arguments j ≡ Some a → a < first_symbol
     small_slot j a e = let k = f.behind.are_slots j a e in omega (arith, k)
 
-    leads : Leads must args results target s entry
+    leads : Leads must site target s entry
     leads = record {
       symbols = u;
-      bits = λ y. found.1 (renamed_column (replacing [] args must.entry) y);
+      bits = λ y. found.1 (renamed_column (replacing [] site.arguments must.entry) y);
       guard = split.0;
-      passes = matches_list u s args must.entry f.behind.many (λ j a e. u_low a (small_slot j a e) ∙ low a (small_slot j a e)
+      passes = matches_list u s site.arguments must.entry f.behind.many (λ j a e. u_low a (small_slot j a e) ∙ low a (small_slot j a e)
           ∙ slot_at s entry []
-          a (lt-ltb a first_entry (f.behind.are_slots j a e))) (matches_out found.0 (replacing [] args must.entry) [] args must.entry refl
+          a (lt-ltb a first_entry (f.behind.are_slots j a e))) (matches_out found.0 (replacing [] site.arguments must.entry) []
+          site.arguments must.entry refl
           (λ j a e. u_low a (small_slot j a e)) behind.0);
-      into = target_out results f.behind.results_low target f.behind.names must.outcome (values_of u must.outcome) s entry u
+      into = target_out site.results f.behind.results_low target f.behind.names must.outcome (values_of u must.outcome) s entry u
           (λ x k. let n : x < first_symbol = omega (arith, k) in u_low x n ∙ low x n) refl must.exit behind.1;
     }
 
-  pub must_exact : pair ≡ None → HoldsNoOtherMust must args results target rows
+  pub must_exact : pair ≡ None → HoldsNoOtherMust must site target rows
   must_exact none s entry vs ve h = leads none s entry vs ve h

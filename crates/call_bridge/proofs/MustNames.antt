@@ -13,6 +13,7 @@ use Rattle.shadow_elim.specs.Sums.{first_wide, row_sums, rows_of_sums, renaming,
 use Rattle.shadow_elim.specs.Projection.{gives, projected, summed}
 use Rattle.shadow_elim.specs.ProjectionLaws.{FitsProjection, Pair}
 use Rattle.shadow_elim.proofs.Projecting.{unless-none, or-cases}
+use Rattle.flow_graph.specs.Calls.{CallSite}
 use Rattle.flow_graph.specs.Columns.{first_symbol, names_only, rows_name_only}
 use Rattle.flow_graph.specs.Readings.{term_at, results_reading}
 use Rattle.summary_form.specs.declared.path.Path.{Path}
@@ -31,20 +32,20 @@ symbol_high symbols x h = leb-true first_symbol x (both (nat_le first_symbol x) 
 
 -- What the answer says
 
-pub record IsPreimageAnswer (must : Path) (args : List ℕ) (results : List ℕ) (target rows : List Atom) (pair : Pair) : Type 0 where
-  pub decided : first_wide (slot_sums must args (plain_rows must args results target)) ≡ None
-  pub was : projected (symbol_columns (must_rows must args results target)) (must_rows must args results target) ≡ gives rows pair
+pub record IsPreimageAnswer (must : Path) (site : CallSite) (target rows : List Atom) (pair : Pair) : Type 0 where
+  pub decided : first_wide (slot_sums must site.arguments (plain_rows must site target)) ≡ None
+  pub was : projected (symbol_columns (must_rows must site target)) (must_rows must site target) ≡ gives rows pair
 
-pub must_answer : (must : Path) (args : List ℕ) (results : List ℕ) (target rows : List Atom) (pair : Pair) → must_preimage must args results
+pub must_answer : (must : Path) (site : CallSite) (target rows : List Atom) (pair : Pair) → must_preimage must site
     target
-    ≡ gives rows pair → IsPreimageAnswer must args results target rows pair
-must_answer must args results target rows pair e =
-    let plain : List Atom = plain_rows must args results target in
-    let all : List Atom = must_rows must args results target in
-    let a = unless-none (first_wide (must_sums must args results target))
-    (summed (slot_sums must args plain) (λ rs. projected (symbol_columns rs) rs))
+    ≡ gives rows pair → IsPreimageAnswer must site target rows pair
+must_answer must site target rows pair e =
+    let plain : List Atom = plain_rows must site target in
+    let all : List Atom = must_rows must site target in
+    let a = unless-none (first_wide (must_sums must site target))
+    (summed (slot_sums must site.arguments plain) (λ rs. projected (symbol_columns rs) rs))
     rows pair e in
-    let b = unless-none (first_wide (slot_sums must args plain)) (projected (symbol_columns all) all) rows pair a.1 in
+    let b = unless-none (first_wide (slot_sums must site.arguments plain)) (projected (symbol_columns all) all) rows pair a.1 in
     record { decided = b.0; was = b.1 }
 
 -- Columns of one kind, all of them slots or entry values
@@ -194,53 +195,56 @@ module _ (allowed : ℕ → Bool) (inner : (x : ℕ) → IsTrue (allowed x) → 
       (λ l. allowed_must must (renamed_column (replacing [] args must.entry) x) l)
       (replacing_allowed [] args must.entry k (λ y. inl refl) x)
 
-  plain_named : (must : Path) (args : List ℕ) (results : List ℕ) (target : List Atom) → NamesAllowed must args target →
-      IsTrue (rows_name_only (is_must_column must) (plain_rows must args results target))
-  plain_named must args results target f =
-      rows_named_append (is_must_column must) must.guard.atoms (rows_of_sums (must_sums must args results target))
+  plain_named : (must : Path) (site : CallSite) (target : List Atom) → NamesAllowed must site.arguments target →
+      IsTrue (rows_name_only (is_must_column must) (plain_rows must site target))
+  plain_named must site target f =
+      rows_named_append (is_must_column must) must.guard.atoms (rows_of_sums (must_sums must site target))
       (both_rows must must.guard.atoms must.well_formed.guard_names f.numbers.guard)
-      (rows_named (is_must_column must) (must_sums must args results target)
-      (sums_named_append (is_must_column must) (other_sums [] args must.entry) (row_sums (exit_reading must.exit results must.outcome)
+      (rows_named (is_must_column must) (must_sums must site target)
+      (sums_named_append (is_must_column must) (other_sums [] site.arguments must.entry)
+      (row_sums (exit_reading must.exit site.results must.outcome)
       target)
-      (others_named must [] args must.entry f.args_allowed (both_terms must must.entry must.well_formed.entry_names f.numbers.entry))
-      (row_sums_named (is_must_column must) allowed (exit_reading must.exit results must.outcome)
-      (behind_named must must.exit results must.outcome (both_terms must must.outcome must.well_formed.outcome_names f.numbers.outcome))
+      (others_named must [] site.arguments must.entry f.args_allowed (both_terms must must.entry must.well_formed.entry_names
+      f.numbers.entry))
+      (row_sums_named (is_must_column must) allowed (exit_reading must.exit site.results must.outcome)
+      (behind_named must must.exit site.results must.outcome (both_terms must must.outcome must.well_formed.outcome_names
+      f.numbers.outcome))
       target
       f.target_allowed)))
 
-  slot_sums_named : (must : Path) (args : List ℕ) (results : List ℕ) (target : List Atom) → NamesAllowed must args target →
-      IsTrue (sums_name_only (is_must_column must) (slot_sums must args (plain_rows must args results target)))
-  slot_sums_named must args results target f =
-      row_sums_named (is_must_column must) (is_must_column must) (renaming (renamed_column (replacing [] args must.entry)))
-      (λ x h. column_named (is_must_column must) (renamed_column (replacing [] args must.entry) x)
-      (renamed_must must args f.args_allowed x h))
-      (plain_rows must args results target) (plain_named must args results target f)
+  slot_sums_named : (must : Path) (site : CallSite) (target : List Atom) → NamesAllowed must site.arguments target →
+      IsTrue (sums_name_only (is_must_column must) (slot_sums must site.arguments (plain_rows must site target)))
+  slot_sums_named must site target f =
+      row_sums_named (is_must_column must) (is_must_column must) (renaming (renamed_column (replacing [] site.arguments must.entry)))
+      (λ x h. column_named (is_must_column must) (renamed_column (replacing [] site.arguments must.entry) x)
+      (renamed_must must site.arguments f.args_allowed x h))
+      (plain_rows must site target) (plain_named must site target f)
 
-  must_rows_named : (must : Path) (args : List ℕ) (results : List ℕ) (target : List Atom) → NamesAllowed must args target →
-      IsTrue (rows_name_only (is_must_column must) (must_rows must args results target))
-  must_rows_named must args results target f = rows_named (is_must_column must) (slot_sums must args (plain_rows must args results target))
-      (slot_sums_named must args results target f)
+  must_rows_named : (must : Path) (site : CallSite) (target : List Atom) → NamesAllowed must site.arguments target →
+      IsTrue (rows_name_only (is_must_column must) (must_rows must site target))
+  must_rows_named must site target f = rows_named (is_must_column must) (slot_sums must site.arguments (plain_rows must site target))
+      (slot_sums_named must site target f)
 
-  pub must_rows_terms : (must : Path) (args : List ℕ) (results : List ℕ) (target : List Atom) → NamesAllowed must args target →
-      first_wide (slot_sums must args (plain_rows must args results target)) ≡ None →
-      IsTrue (are_terms (must_rows must args results target))
-  must_rows_terms must args results target f e =
-      sums_are_terms (slot_sums must args (plain_rows must args results target))
+  pub must_rows_terms : (must : Path) (site : CallSite) (target : List Atom) → NamesAllowed must site.arguments target →
+      first_wide (slot_sums must site.arguments (plain_rows must site target)) ≡ None →
+      IsTrue (are_terms (must_rows must site target))
+  must_rows_terms must site target f e =
+      sums_are_terms (slot_sums must site.arguments (plain_rows must site target))
       (sums_wider (is_must_column must) is_number (must_number must)
-      (slot_sums must args (plain_rows must args results target)) (slot_sums_named must args results target f)) e
+      (slot_sums must site.arguments (plain_rows must site target)) (slot_sums_named must site target f)) e
 
   -- what is left of the rows
-  fits_allowed : (must : Path) (args : List ℕ) (results : List ℕ) (target rows : List Atom) (pair : Pair) → NamesAllowed must args target →
-      IsPreimageAnswer must args results target rows pair →
-      FitsProjection (symbol_columns (must_rows must args results target)) (must_rows must args results target)
-  fits_allowed must args results target rows pair f answer = kind_fits (λ x. nat_le first_symbol x) (must_rows must args results target)
-      (must_rows_terms must args results target f answer.decided)
+  fits_allowed : (must : Path) (site : CallSite) (target rows : List Atom) (pair : Pair) → NamesAllowed must site.arguments target →
+      IsPreimageAnswer must site target rows pair →
+      FitsProjection (symbol_columns (must_rows must site target)) (must_rows must site target)
+  fits_allowed must site target rows pair f answer = kind_fits (λ x. nat_le first_symbol x) (must_rows must site target)
+      (must_rows_terms must site target f answer.decided)
 
   -- the preimage names no other columns
-  pub preimage_names : (must : Path) (args : List ℕ) (results : List ℕ) (target rows : List Atom) (pair : Pair) →
-      NamesAllowed must args target → must_preimage must args results target ≡ gives rows pair → IsTrue (rows_name_only allowed rows)
-  preimage_names must args results target rows pair f is =
-      let answer = must_answer must args results target rows pair is in
+  pub preimage_names : (must : Path) (site : CallSite) (target rows : List Atom) (pair : Pair) →
+      NamesAllowed must site.arguments target → must_preimage must site target ≡ gives rows pair → IsTrue (rows_name_only allowed rows)
+  preimage_names must site target rows pair f is =
+      let answer = must_answer must site target rows pair is in
       rows_wider (λ x. is_must_column must x && not (nat_le first_symbol x)) allowed (allowed_left must) rows
-      (left_names (λ x. nat_le first_symbol x) (is_must_column must) (must_rows must args results target) rows pair
-      (fits_allowed must args results target rows pair f answer) answer.was (must_rows_named must args results target f))
+      (left_names (λ x. nat_le first_symbol x) (is_must_column must) (must_rows must site target) rows pair
+      (fits_allowed must site target rows pair f answer) answer.was (must_rows_named must site target f))

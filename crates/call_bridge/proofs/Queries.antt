@@ -14,6 +14,7 @@ use Rattle.shadow_elim.specs.Sums.{first_wide, row_sums, rows_of_sums, renaming,
 use Rattle.shadow_elim.specs.Projection.{gives, projected, then_summed}
 use Rattle.shadow_elim.specs.ProjectionLaws.{Pair}
 use Rattle.shadow_elim.proofs.Projecting.{unless-none, then-made, or-cases}
+use Rattle.flow_graph.specs.Calls.{CallSite}
 use Rattle.flow_graph.specs.Columns.{first_entry, first_exit, is_among, is_slot_column, is_entry_column, names_only, rows_name_only}
 use Rattle.summary_form.specs.declared.query.ExitKind.{ExitKind}
 use Rattle.summary_form.specs.declared.query.ExitKind.TheVariants as kind
@@ -28,20 +29,20 @@ use Rattle.call_bridge.proofs.Naming.{sums_name_only, sums_named_append, row_sum
 
 -- What the answer says
 
-pub record IsAnswer (exit : ExitKind) (args : List ℕ) (results : List ℕ) (source target rows : List Atom) (pair : Pair) : Type 0 where
-  pub decided : first_wide (call_sums exit args results source target) ≡ None
+pub record IsAnswer (exit : ExitKind) (site : CallSite) (source target rows : List Atom) (pair : Pair) : Type 0 where
+  pub decided : first_wide (call_sums exit site source target) ≡ None
   pub left : List Atom
-  pub was : projected (caller_columns (call_rows exit args results source target)) (call_rows exit args results source target)
+  pub was : projected (caller_columns (call_rows exit site source target)) (call_rows exit site source target)
       ≡ gives left pair
   pub renamed : first_wide (row_sums (renaming as_entry) left) ≡ None
   pub made : rows ≡ rows_of_sums (row_sums (renaming as_entry) left)
 
-pub answer_is : (exit : ExitKind) (args : List ℕ) (results : List ℕ) (source target rows : List Atom) (pair : Pair) →
-    asked exit args results source
-    target ≡ gives rows pair → IsAnswer exit args results source target rows pair
-answer_is exit args results source target rows pair e =
-    let all : List Atom = call_rows exit args results source target in
-    let u = unless-none (first_wide (call_sums exit args results source target)) (then_summed (row_sums (renaming as_entry))
+pub answer_is : (exit : ExitKind) (site : CallSite) (source target rows : List Atom) (pair : Pair) →
+    asked exit site source
+    target ≡ gives rows pair → IsAnswer exit site source target rows pair
+answer_is exit site source target rows pair e =
+    let all : List Atom = call_rows exit site source target in
+    let u = unless-none (first_wide (call_sums exit site source target)) (then_summed (row_sums (renaming as_entry))
     (projected (caller_columns all) all)) rows pair e in
     let m = then-made (row_sums (renaming as_entry)) (projected (caller_columns all) all) rows pair u.1 in
     record { decided = u.0; left = m.left; was = m.is; renamed = m.decided; made = m.made }
@@ -97,14 +98,16 @@ argument_cases i (a ∷ some) x = by_test (x == a) (argument_cases (i + 1) some 
   by_test false (inl e) = inl e
   by_test false (inr r) = inr (suc r.0, omega (arith, r.1), omega (arith, r.2))
 
-renamed_named : (exit : ExitKind) (args results : List ℕ) (x : ℕ) → IsTrue (is_call_column exit (length args) (length results) x) → IsTrue
-    (is_call_column exit (length args) (length results) (renamed_column (argument_columns 0 args) x))
-renamed_named exit args results x h =
-    ⊎_elim (λ e. subst (λ y. IsTrue (is_call_column exit (length args) (length results) y)) (sym e) h)
-    (λ r. let n : renamed_column (argument_columns 0 args) x ≡ first_argument + r.0 = omega (arith, r.2) in
-    subst (λ y. IsTrue (is_call_column exit (length args) (length results) y)) (sym n) (argument_is exit (length args) (length results) r.0
+renamed_named : (exit : ExitKind) (site : CallSite) (x : ℕ) → IsTrue (is_call_column exit (length site.arguments) (length site.results) x) →
+    IsTrue
+    (is_call_column exit (length site.arguments) (length site.results) (renamed_column (argument_columns 0 site.arguments) x))
+renamed_named exit site x h =
+    ⊎_elim (λ e. subst (λ y. IsTrue (is_call_column exit (length site.arguments) (length site.results) y)) (sym e) h)
+    (λ r. let n : renamed_column (argument_columns 0 site.arguments) x ≡ first_argument + r.0 = omega (arith, r.2) in
+    subst (λ y. IsTrue (is_call_column exit (length site.arguments) (length site.results) y)) (sym n)
+    (argument_is exit (length site.arguments) (length site.results) r.0
     r.1))
-    (argument_cases 0 args x)
+    (argument_cases 0 site.arguments x)
 
 inner_named : (exit : ExitKind) (count exits x : ℕ) → IsTrue (inner_column x) → IsTrue (is_call_column exit count exits x)
 inner_named exit count exits x h = either_in (inner_column x) (is_exit_of exit exits x || is_among first_argument count x) (inl h)
@@ -142,52 +145,57 @@ behind_named (kind.Fail id) count results x h = inner_named (kind.Fail id) count
 pub slot_inner : (a : ℕ) → a < first_entry → IsTrue (inner_column a)
 slot_inner a h = either_in (is_slot_column a) (is_entry_column first_entry a) (inl (lt-ltb a first_entry h))
 
-places_named : (exit : ExitKind) (args results : List ℕ) (i : ℕ) (some : List ℕ) → i + length some ≡ length args →
+places_named : (exit : ExitKind) (site : CallSite) (i : ℕ) (some : List ℕ) → i + length some ≡ length site.arguments →
     ((j a : ℕ) → slice_get some j ≡ Some a → a < first_entry) → IsTrue
-    (sums_name_only (is_call_column exit (length args) (length results)) (place_sums (argument_columns 0 args) i some))
-places_named exit args results i [] n k = refl
-places_named exit args results i (a ∷ some) n k =
-    sums_named_append (is_call_column exit (length args) (length results)) (if renamed_column (argument_columns 0 args) a == first_argument
+    (sums_name_only (is_call_column exit (length site.arguments) (length site.results)) (place_sums (argument_columns 0 site.arguments) i
+    some))
+places_named exit site i [] n k = refl
+places_named exit site i (a ∷ some) n k =
+    sums_named_append (is_call_column exit (length site.arguments) (length site.results))
+    (if renamed_column (argument_columns 0 site.arguments) a == first_argument
     + i then []
-    else equal_sums (column_sum (first_argument + i)) (column_sum (renamed_column (argument_columns 0 args) a)))
-    (place_sums (argument_columns 0 args) (i + 1) some) (by_test (renamed_column (argument_columns 0 args) a == first_argument + i))
-    (places_named exit args results (i + 1) some (omega (arith, n)) (λ j b e. k (suc j) b e)) where
-      by_test : (b : Bool) → IsTrue (sums_name_only (is_call_column exit (length args) (length results)) (if b then [] else equal_sums
-          (column_sum (first_argument + i)) (column_sum (renamed_column (argument_columns 0 args) a))))
+    else equal_sums (column_sum (first_argument + i)) (column_sum (renamed_column (argument_columns 0 site.arguments) a)))
+    (place_sums (argument_columns 0 site.arguments) (i + 1) some)
+    (by_test (renamed_column (argument_columns 0 site.arguments) a == first_argument + i))
+    (places_named exit site (i + 1) some (omega (arith, n)) (λ j b e. k (suc j) b e)) where
+      by_test : (b : Bool) → IsTrue (sums_name_only (is_call_column exit (length site.arguments) (length site.results))
+          (if b then [] else equal_sums
+          (column_sum (first_argument + i)) (column_sum (renamed_column (argument_columns 0 site.arguments) a))))
       by_test true = refl
       by_test false =
-          equal_named (is_call_column exit (length args) (length results)) (column_sum (first_argument + i))
-          (column_sum (renamed_column (argument_columns 0 args) a)) (column_named (is_call_column exit (length args) (length results))
+          equal_named (is_call_column exit (length site.arguments) (length site.results)) (column_sum (first_argument + i))
+          (column_sum (renamed_column (argument_columns 0 site.arguments) a))
+          (column_named (is_call_column exit (length site.arguments) (length site.results))
           (first_argument + i)
-          (argument_is exit (length args) (length results) i (omega (arith, n)))) (column_named
-          (is_call_column exit (length args) (length results))
-          (renamed_column (argument_columns 0 args) a) (renamed_named exit args results a
-          (inner_named exit (length args) (length results) a (slot_inner a (k 0 a refl)))))
+          (argument_is exit (length site.arguments) (length site.results) i (omega (arith, n)))) (column_named
+          (is_call_column exit (length site.arguments) (length site.results))
+          (renamed_column (argument_columns 0 site.arguments) a) (renamed_named exit site a
+          (inner_named exit (length site.arguments) (length site.results) a (slot_inner a (k 0 a refl)))))
 
-call_sums_named : (exit : ExitKind) (args : List ℕ) (results : List ℕ) (source target : List Atom) → FitsCall args results source target →
+call_sums_named : (exit : ExitKind) (site : CallSite) (source target : List Atom) → FitsCall site source target →
     IsTrue
-    (sums_name_only (is_call_column exit (length args) (length results)) (call_sums exit args results source target))
-call_sums_named exit args results source target f =
-    let by : ℕ → ℕ = renamed_column (argument_columns 0 args) in
-    let ok : ℕ → Bool = is_call_column exit (length args) (length results) in
-    let places : List Sum = place_sums (argument_columns 0 args) 0 args in
-    sums_named_append ok (row_sums (renaming by) source) (row_sums (renaming (λ x. by (exit_column exit results x))) target ++ places)
+    (sums_name_only (is_call_column exit (length site.arguments) (length site.results)) (call_sums exit site source target))
+call_sums_named exit site source target f =
+    let by : ℕ → ℕ = renamed_column (argument_columns 0 site.arguments) in
+    let ok : ℕ → Bool = is_call_column exit (length site.arguments) (length site.results) in
+    let places : List Sum = place_sums (argument_columns 0 site.arguments) 0 site.arguments in
+    sums_named_append ok (row_sums (renaming by) source) (row_sums (renaming (λ x. by (exit_column exit site.results x))) target ++ places)
     (row_sums_named ok inner_column (renaming by)
-    (λ x h. column_named ok (by x) (renamed_named exit args results x (inner_named exit (length args) (length results) x h))) source
+    (λ x h. column_named ok (by x) (renamed_named exit site x (inner_named exit (length site.arguments) (length site.results) x h))) source
     f.source_names)
-    (sums_named_append ok (row_sums (renaming (λ x. by (exit_column exit results x))) target) places
-    (row_sums_named ok inner_column (renaming (λ x. by (exit_column exit results x)))
-    (λ x h. column_named ok (by (exit_column exit results x)) (renamed_named exit args results (exit_column exit results x)
-    (behind_named exit (length args) results x h))) target f.target_names)
-    (places_named exit args results 0 args (omega arith) f.are_slots))
+    (sums_named_append ok (row_sums (renaming (λ x. by (exit_column exit site.results x))) target) places
+    (row_sums_named ok inner_column (renaming (λ x. by (exit_column exit site.results x)))
+    (λ x h. column_named ok (by (exit_column exit site.results x)) (renamed_named exit site (exit_column exit site.results x)
+    (behind_named exit (length site.arguments) site.results x h))) target f.target_names)
+    (places_named exit site 0 site.arguments (omega arith) f.are_slots))
 
-pub call_rows_named : (exit : ExitKind) (args : List ℕ) (results : List ℕ) (source target : List Atom) → FitsCall args results source
+pub call_rows_named : (exit : ExitKind) (site : CallSite) (source target : List Atom) → FitsCall site source
     target →
     IsTrue
-    (rows_name_only (is_call_column exit (length args) (length results)) (call_rows exit args results source target))
-call_rows_named exit args results source target f =
-    rows_named (is_call_column exit (length args) (length results)) (call_sums exit args results source target)
-    (call_sums_named exit args results source target f)
+    (rows_name_only (is_call_column exit (length site.arguments) (length site.results)) (call_rows exit site source target))
+call_rows_named exit site source target f =
+    rows_named (is_call_column exit (length site.arguments) (length site.results)) (call_sums exit site source target)
+    (call_sums_named exit site source target f)
 
 call_number : (exit : ExitKind) (count exits x : ℕ) → count < first_entry + 1 → exits < first_entry + 1 →
     IsTrue (is_call_column exit count exits x) → IsTrue (is_number x)
@@ -200,13 +208,14 @@ call_number exit count exits x few few_exits h =
       by_exit kind.Return m = let l = among_out first_exit exits x m in omega (arith, l.1, few_exits)
       by_exit (kind.Fail id) m = absurd cc
 
-pub call_rows_terms : (exit : ExitKind) (args : List ℕ) (results : List ℕ) (source target : List Atom) → FitsCall args results source
+pub call_rows_terms : (exit : ExitKind) (site : CallSite) (source target : List Atom) → FitsCall site source
     target →
-    first_wide (call_sums exit args results source target) ≡ None → IsTrue (are_terms (call_rows exit args results source target))
-call_rows_terms exit args results source target f e =
-    sums_are_terms (call_sums exit args results source target) (sums_wider (is_call_column exit (length args) (length results)) is_number
-    (λ x h. call_number exit (length args) (length results) x f.few f.few_results h) (call_sums exit args results source target)
-    (call_sums_named exit args results source target f)) e
+    first_wide (call_sums exit site source target) ≡ None → IsTrue (are_terms (call_rows exit site source target))
+call_rows_terms exit site source target f e =
+    sums_are_terms (call_sums exit site source target) (sums_wider (is_call_column exit (length site.arguments) (length site.results))
+    is_number
+    (λ x h. call_number exit (length site.arguments) (length site.results) x f.few f.few_results h) (call_sums exit site source target)
+    (call_sums_named exit site source target f)) e
 
 -- The query
 
@@ -320,47 +329,48 @@ filter_terms p (a ∷ rows) h =
       by_test true n k = both_in (is_term a.term) (are_terms (filter p rows)) n k
       by_test false n k = k
 
-pub asked_fits : (proc : ℕ) (exit : ExitKind) (args : List ℕ) (results : List ℕ) (source target rows : List Atom) (pair : Pair) →
-    FitsCall args results source target → asked exit args results source target ≡ gives rows pair →
-    Fits proc (arity (length args) (length results))
+pub asked_fits : (proc : ℕ) (exit : ExitKind) (site : CallSite) (source target rows : List Atom) (pair : Pair) →
+    FitsCall site source target → asked exit site source target ≡ gives rows pair →
+    Fits proc (arity (length site.arguments) (length site.results))
     (query_of proc exit rows)
-asked_fits proc exit args results source target rows pair f e = record {
+asked_fits proc exit site source target rows pair f e = record {
   of_procedure = refl;
-  start_names = start_names exit (length args) (length results) rows f.few named;
-  end_names = filter_names (is_end_column (arity (length args) (length results)) exit) names_exit rows named;
+  start_names = start_names exit (length site.arguments) (length site.results) rows f.few named;
+  end_names = filter_names (is_end_column (arity (length site.arguments) (length site.results)) exit) names_exit rows named;
   start_terms = filter_terms (λ a. not (names_exit a)) rows terms;
   end_terms = filter_terms names_exit rows terms;
 }
   where
-    answer : IsAnswer exit args results source target rows pair
-    answer = answer_is exit args results source target rows pair e
+    answer : IsAnswer exit site source target rows pair
+    answer = answer_is exit site source target rows pair e
 
-    left_named : IsTrue (rows_name_only (is_asked_column exit (length args) (length results)) answer.left)
-    left_named = left_names (λ x. nat_lt x first_exit) (is_call_column exit (length args) (length results))
-        (call_rows exit args results source target)
+    left_named : IsTrue (rows_name_only (is_asked_column exit (length site.arguments) (length site.results)) answer.left)
+    left_named = left_names (λ x. nat_lt x first_exit) (is_call_column exit (length site.arguments) (length site.results))
+        (call_rows exit site source target)
         answer.left
-        pair (kind_fits (λ x. nat_lt x first_exit) (call_rows exit args results source target)
-        (call_rows_terms exit args results source target f
-        answer.decided)) answer.was (call_rows_named exit args results source target f)
+        pair (kind_fits (λ x. nat_lt x first_exit) (call_rows exit site source target)
+        (call_rows_terms exit site source target f
+        answer.decided)) answer.was (call_rows_named exit site source target f)
 
-    sums_named : IsTrue (sums_name_only (is_end_column (arity (length args) (length results)) exit)
+    sums_named : IsTrue (sums_name_only (is_end_column (arity (length site.arguments) (length site.results)) exit)
         (row_sums (renaming as_entry) answer.left))
-    sums_named = row_sums_named (is_end_column (arity (length args) (length results)) exit)
-        (is_asked_column exit (length args) (length results))
+    sums_named = row_sums_named (is_end_column (arity (length site.arguments) (length site.results)) exit)
+        (is_asked_column exit (length site.arguments) (length site.results))
         (renaming as_entry)
-        (λ x h. column_named (is_end_column (arity (length args) (length results)) exit) (as_entry x)
-        (asked_end exit (length args) (length results) x f.few_results h)) answer.left
+        (λ x h. column_named (is_end_column (arity (length site.arguments) (length site.results)) exit) (as_entry x)
+        (asked_end exit (length site.arguments) (length site.results) x f.few_results h)) answer.left
         left_named
 
-    named : IsTrue (rows_name_only (is_end_column (arity (length args) (length results)) exit) rows)
-    named = subst (λ (l : List Atom). IsTrue (rows_name_only (is_end_column (arity (length args) (length results)) exit) l))
+    named : IsTrue (rows_name_only (is_end_column (arity (length site.arguments) (length site.results)) exit) rows)
+    named = subst (λ (l : List Atom). IsTrue (rows_name_only (is_end_column (arity (length site.arguments) (length site.results)) exit) l))
         (sym answer.made)
-        (rows_named (is_end_column (arity (length args) (length results)) exit) (row_sums (renaming as_entry) answer.left) sums_named)
+        (rows_named (is_end_column (arity (length site.arguments) (length site.results)) exit) (row_sums (renaming as_entry) answer.left)
+        sums_named)
 
     terms : IsTrue (are_terms rows)
     terms = subst (λ (l : List Atom). IsTrue (are_terms l)) (sym answer.made) (sums_are_terms (row_sums (renaming as_entry) answer.left)
-        (sums_wider (is_end_column (arity (length args) (length results)) exit) is_number
-        (λ x h. end_number exit (length args) (length results) x f.few f.few_results h)
+        (sums_wider (is_end_column (arity (length site.arguments) (length site.results)) exit) is_number
+        (λ x h. end_number exit (length site.arguments) (length site.results) x f.few f.few_results h)
         (row_sums (renaming as_entry) answer.left) sums_named) answer.renamed)
 
 -- The answer of the call

@@ -7,6 +7,7 @@ use Rattle.linear_formula.specs.Replaced.{column_sum}
 use Rattle.linear_formula.specs.Formula.{HoldsAll}
 use Rattle.linear_formula.specs.declared.formula.Atom.{Atom}
 use Rattle.infeasible_cert.specs.Right.{columns_of as named_columns, rows_of}
+use Rattle.flow_graph.specs.Calls.{CallSite}
 use Rattle.flow_graph.specs.Columns.{first_exit, first_entry, first_asked, columns_of, valuation_of, rows_name_only, AreValues, AreAllValues}
 use Rattle.summary_form.specs.declared.query.Query.{Query}
 use Rattle.summary_form.specs.declared.query.ExitKind.{ExitKind}
@@ -47,15 +48,15 @@ exit_columns (kind.Fail id) results = []
 abbrev pub exit_column : ExitKind → (results : List ℕ) → ℕ → ℕ
 exit_column exit results x = renamed_column (exit_columns exit results) x
 
-abbrev pub call_sums : ExitKind → (args results : List ℕ) → (source target : List Atom) → List Sum
-call_sums exit args results source target =
-    row_sums (renaming (renamed_column (argument_columns 0 args))) source
-    ++ (row_sums (renaming (λ x. renamed_column (argument_columns 0 args)
-    (exit_column exit results x)))
-    target ++ place_sums (argument_columns 0 args) 0 args)
+abbrev pub call_sums : ExitKind → CallSite → (source target : List Atom) → List Sum
+call_sums exit site source target =
+    row_sums (renaming (renamed_column (argument_columns 0 site.arguments))) source
+    ++ (row_sums (renaming (λ x. renamed_column (argument_columns 0 site.arguments)
+    (exit_column exit site.results x)))
+    target ++ place_sums (argument_columns 0 site.arguments) 0 site.arguments)
 
-abbrev pub call_rows : ExitKind → (args results : List ℕ) → (source target : List Atom) → List Atom
-call_rows exit args results source target = rows_of_sums (call_sums exit args results source target)
+abbrev pub call_rows : ExitKind → CallSite → (source target : List Atom) → List Atom
+call_rows exit site source target = rows_of_sums (call_sums exit site source target)
 
 -- the caller's columns that the rows name
 abbrev pub caller_columns : List Atom → List ℕ
@@ -69,9 +70,9 @@ abbrev pub names_exit : Atom → Bool
 names_exit a = list_any (λ p. nat_le first_exit p.0) a.term.parts
 
 -- the rows of the query, with the first inexact pair
-abbrev pub asked : ExitKind → (args results : List ℕ) → (source target : List Atom) → Projected
-asked exit args results source target =
-    summed (call_sums exit args results source target)
+abbrev pub asked : ExitKind → CallSite → (source target : List Atom) → Projected
+asked exit site source target =
+    summed (call_sums exit site source target)
     (λ rows. then_summed (row_sums (renaming as_entry)) (projected (caller_columns rows) rows))
 
 -- the atoms without an exit value, and the others
@@ -91,38 +92,38 @@ query_of proc exit rows = record {
 }
 
 -- the arguments and the results are slots, and the cubes name slots and entry values
-pub record FitsCall (args results : List ℕ) (source target : List Atom) : Type 0 where
-  pub are_slots : (j a : ℕ) → slice_get args j ≡ Some a → a < first_entry
-  pub results_low : (j a : ℕ) → slice_get results j ≡ Some a → a < first_entry
-  pub few : length args < first_entry + 1
-  pub few_results : length results < first_entry + 1
+pub record FitsCall (site : CallSite) (source target : List Atom) : Type 0 where
+  pub are_slots : (j a : ℕ) → slice_get site.arguments j ≡ Some a → a < first_entry
+  pub results_low : (j a : ℕ) → slice_get site.results j ≡ Some a → a < first_entry
+  pub few : length site.arguments < first_entry + 1
+  pub few_results : length site.results < first_entry + 1
   pub source_names : IsTrue (rows_name_only inner_column source)
   pub target_names : IsTrue (rows_name_only inner_column target)
 
 -- every call from the source into the target meets the rows
-abbrev pub HoldsCalls : ExitKind → (args results : List ℕ) → (source target rows : List Atom) →
+abbrev pub HoldsCalls : ExitKind → CallSite → (source target rows : List Atom) →
     Type 0
-HoldsCalls exit args results source target rows =
+HoldsCalls exit site source target rows =
     (s : State) (entry values : List ℤ) → AreValues s → AreAllValues entry → AreAllValues values →
-    HoldsAll (columns_of s entry []) source → LiesBehind exit results s entry values target →
-    HoldsAll (valuation_of (map s args) values) rows
+    HoldsAll (columns_of s entry []) source → LiesBehind exit site.results s entry values target →
+    HoldsAll (valuation_of (map s site.arguments) values) rows
 
 -- entry and exit values are those of a call from the source into the target
-pub record IsCalled (exit : ExitKind) (args results : List ℕ) (source target : List Atom)
+pub record IsCalled (exit : ExitKind) (site : CallSite) (source target : List Atom)
     (called values : List ℤ) : Type 0 where
   pub state : State
   pub entry : List ℤ
   pub are_values : AreValues state
   pub entry_values : AreAllValues entry
-  pub passes : map state args ≡ called
+  pub passes : map state site.arguments ≡ called
   pub from : HoldsAll (columns_of state entry []) source
-  pub into : LiesBehind exit results state entry values target
+  pub into : LiesBehind exit site.results state entry values target
 
 -- all values that meet the rows are those of such a call
-abbrev pub HoldsNoOtherCall : ExitKind → (args results : List ℕ) →
+abbrev pub HoldsNoOtherCall : ExitKind → CallSite →
     (source target rows : List Atom) →
     Type 0
-HoldsNoOtherCall exit args results source target rows =
+HoldsNoOtherCall exit site source target rows =
     (called values : List ℤ) → AreAllValues called → AreAllValues values → length called
-    ≡ length args → HoldsAll (valuation_of called values) rows → IsCalled exit args results source
+    ≡ length site.arguments → HoldsAll (valuation_of called values) rows → IsCalled exit site source
     target called values

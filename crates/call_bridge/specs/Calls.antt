@@ -1,27 +1,12 @@
--- What a call is, and what it meets.
+-- What a call meets.
 use Rattle.std.specs.Prelude.{ℕ, Bool, ◌||◌, List, [], ℤ}
 use Rattle.c_tree.specs.Meaning.{State}
 use Rattle.linear_formula.specs.Formula.{HoldsAll}
 use Rattle.linear_formula.specs.declared.formula.Atom.{Atom}
-use Rattle.flow_graph.specs.declared.graph.Edge.{Edge}
-use Rattle.flow_graph.specs.declared.graph.Edge.TheVariants.{Call}
 use Rattle.flow_graph.specs.Runs.{with_slots}
 use Rattle.flow_graph.specs.Columns.{columns_of, is_slot_column, is_entry_column, first_entry}
 use Rattle.summary_form.specs.declared.query.ExitKind.{ExitKind}
 use Rattle.summary_form.specs.declared.query.ExitKind.TheVariants as kind
-
--- the called procedure, the slots of the arguments, and those that get what is returned
-abbrev pub procedure : Edge → ℕ
-procedure (Call from to proc args results) = proc
-procedure _ = 0
-
-abbrev pub arguments : Edge → List ℕ
-arguments (Call from to proc args results) = args
-arguments _ = []
-
-abbrev pub results_of : Edge → List ℕ
-results_of (Call from to proc args results) = results
-results_of _ = []
 
 -- the place behind the call meets the rows: with its slots set, or as it failed
 abbrev pub LiesBehind : ExitKind → (results : List ℕ) → State → (entry values : List ℤ) →

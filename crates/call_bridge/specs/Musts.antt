@@ -8,6 +8,7 @@ use Rattle.linear_formula.specs.Formula.{HoldsAll, is_renamed}
 use Rattle.linear_formula.specs.Replaced.{column_sum}
 use Rattle.linear_formula.specs.declared.formula.Atom.{Atom}
 use Rattle.infeasible_cert.specs.Right.{columns_of as named_columns, rows_of}
+use Rattle.flow_graph.specs.Calls.{CallSite}
 use Rattle.flow_graph.specs.Columns.{first_symbol, first_entry, columns_of, rows_name_only, AreValues, AreAllValues}
 use Rattle.flow_graph.specs.Readings.{results_reading}
 use Rattle.summary_form.specs.declared.path.Path.{Path}
@@ -60,21 +61,21 @@ abbrev pub exit_reading : ExitKind → (results : List ℕ) → List LinearSum �
 exit_reading kind.Return results outcome = results_reading results outcome
 exit_reading (kind.Fail id) results outcome = column_sum
 
-abbrev pub must_sums : Path → (args results : List ℕ) → List Atom → List Sum
-must_sums must args results target = other_sums [] args must.entry
-    ++ row_sums (exit_reading must.exit results must.outcome) target
+abbrev pub must_sums : Path → CallSite → List Atom → List Sum
+must_sums must site target = other_sums [] site.arguments must.entry
+    ++ row_sums (exit_reading must.exit site.results must.outcome) target
 
 -- the rows before symbols are replaced
-abbrev pub plain_rows : Path → (args results : List ℕ) → List Atom → List Atom
-plain_rows must args results target = must.guard.atoms ++ rows_of_sums
-    (must_sums must args results target)
+abbrev pub plain_rows : Path → CallSite → List Atom → List Atom
+plain_rows must site target = must.guard.atoms ++ rows_of_sums
+    (must_sums must site target)
 
 abbrev pub slot_sums : Path → List ℕ → List Atom → List Sum
 slot_sums must args rows = row_sums (renaming (renamed_column (replacing [] args must.entry))) rows
 
-abbrev pub must_rows : Path → (args results : List ℕ) → List Atom → List Atom
-must_rows must args results target = rows_of_sums
-    (slot_sums must args (plain_rows must args results target))
+abbrev pub must_rows : Path → CallSite → List Atom → List Atom
+must_rows must site target = rows_of_sums
+    (slot_sums must site.arguments (plain_rows must site target))
 
 abbrev pub symbol_columns : List Atom → List ℕ
 symbol_columns rows = filter (λ x. nat_le first_symbol x) (named_columns (rows_of rows))
@@ -85,19 +86,19 @@ slotted columns plain = summed (row_sums (renaming (renamed_column columns)) pla
     (λ rows. projected (symbol_columns rows) rows)
 
 -- the rows with the first inexact pair
-abbrev pub must_preimage : Path → (args results : List ℕ) → List Atom → Projected
-must_preimage must args results target =
-    summed (must_sums must args results target) (λ others. slotted (replacing [] args must.entry)
+abbrev pub must_preimage : Path → CallSite → List Atom → Projected
+must_preimage must site target =
+    summed (must_sums must site target) (λ others. slotted (replacing [] site.arguments must.entry)
     (must.guard.atoms ++ others))
 
 -- some run that the must gives leads from the state into the target
-pub record Leads (must : Path) (args results : List ℕ) (target : List Atom) (s : State)
+pub record Leads (must : Path) (site : CallSite) (target : List Atom) (s : State)
     (entry : List ℤ) : Type 0 where
   pub symbols : Valuation
   pub bits : Is64 symbols
   pub guard : HoldsAll symbols must.guard.atoms
-  pub passes : values_of symbols must.entry ≡ map s args
-  pub into : LiesBehind must.exit results s entry (values_of symbols must.outcome) target
+  pub passes : values_of symbols must.entry ≡ map s site.arguments
+  pub into : LiesBehind must.exit site.results s entry (values_of symbols must.outcome) target
 
 -- a number of 32 bits
 abbrev pub is_number : ℕ → Bool
@@ -111,24 +112,24 @@ pub record NamesNumbers (must : Path) : Type 0 where
 
 -- the arguments and the results are slots, there is an entry term for each argument, and the target
 -- names slots and entry values
-pub record FitsTarget (must : Path) (args results : List ℕ) (target : List Atom) : Type 0 where
-  pub are_slots : (j a : ℕ) → slice_get args j ≡ Some a → a < first_entry
-  pub results_low : (j a : ℕ) → slice_get results j ≡ Some a → a < first_entry
-  pub many : length must.entry ≡ length args
+pub record FitsTarget (must : Path) (site : CallSite) (target : List Atom) : Type 0 where
+  pub are_slots : (j a : ℕ) → slice_get site.arguments j ≡ Some a → a < first_entry
+  pub results_low : (j a : ℕ) → slice_get site.results j ≡ Some a → a < first_entry
+  pub many : length must.entry ≡ length site.arguments
   pub names : IsTrue (rows_name_only inner_column target)
 
 -- and the must names columns that terms can name
-pub record FitsMust (must : Path) (args results : List ℕ) (target : List Atom) : Type 0 where
-  pub behind : FitsTarget must args results target
+pub record FitsMust (must : Path) (site : CallSite) (target : List Atom) : Type 0 where
+  pub behind : FitsTarget must site target
   pub numbers : NamesNumbers must
 
-abbrev pub HoldsMust : Path → (args results : List ℕ) → (target rows : List Atom) → Type 0
-HoldsMust must args results target rows =
-    (s : State) (entry : List ℤ) → AreValues s → AreAllValues entry → Leads must args results target
+abbrev pub HoldsMust : Path → CallSite → (target rows : List Atom) → Type 0
+HoldsMust must site target rows =
+    (s : State) (entry : List ℤ) → AreValues s → AreAllValues entry → Leads must site target
     s
     entry → HoldsAll (columns_of s entry []) rows
 
-abbrev pub HoldsNoOtherMust : Path → (args results : List ℕ) → (target rows : List Atom) → Type 0
-HoldsNoOtherMust must args results target rows =
+abbrev pub HoldsNoOtherMust : Path → CallSite → (target rows : List Atom) → Type 0
+HoldsNoOtherMust must site target rows =
     (s : State) (entry : List ℤ) → AreValues s → AreAllValues entry →
-    HoldsAll (columns_of s entry []) rows → Leads must args results target s entry
+    HoldsAll (columns_of s entry []) rows → Leads must site target s entry

@@ -3,6 +3,7 @@
 ghost use Rattle.std.specs.Prelude.{◌≡◌, ◌++◌, ◌+◌, ◌==◌, [], length, true, None, if◌then◌else◌, IfOk, IfErr, OnOk};
 ghost use Rattle.linear_formula.specs.Replaced.{column_sum};
 ghost use Rattle.linear_formula.specs.Results.{renamed_column};
+ghost use Rattle.flow_graph.specs.Calls.{call_site};
 ghost use Rattle.flow_graph.specs.Columns.{first_exit};
 ghost use Rattle.flow_graph.specs.Shapes.{is_call};
 ghost use Rattle.shadow_elim.specs.Projection.{gives, refuses, projected, then_summed, IfRefused};
@@ -11,12 +12,12 @@ ghost use Rattle.shadow_elim.specs.Shadows.{pair_rows};
 ghost use Rattle.shadow_elim.specs.Sums.{equal_sums, row_sums, renaming};
 ghost use Rattle.summary_form.specs.NotMays.{Fits};
 ghost use Rattle.call_bridge.specs.Asked.{first_argument, argument_columns, result_columns, exit_columns, place_sums, call_sums, as_entry, caller_columns, asked, names_exit, start_of, end_of, query_of, FitsCall, HoldsCalls, HoldsNoOtherCall};
-ghost use Rattle.call_bridge.specs.Calls.{procedure, arguments, results_of};
 ghost use Rattle.call_bridge.specs.Asking.{IsAsking, rows_of_query};
 
 use crate::columns::{AsEntry, NewNumbers, below, new_column};
 use crate::error::BridgeError;
 use c_tree::tree::{ProcId, Slot};
+use flow_graph::calls::CallSite;
 use flow_graph::columns::{FIRST_ASKED, FIRST_EXIT};
 use flow_graph::graph::Edge;
 use linear_formula::error::OutOfMemory;
@@ -146,26 +147,25 @@ fn push_places(
 pub(crate) fn call_sums(
     alloc: Global,
     exit: ExitKind,
-    args: &[Slot],
-    results: &[Slot],
+    site: &CallSite,
     source: &Cube,
     target: &Cube,
 ) -> Result<Vec<Sum>, OutOfMemory>
     ensures { IfOk result
-        (λ s. s.items ≡ call_sums exit args.now results.now source.now.atoms target.now.atoms) }
+        (λ s. s.items ≡ call_sums exit site.now source.now.atoms target.now.atoms) }
 {
     let mut sums = Vec::new(alloc);
     let plain = NewNumbers {
         first: Vec::new(alloc),
-        then: argument_columns(alloc, args)?,
+        then: argument_columns(alloc, site.arguments())?,
     };
     push_read(alloc, &mut sums, &plain, source.atoms.as_slice())?;
     let behind = NewNumbers {
-        first: exit_columns(alloc, exit, results)?,
-        then: argument_columns(alloc, args)?,
+        first: exit_columns(alloc, exit, site.results())?,
+        then: argument_columns(alloc, site.arguments())?,
     };
     push_read(alloc, &mut sums, &behind, target.atoms.as_slice())?;
-    push_places(alloc, &mut sums, &behind.then, args)?;
+    push_places(alloc, &mut sums, &behind.then, site.arguments())?;
     Ok(sums)
 }
 
@@ -216,20 +216,19 @@ fn as_entries(alloc: Global, left: Pre) -> Result<Pre, BridgeError>
 fn asked_rows(
     alloc: Global,
     exit: ExitKind,
-    args: &[Slot],
-    results: &[Slot],
+    site: &CallSite,
     source: &Cube,
     target: &Cube,
 ) -> Result<Pre, BridgeError>
     ensures rows { IfOk result
-        (λ p. asked exit args.now results.now source.now.atoms target.now.atoms
+        (λ p. asked exit site.now source.now.atoms target.now.atoms
         ≡ gives p.cube.atoms (pair_rows p.inexact)) }
     ensures limit { IfErr result
-        (λ e. IfRefused e (λ kept. asked exit args.now results.now source.now.atoms target.now.atoms
+        (λ e. IfRefused e (λ kept. asked exit site.now source.now.atoms target.now.atoms
         ≡ refuses kept)) }
     ensures right { IfErr result (λ e. IfRefused e IsRight) }
 {
-    let sums = call_sums(alloc, exit, args, results, source, target)?;
+    let sums = call_sums(alloc, exit, site, source, target)?;
     let rows = total_rows(alloc, &sums)?;
     let left = without_caller(alloc, &rows)?;
     as_entries(alloc, left)
@@ -288,34 +287,18 @@ fn asking_of(
     ensures rows { IfOk result
         (λ a. IsAsking exit call.now source.now.atoms target.now.atoms a) }
     ensures limit { IfErr result
-        (λ e. IfRefused e (λ kept. asked exit (arguments call.now) (results_of call.now)
+        (λ e. IfRefused e (λ kept. asked exit (call_site call.now)
         source.now.atoms target.now.atoms
         ≡ refuses kept)) }
     ensures right { IfErr result (λ e. IfRefused e IsRight) }
 {
-    match call {
-        Edge::Call {
-            proc,
-            args,
-            results,
-            ..
-        } => {
-            let rows = asked_rows(
-                alloc,
-                exit,
-                args.as_slice(),
-                results.as_slice(),
-                source,
-                target,
-            )?;
-            let query = query_of(alloc, *proc, exit, rows.cube)?;
-            Ok(Asking {
-                query,
-                inexact: rows.inexact,
-            })
-        }
-        _ => unreachable!(),
-    }
+    let site = CallSite::of(call);
+    let rows = asked_rows(alloc, exit, &site, source, target)?;
+    let query = query_of(alloc, site.procedure(), exit, rows.cube)?;
+    Ok(Asking {
+        query,
+        inexact: rows.inexact,
+    })
 }
 
 /// The asked query of a call, in which the caller's state is projected away (existentially
@@ -335,22 +318,22 @@ pub fn ask_of(
     ensures rows { IfOk result
         (λ a. IsAsking exit call.now source.now.atoms target.now.atoms a) }
     ensures holds { IfOk result
-        (λ a. FitsCall (arguments call.now) (results_of call.now) source.now.atoms target.now.atoms
-        → HoldsCalls exit (arguments call.now) (results_of call.now) source.now.atoms
+        (λ a. FitsCall (call_site call.now) source.now.atoms target.now.atoms
+        → HoldsCalls exit (call_site call.now) source.now.atoms
         target.now.atoms (rows_of_query a.query)) }
     ensures exact { IfOk result
         (λ a. a.inexact ≡ None →
-        FitsCall (arguments call.now) (results_of call.now) source.now.atoms target.now.atoms →
-        HoldsNoOtherCall exit (arguments call.now) (results_of call.now) source.now.atoms
+        FitsCall (call_site call.now) source.now.atoms target.now.atoms →
+        HoldsNoOtherCall exit (call_site call.now) source.now.atoms
         target.now.atoms (rows_of_query a.query)) }
     ensures fits { IfOk result
-        (λ a. FitsCall (arguments call.now) (results_of call.now) source.now.atoms target.now.atoms
-        → Fits (procedure call.now) (record {
-          entries = length (arguments call.now);
-          exits = length (results_of call.now);
+        (λ a. FitsCall (call_site call.now) source.now.atoms target.now.atoms
+        → Fits (call_site call.now).procedure (record {
+          entries = length (call_site call.now).arguments;
+          exits = length (call_site call.now).results;
         }) a.query) }
     ensures limit { IfErr result
-        (λ e. IfRefused e (λ kept. asked exit (arguments call.now) (results_of call.now)
+        (λ e. IfRefused e (λ kept. asked exit (call_site call.now)
         source.now.atoms target.now.atoms
         ≡ refuses kept)) }
     ensures right { IfErr result (λ e. IfRefused e IsRight) }

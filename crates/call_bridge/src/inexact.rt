@@ -3,19 +3,19 @@
 ghost use Rattle.std.specs.Prelude.{◌≡◌, List, true, None, Some, IfOk};
 ghost use Rattle.linear_formula.specs.declared.formula.Atom.{Atom};
 ghost use Rattle.linear_formula.specs.declared.question.Question.TheVariants as asks;
+ghost use Rattle.flow_graph.specs.Calls.{call_site};
 ghost use Rattle.flow_graph.specs.Shapes.{is_call};
 ghost use Rattle.shadow_elim.specs.Projection.{cube_of, gives, projected};
 ghost use Rattle.shadow_elim.specs.RightLimit.{IsRight};
 ghost use Rattle.shadow_elim.specs.Shadows.{pair_rows};
 ghost use Rattle.shadow_elim.specs.Sums.{first_wide, rows_of_sums};
 ghost use Rattle.call_bridge.specs.Asked.{asked, call_rows, caller_columns};
-ghost use Rattle.call_bridge.specs.Calls.{arguments, results_of};
 ghost use Rattle.call_bridge.specs.Musts.{must_preimage, must_rows, symbol_columns};
 
 use crate::asking::{call_sums, caller_columns};
 use crate::error::BridgeError;
 use crate::musts::{Matching, must_sums, replaced_sums, symbol_columns};
-use c_tree::tree::Slot;
+use flow_graph::calls::CallSite;
 use flow_graph::graph::Edge;
 use linear_formula::error::OutOfMemory;
 use linear_formula::formula::Cube;
@@ -72,21 +72,20 @@ fn inexact_limit(
 fn asking_limit(
     alloc: Global,
     exit: ExitKind,
-    args: &[Slot],
-    results: &[Slot],
+    site: &CallSite,
     source: &Cube,
     target: &Cube,
     pair: &Pair,
 ) -> Result<Kept, OutOfMemory>
     requires { (rows : List Atom)
-        × (asked exit args.now results.now source.now.atoms target.now.atoms
+        × (asked exit site.now source.now.atoms target.now.atoms
         ≡ gives rows (pair_rows (Some pair.now))) }
     ensures right { IfOk result IsRight }
     ensures question { IfOk result (λ kept. kept.question ≡ asks.Eliminate
-        (cube_of (call_rows exit args.now results.now source.now.atoms target.now.atoms))
-        (caller_columns (call_rows exit args.now results.now source.now.atoms target.now.atoms))) }
+        (cube_of (call_rows exit site.now source.now.atoms target.now.atoms))
+        (caller_columns (call_rows exit site.now source.now.atoms target.now.atoms))) }
 {
-    let sums = call_sums(alloc, exit, args, results, source, target)?;
+    let sums = call_sums(alloc, exit, site, source, target)?;
     let rows = narrow_rows(alloc, &sums)?;
     let columns = caller_columns(alloc, &rows)?;
     inexact_limit(alloc, rows, columns, pair)
@@ -96,20 +95,19 @@ fn asking_limit(
 fn preimage_limit(
     alloc: Global,
     must: &Path,
-    args: &[Slot],
-    results: &[Slot],
+    site: &CallSite,
     target: &Cube,
     pair: &Pair,
 ) -> Result<Kept, OutOfMemory>
     requires { (rows : List Atom)
-        × (must_preimage must.now args.now results.now target.now.atoms
+        × (must_preimage must.now site.now target.now.atoms
         ≡ gives rows (pair_rows (Some pair.now))) }
     ensures right { IfOk result IsRight }
     ensures question { IfOk result (λ kept. kept.question ≡ asks.Eliminate
-        (cube_of (must_rows must.now args.now results.now target.now.atoms))
-        (symbol_columns (must_rows must.now args.now results.now target.now.atoms))) }
+        (cube_of (must_rows must.now site.now target.now.atoms))
+        (symbol_columns (must_rows must.now site.now target.now.atoms))) }
 {
-    let Matching { columns, sums } = must_sums(alloc, must, args, results, target)?;
+    let Matching { columns, sums } = must_sums(alloc, must, site, target)?;
     let others = narrow_rows(alloc, &sums)?;
     let plain = must.guard.and(alloc, &others)?;
     let renamed = replaced_sums(alloc, columns, &plain)?;
@@ -129,29 +127,16 @@ pub fn inexact_asking(
 ) -> Result<Kept, OutOfMemory>
     requires call { is_call call.now ≡ true }
     requires pair { (rows : List Atom)
-        × (asked exit (arguments call.now) (results_of call.now) source.now.atoms target.now.atoms
+        × (asked exit (call_site call.now) source.now.atoms target.now.atoms
         ≡ gives rows (pair_rows (Some pair.now))) }
     ensures right { IfOk result IsRight }
     ensures question { IfOk result (λ kept. kept.question ≡ asks.Eliminate
-        (cube_of (call_rows exit (arguments call.now) (results_of call.now) source.now.atoms
+        (cube_of (call_rows exit (call_site call.now) source.now.atoms
         target.now.atoms))
-        (caller_columns (call_rows exit (arguments call.now) (results_of call.now)
+        (caller_columns (call_rows exit (call_site call.now)
         source.now.atoms target.now.atoms))) }
 {
-    match call {
-        Edge::Call { args, results, .. } => {
-            asking_limit(
-                alloc,
-                exit,
-                args.as_slice(),
-                results.as_slice(),
-                source,
-                target,
-                pair,
-            )
-        }
-        _ => unreachable!(),
-    }
+    asking_limit(alloc, exit, &CallSite::of(call), source, target, pair)
 }
 
 /// The limit of the pair in the elimination of the symbols that the preimage over the must needs.
@@ -164,25 +149,13 @@ pub fn inexact_preimage(
 ) -> Result<Kept, OutOfMemory>
     requires call { is_call call.now ≡ true }
     requires pair { (rows : List Atom)
-        × (must_preimage must.now (arguments call.now) (results_of call.now) target.now.atoms
+        × (must_preimage must.now (call_site call.now) target.now.atoms
         ≡ gives rows (pair_rows (Some pair.now))) }
     ensures right { IfOk result IsRight }
     ensures question { IfOk result (λ kept. kept.question ≡ asks.Eliminate
-        (cube_of (must_rows must.now (arguments call.now) (results_of call.now) target.now.atoms))
-        (symbol_columns (must_rows must.now (arguments call.now) (results_of call.now)
+        (cube_of (must_rows must.now (call_site call.now) target.now.atoms))
+        (symbol_columns (must_rows must.now (call_site call.now)
         target.now.atoms))) }
 {
-    match call {
-        Edge::Call { args, results, .. } => {
-            preimage_limit(
-                alloc,
-                must,
-                args.as_slice(),
-                results.as_slice(),
-                target,
-                pair,
-            )
-        }
-        _ => unreachable!(),
-    }
+    preimage_limit(alloc, must, &CallSite::of(call), target, pair)
 }

@@ -4,8 +4,9 @@ use Rattle.std.proofs.lemmas.List.{append-nil}
 use Rattle.flow_build.proofs.Fresh.{edges_append}
 use Rattle.c_tree.specs.declared.tree.Op.{Op}
 use Rattle.c_tree.specs.declared.tree.Op.TheVariants.{Equal, Unequal}
+use Rattle.flow_graph.specs.Calls.{CallSite, call_edge}
 use Rattle.flow_graph.specs.declared.graph.Edge.{Edge}
-use Rattle.flow_graph.specs.declared.graph.Edge.TheVariants.{Assign, Call}
+use Rattle.flow_graph.specs.declared.graph.Edge.TheVariants.{Assign}
 use Rattle.flow_build.specs.declared.builder.Builder.{Builder}
 use Rattle.flow_build.specs.declared.landing.Landed.{Landed}
 use Rattle.flow_build.specs.declared.landing.Reached.{Reached}
@@ -470,12 +471,12 @@ slots_added v vs from t slot b0 b1 l args0 args1 args2 h e d =
     d ∙ ap (λ xs. xs ++ argument_slots vs l.slot) e ∙ append_assoc args0 (slot ∷ []) (argument_slots vs l.slot)
     ∙ ap (λ x. args0 ++ x ∷ argument_slots vs l.slot) h.slot_is ∙ ap (λ j. args0 ++ argument_slot v t ∷ argument_slots vs j) h.free
 
-pub call_added : (p : ℕ) (vs : Values) (gs : List ℕ) (from t : ℕ) (b0 b1 b2 b3 : Builder) (args results : List ℕ) (r : Reached)
+pub call_added : (vs : Values) (gs : List ℕ) (from t : ℕ) (b0 b1 b2 b3 : Builder) (site : CallSite) (r : Reached)
     (l : Landed) → b1.edges.items ≡ b0.edges.items → b1.next ≡ b0.next + 1 → AddsAll vs from (t + 1) b1 b2 r →
-    args ≡ argument_slots vs (t + 1) ++ gs → results ≡ t ∷ gs →
-    b3.edges.items ≡ b2.edges.items ++ Call r.node b0.next p args results ∷ [] → b3.next ≡ b2.next →
-    l.node ≡ b0.next → l.operand ≡ Variable t → l.slot ≡ r.slot → l.in_place ≡ false → Adds (form.call p vs gs) from t b0 b3 l
-call_added p vs gs from t b0 b1 b2 b3 args results r l e1 n1 h listed given e n node operand slot in_place = record {
+    site.arguments ≡ argument_slots vs (t + 1) ++ gs → site.results ≡ t ∷ gs →
+    b3.edges.items ≡ b2.edges.items ++ call_edge r.node b0.next site ∷ [] → b3.next ≡ b2.next →
+    l.node ≡ b0.next → l.operand ≡ Variable t → l.slot ≡ r.slot → l.in_place ≡ false → Adds (form.call site.procedure vs gs) from t b0 b3 l
+call_added vs gs from t b0 b1 b2 b3 site r l e1 n1 h listed given e n node operand slot in_place = record {
   blocks = record {
     edges = simp (e, h.blocks.edges, e1, n1, listed, given, h.node, edges_append, append_assoc) refl;
     next = omega (arith, n, h.blocks.next, n1);

@@ -13,6 +13,7 @@ use Rattle.c_tree.specs.Meaning.{is_value}
 use Rattle.c_tree.specs.Syntax.{Statements}
 use Rattle.linear_formula.specs.LinearSum.{is_ascending}
 use Rattle.linear_formula.specs.declared.formula.Atom.{Atom}
+use Rattle.flow_graph.specs.Calls.{CallSite, call_edge}
 use Rattle.flow_graph.specs.declared.graph.Lin.{Lin}
 use Rattle.flow_graph.specs.declared.graph.Edge.{Edge}
 use Rattle.flow_graph.specs.declared.graph.Edge.TheVariants.{Entry, Assign, Guard, Input, Pick, Call, Assert, Return}
@@ -174,14 +175,15 @@ module _ (globals : ℕ) (body : Statements) (nodes slots : ℕ) where
     ordered = refl;
   }
 
-  pub call_fine : (n to p arguments : ℕ) (args results : List ℕ) → IsSource n → IsInner to →
-      IsTrue (list_all (λ x. nat_lt x slots) results) → IsTrue (list_all (λ x. nat_lt x slots) args) → length args ≡ arguments + globals →
-      length results ≡ 1 + globals → IsTrue (are_distinct results) → IsTrue (statements_call p arguments body) →
-      Fine (Call n to p args results)
-  call_fine n to p arguments args results s t come named many as_many distinct calls = record {
+  pub call_fine : (n to arguments : ℕ) (site : CallSite) → IsSource n → IsInner to →
+      IsTrue (list_all (λ x. nat_lt x slots) site.results) → IsTrue (list_all (λ x. nat_lt x slots) site.arguments) → length site.arguments
+      ≡ arguments + globals →
+      length site.results ≡ 1 + globals → IsTrue (are_distinct site.results) → IsTrue (statements_call site.procedure arguments body) →
+      Fine (call_edge n to site)
+  call_fine n to arguments site s t come named many as_many distinct calls = record {
     leaves = λ m e. source_leaves n m s e;
     below = t.below;
-    named = both_in (list_all (λ x. nat_lt x slots) results) (list_all (λ x. nat_lt x slots) args) come named;
+    named = both_in (list_all (λ x. nat_lt x slots) site.results) (list_all (λ x. nat_lt x slots) site.arguments) come named;
     lists = distinct;
     to_exit = no_exit to t;
     to_fail = no_fail to t;

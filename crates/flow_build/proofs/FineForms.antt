@@ -321,7 +321,8 @@ module _ (P : PureProgram) (L : Layout) (body : Statements) (nodes slots vars : 
       let count : length all ≡ L.globals = slots_count L.params L.globals in
       let both = length-append args all in
       let F : List ℕ → Type 0 = λ l. Fine L.globals body nodes slots (Call n lo p (args ++ l) (t ∷ l)) in
-      subst F (sym e) (call_fine L.globals body nodes slots n lo p (count_values vs) (args ++ all) (t ∷ all)
+      subst F (sym e) (call_fine L.globals body nodes slots n lo (count_values vs)
+      (record { procedure = p; arguments = args ++ all; results = t ∷ all })
       (inner_source L.globals body nodes slots n h) k
       (both_in (nat_lt t slots) (list_all (λ x. nat_lt x slots) all) (lt-ltb t slots lt) below)
       (list_all-append (λ x. nat_lt x slots) args all ∙ both_in (list_all (λ x. nat_lt x slots) args) (list_all (λ x. nat_lt x slots) all)

@@ -5,7 +5,7 @@ use Rattle.std.specs.Prelude.{slice_get, nat_lt, not as not_bool}
 use Rattle.std.proofs.lemmas.Bool.{eqb-true, eq-eqb}
 use Rattle.c_tree.specs.Syntax.{Expression, literal, read, read_global, input, call, negate, not as not_of, binary, Expressions, no_expressions, expression, Statement, block, set, set_global, ignore, assume, assert, if_else, loop, do_while, break, continue, return, Statements, no_statements, statement, PureProcedure, PureProgram}
 use Rattle.c_tree.specs.WellFormed.{count, takes, is_well_scoped, are_well_scoped, returns_well_scoped, runs_well_scoped, all_well_scoped, IsWellFormed, DividesByLiterals}
-use Rattle.flow_graph.specs.declared.graph.Edge.TheVariants.{Call}
+use Rattle.flow_graph.specs.Calls.{call_edge}
 use Rattle.flow_graph.specs.declared.graph.Graph.{Graph}
 use Rattle.flow_graph.specs.Linked.{AreGraphs}
 use Rattle.flow_graph.specs.Linked as linked
@@ -132,10 +132,10 @@ module _ (P : PureProgram) (well : IsWellFormed P) (divides : DividesByLiterals 
       subst F (sym found.1) (both_in (g.params == n) (g.exits == m) (eq-eqb g.params n takes_all) (eq-eqb g.exits m gives_all))
 
   pub graphs_kept : AreGraphs gs
-  graphs_kept k g h i from to q args results at =
+  graphs_kept k g h i from to site at =
       let found = procedure_of P gs graphs k g h in
       let p = found.0 in
-      let called = (procedure_bounded P well divides gs graphs literals k p g found.1 found.2).edges i (Call from to q args results) at in
+      let called = (procedure_bounded P well divides gs graphs literals k p g found.1 found.2).edges i (call_edge from to site) at in
       let sound = (kept P p (well.procedures_well_formed k p found.1)).sound in
       let able = statements_take P p.slots q called.0 false p.body sound called.3 in
       graph_takes q called.0 (length args) (length results) (slice_get P.procedures q) refl able.0 able.1 called.1 called.2

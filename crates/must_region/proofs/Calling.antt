@@ -13,9 +13,9 @@ use Rattle.linear_formula.specs.declared.formula.Atom.{Atom}
 use Rattle.linear_formula.proofs.Values.{value-renamed_by}
 use Rattle.linear_formula.proofs.Renamed.{renamed_by-holds}
 use Rattle.linear_formula.proofs.Limits.{both}
+use Rattle.flow_graph.specs.Calls.{CallSite, call_edge}
 use Rattle.flow_graph.specs.declared.graph.Graph.{Graph}
 use Rattle.flow_graph.specs.declared.graph.Edge.{Edge}
-use Rattle.flow_graph.specs.declared.graph.Edge.TheVariants.{Call}
 use Rattle.flow_graph.specs.WellFormed.{IsGraph, IsEdge, first_node}
 use Rattle.flow_graph.specs.Runs.{Place, inside, Called, Frame, GraphRun, GraphRuns, End, with_slots, after_call}
 use Rattle.flow_graph.proofs.Frames.{run_longer, Longer, frame_longer, frame_more, deeper}
@@ -94,46 +94,48 @@ arguments_match v slots (x ∷ args) (t ∷ terms) n h =
     (arguments_match v slots args terms (omega (arith, n)) r.1)
 
 -- One more call
-one_call : (C : Called) → Longer C → (edges : List Edge) (i n to proc : ℕ) (args results : List ℕ) → slice_get edges i
-    ≡ Some (Call n to proc args results) → (k : ℕ) (start : Place) (s : State) (ins used : List ℤ) (end : End) →
-    ((more : List ℤ) → Frame C edges k start (ins ++ more) (inside n s) more) → C proc (map s args) used [] end → (more : List ℤ) →
-    Frame C edges (suc k) start ((ins ++ used) ++ more) (after_call to results s end) more
-one_call C longer edges i n to proc args results at k start s ins used end f run more =
-    frame_longer C edges k start (inside n s) (after_call to results s end) ((ins ++ used) ++ more) (used ++ more) more
+one_call : (C : Called) → Longer C → (edges : List Edge) (i n to : ℕ) (site : CallSite) → slice_get edges i
+    ≡ Some (call_edge n to site) → (k : ℕ) (start : Place) (s : State) (ins used : List ℤ) (end : End) →
+    ((more : List ℤ) → Frame C edges k start (ins ++ more) (inside n s) more) → C site.procedure (map s site.arguments) used [] end →
+    (more : List ℤ) →
+    Frame C edges (suc k) start ((ins ++ used) ++ more) (after_call to site.results s end) more
+one_call C longer edges i n to site at k start s ins used end f run more =
+    frame_longer C edges k start (inside n s) (after_call to site.results s end) ((ins ++ used) ++ more) (used ++ more) more
     (subst (λ l. Frame C edges k start l (inside n s) (used ++ more)) (sym (append_assoc ins used more)) (f (used ++ more)))
-    (i, Call n to proc args results, at, refl, (end, longer proc (map s args) used [] end more run, refl))
+    (i, call_edge n to site, at, refl, (end, longer site.procedure (map s site.arguments) used [] end more run, refl))
 
 -- The place behind
 module _ (gs : List Graph) (g : Graph) (ok : IsGraph g.nodes g.exit g.fail g.params g.exits g.slots g.edges) (t : Trace)
     (h : IsTrail gs g t)
-    (i from to proc : ℕ) (args results : List ℕ) (at : slice_get g.edges i ≡ Some (Call from to proc args results)) (src : from ≡ t.node)
+    (i from to : ℕ) (site : CallSite) (at : slice_get g.edges i ≡ Some (call_edge from to site)) (src : from ≡ t.node)
     (must : Path) where
-  edge_ok : IsEdge g.nodes g.exit g.fail g.exits g.slots (Call from to proc args results)
-  edge_ok = ok.are_edges i (Call from to proc args results) at
+  edge_ok : IsEdge g.nodes g.exit g.fail g.exits g.slots (call_edge from to site)
+  edge_ok = ok.are_edges i (call_edge from to site) at
 
   leave : (t.node < g.nodes) × (t.node ≢ g.exit) × (t.node ≢ g.fail)
   leave = edge_ok.leaves t.node (ap Some src)
 
-  results_here : IsTrue (list_all (λ x. nat_lt x g.slots) results)
-  results_here = (both (list_all (λ x. nat_lt x g.slots) results) (list_all (λ x. nat_lt x g.slots) args) edge_ok.slots_named).0
+  results_here : IsTrue (list_all (λ x. nat_lt x g.slots) site.results)
+  results_here = (both (list_all (λ x. nat_lt x g.slots) site.results) (list_all (λ x. nat_lt x g.slots) site.arguments)
+      edge_ok.slots_named).0
 
-  pub place_behind : (v : Valuation) (exit : ExitKind) → after_call to results (slots_at v t.slots)
+  pub place_behind : (v : Valuation) (exit : ExitKind) → after_call to site.results (slots_at v t.slots)
       (end_with exit (values_of (λ x. v (shifted t.symbols x)) must.outcome)) ≡ end_place g.exit v (must_node to g.fail exit)
-      (must_slots t exit results must) (must_failed exit t.failed)
+      (must_slots t exit site.results must) (must_failed exit t.failed)
   place_behind v kind.Return =
       let terms = map (renamed_by (shifted t.symbols)) must.outcome in
-      let same : slots_at v (set_terms t.slots results terms) ≡ with_slots (slots_at v t.slots) results
-      (values_of (λ x. v (shifted t.symbols x)) must.outcome) = terms_set v t.slots g.slots (sym (h.many leave.1)) results terms
+      let same : slots_at v (set_terms t.slots site.results terms) ≡ with_slots (slots_at v t.slots) site.results
+      (values_of (λ x. v (shifted t.symbols x)) must.outcome) = terms_set v t.slots g.slots (sym (h.many leave.1)) site.results terms
       results_here
-      ∙ ap (with_slots (slots_at v t.slots) results) (values_by (shifted t.symbols) v must.outcome) in
-      let inner = inner_place g.exit v to (set_terms t.slots results terms) t.failed (h.unfailed leave.2)
+      ∙ ap (with_slots (slots_at v t.slots) site.results) (values_by (shifted t.symbols) v must.outcome) in
+      let inner = inner_place g.exit v to (set_terms t.slots site.results terms) t.failed (h.unfailed leave.2)
       (eqb-false to g.exit (sym edge_ok.to_exit))
       in
       sym (inner ∙ ap (inside to) same)
   place_behind v (kind.Fail id) = refl
 
-  many_must : (x : ExitKind) → length (must_slots t x results must) ≡ g.slots
-  many_must kind.Return = length_set_terms t.slots results (map (renamed_by (shifted t.symbols)) must.outcome) ∙ h.many leave.1
+  many_must : (x : ExitKind) → length (must_slots t x site.results must) ≡ g.slots
+  many_must kind.Return = length_set_terms t.slots site.results (map (renamed_by (shifted t.symbols)) must.outcome) ∙ h.many leave.1
   many_must (kind.Fail id) = h.many leave.1
 
   no_exit : (x : ExitKind) → must_node to g.fail x ≡ g.exit → ⊥
@@ -150,16 +152,18 @@ module _ (gs : List Graph) (g : Graph) (ok : IsGraph g.nodes g.exit g.fail g.par
 
 module _ (gs : List Graph) (g : Graph) (ok : IsGraph g.nodes g.exit g.fail g.params g.exits g.slots g.edges) (t : Trace)
     (h : IsTrail gs g t)
-    (i from to proc : ℕ) (args results : List ℕ) (at : slice_get g.edges i ≡ Some (Call from to proc args results)) (src : from ≡ t.node)
-    (must : Path) (gives : GivesRuns gs must) (of_procedure : must.proc ≡ proc) (count : length args ≡ length must.entry) where
+    (i from to : ℕ) (site : CallSite) (at : slice_get g.edges i ≡ Some (call_edge from to site)) (src : from ≡ t.node)
+    (must : Path) (gives : GivesRuns gs must) (of_procedure : must.proc ≡ site.procedure) (count : length site.arguments
+    ≡ length must.entry) where
   extend_call : (v : Valuation) (d k e : ℕ) → end_place g.exit v t.node t.slots t.failed ≡ inside t.node (slots_at v t.slots) →
       ((more : List ℤ) → Frame (GraphRun gs d) g.edges k (inside (first_node g.edges) (entered (values_of v t.entry)))
-      (values_of v t.inputs ++ more) (end_place g.exit v t.node t.slots t.failed) more) → map (slots_at v t.slots) args ≡ values_of (λ x. v
+      (values_of v t.inputs ++ more) (end_place g.exit v t.node t.slots t.failed) more) → map (slots_at v t.slots) site.arguments
+      ≡ values_of (λ x. v
       (shifted t.symbols x)) must.entry → GraphRuns gs e must.proc (values_of (λ x. v (shifted t.symbols x)) must.entry) (values_of
       (λ x. v (shifted t.symbols x)) must.inputs) (end_with must.exit (values_of (λ x. v (shifted t.symbols x)) must.outcome)) →
       (more : List ℤ) → Frame (GraphRun gs (e + d)) g.edges (suc k) (inside (first_node g.edges) (entered (values_of v t.entry)))
       (values_of v (t.inputs ++ map (renamed_by (shifted t.symbols)) must.inputs) ++ more)
-      (end_place g.exit v (must_node to g.fail must.exit) (must_slots t must.exit results must) (must_failed must.exit t.failed)) more
+      (end_place g.exit v (must_node to g.fail must.exit) (must_slots t must.exit site.results must) (must_failed must.exit t.failed)) more
   extend_call v d k e from_place fr same_args run more =
       let start : Place = inside (first_node g.edges) (entered (values_of v t.entry)) in
       let end : End = end_with must.exit (values_of (λ x. v (shifted t.symbols x)) must.outcome) in
@@ -172,26 +176,28 @@ module _ (gs : List Graph) (g : Graph) (ok : IsGraph g.nodes g.exit g.fail g.par
       (values_of (λ x. v (shifted t.symbols x)) must.entry) used [] end run in
       let run' : GraphRun gs (e + d) must.proc (values_of (λ x. v (shifted t.symbols x)) must.entry) used [] end = subst
       (λ n. GraphRun gs n must.proc (values_of (λ x. v (shifted t.symbols x)) must.entry) used [] end) (add_comm d e) deep in
-      let run'' : GraphRun gs (e + d) proc (map (slots_at v t.slots) args) used [] end = subst
-      (λ p. GraphRun gs (e + d) p (map (slots_at v t.slots) args) used [] end) of_procedure
+      let run'' : GraphRun gs (e + d) site.procedure (map (slots_at v t.slots) site.arguments) used [] end = subst
+      (λ p. GraphRun gs (e + d) p (map (slots_at v t.slots) site.arguments) used [] end) of_procedure
       (subst (λ l. GraphRun gs (e + d) must.proc l used [] end) (sym same_args) run') in
-      let at' : slice_get g.edges i ≡ Some (Call t.node to proc args results) = subst
-      (λ n. slice_get g.edges i ≡ Some (Call n to proc args results))
+      let at' : slice_get g.edges i ≡ Some (call_edge t.node to site) = subst
+      (λ n. slice_get g.edges i ≡ Some (call_edge n to site))
       src at in
-      let whole = one_call (GraphRun gs (e + d)) (run_longer gs (e + d)) g.edges i t.node to proc args results at' k start
+      let whole = one_call (GraphRun gs (e + d)) (run_longer gs (e + d)) g.edges i t.node to site at' k start
       (slots_at v t.slots)
       (values_of v t.inputs) used end fr' run'' more in
       let inputs : values_of v t.inputs ++ used ≡ values_of v (t.inputs ++ map (renamed_by (shifted t.symbols)) must.inputs) =
       ap (λ l. values_of v t.inputs ++ l) (sym (values_by (shifted t.symbols) v must.inputs))
       ∙ sym (map-append (value_of v) t.inputs (map (renamed_by (shifted t.symbols)) must.inputs)) in
       subst (λ l. Frame (GraphRun gs (e + d)) g.edges (suc k) start (l ++ more) (end_place g.exit v (must_node to g.fail must.exit)
-      (must_slots t must.exit results must) (must_failed must.exit t.failed)) more) inputs (subst (λ p. Frame (GraphRun gs (e + d)) g.edges
-      (suc k) start ((values_of v t.inputs ++ used) ++ more) p more) ((place_behind gs g ok t h i from to proc args results at src must) v
+      (must_slots t must.exit site.results must) (must_failed must.exit t.failed)) more) inputs (subst (λ p. Frame (GraphRun gs (e + d))
+      g.edges
+      (suc k) start ((values_of v t.inputs ++ used) ++ more) p more) ((place_behind gs g ok t h i from to site at src must) v
       must.exit) whole)
 
-  pub extend_must : GivesFrames gs g (extended_must t to g.fail args results must)
+  pub extend_must : GivesFrames gs g (extended_must t to g.fail site must)
   extend_must v v64 m =
-      let a = holds_split v (t.guard.atoms ++ renamed_atoms_by (shifted t.symbols) must.guard.atoms) (rows_of_sums (must_sums t args must))
+      let a = holds_split v (t.guard.atoms ++ renamed_atoms_by (shifted t.symbols) must.guard.atoms)
+      (rows_of_sums (must_sums t site.arguments must))
       m
       in
       let b = holds_split v t.guard.atoms (renamed_atoms_by (shifted t.symbols) must.guard.atoms) a.0 in
@@ -199,21 +205,21 @@ module _ (gs : List Graph) (g : Graph) (ok : IsGraph g.nodes g.exit g.fail g.par
       let fr = h.gives v v64 b.0 in
       let r = gives w (λ x. v64 (shifted t.symbols x)) (holds_by (shifted t.symbols) v must.guard.atoms b.1) in
       let from_place : end_place g.exit v t.node t.slots t.failed ≡ inside t.node (slots_at v t.slots) = inner_place g.exit v t.node t.slots
-      t.failed (h.unfailed (leave gs g ok t h i from to proc args results at src must).2) (leave gs g ok t h i from to proc args results at
+      t.failed (h.unfailed (leave gs g ok t h i from to site at src must).2) (leave gs g ok t h i from to site at
       src
       must).1
       in
-      let same_args : map (slots_at v t.slots) args ≡ values_of w must.entry = arguments_match v t.slots args
+      let same_args : map (slots_at v t.slots) site.arguments ≡ values_of w must.entry = arguments_match v t.slots site.arguments
       (map (renamed_by (shifted t.symbols)) must.entry) (count ∙ sym (length-map must.entry (renamed_by (shifted t.symbols)))) a.1
       ∙ values_by (shifted t.symbols) v must.entry in
       (r.0 + fr.0, suc fr.1, extend_call v fr.0 fr.1 r.0 from_place fr.2 same_args r.1)
 
-  pub extended_must_trail : IsTrail gs g (extended_must t to g.fail args results must)
+  pub extended_must_trail : IsTrail gs g (extended_must t to g.fail site must)
   extended_must_trail = record {
     gives = extend_must;
-    many = λ _. (many_must gs g ok t h i from to proc args results at src must) must.exit;
-    returned = λ e. absurd ((no_exit gs g ok t h i from to proc args results at src must) must.exit e);
-    unfailed = λ e. (none_failed gs g ok t h i from to proc args results at src must) must.exit e;
-    is_failed = λ e. (has_failed gs g ok t h i from to proc args results at src must) must.exit e;
+    many = λ _. (many_must gs g ok t h i from to site at src must) must.exit;
+    returned = λ e. absurd ((no_exit gs g ok t h i from to site at src must) must.exit e);
+    unfailed = λ e. (none_failed gs g ok t h i from to site at src must) must.exit e;
+    is_failed = λ e. (has_failed gs g ok t h i from to site at src must) must.exit e;
     entry = h.entry;
   }

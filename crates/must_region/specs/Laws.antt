@@ -4,8 +4,8 @@ use Rattle.linear_formula.specs.LinearSum.{LinearSum, Valuation, Is64}
 use Rattle.linear_formula.specs.Formula.{HoldsAll, are_terms}
 use Rattle.linear_formula.specs.declared.formula.Atom.{Atom}
 use Rattle.shadow_elim.specs.Sums.{first_wide, row_sums}
+use Rattle.flow_graph.specs.Calls.{CallSite, call_edge}
 use Rattle.flow_graph.specs.declared.graph.Edge.{Edge}
-use Rattle.flow_graph.specs.declared.graph.Edge.TheVariants.{Call}
 use Rattle.flow_graph.specs.declared.graph.Graph.{Graph}
 use Rattle.flow_graph.specs.Columns.{first_symbol, rows_name_only, is_entry_column}
 use Rattle.flow_graph.specs.Readings.{reading}
@@ -31,11 +31,11 @@ pub record Leaves (g : Graph) (t : Trace) (i : ℕ) (e : Edge) : Type 0 where
 
 -- the call of this number leaves the trail's node, and the must is of the called procedure, with a
 -- term for each argument
-pub record Calls (g : Graph) (t : Trace) (i to proc : ℕ) (args results : List ℕ) (must : Path) :
+pub record Calls (g : Graph) (t : Trace) (i to : ℕ) (site : CallSite) (must : Path) :
     Type 0 where
-  pub at : slice_get g.edges i ≡ Some (Call t.node to proc args results)
-  pub of_procedure : must.proc ≡ proc
-  pub entry_terms : length args ≡ length must.entry
+  pub at : slice_get g.edges i ≡ Some (call_edge t.node to site)
+  pub of_procedure : must.proc ≡ site.procedure
+  pub entry_terms : length site.arguments ≡ length must.entry
 
 abbrev pub BeginsTrail : Type 0
 BeginsTrail =
@@ -51,10 +51,10 @@ ExtendsTrails =
 -- so does a call by a must that gives runs
 abbrev pub ExtendsByMusts : Type 0
 ExtendsByMusts =
-    (gs : List Graph) (g : Graph) (t : Trace) (i to proc : ℕ) (args results : List ℕ)
+    (gs : List Graph) (g : Graph) (t : Trace) (i to : ℕ) (site : CallSite)
     (must : Path) →
-    IsTrail gs g t → GivesRuns gs must → Calls g t i to proc args results must →
-    IsTrail gs g (extended_must t to g.fail args results must)
+    IsTrail gs g t → GivesRuns gs must → Calls g t i to site must →
+    IsTrail gs g (extended_must t to g.fail site must)
 
 -- Two laws about one step over an edge that is no call. They ask nothing of where the frame began,
 -- so they hold of each trail, and of a frame whose entry values are any terms.
@@ -73,10 +73,10 @@ NoStepIsLost =
 
 abbrev pub NoCalledRunIsLost : Type 0
 NoCalledRunIsLost =
-    (gs : List Graph) (g : Graph) (t : Trace) (i to proc : ℕ) (args results : List ℕ)
+    (gs : List Graph) (g : Graph) (t : Trace) (i to : ℕ) (site : CallSite)
     (must : Path) →
-    IsTrail gs g t → TraceNamesOwn t → Calls g t i to proc args results must →
-    LosesNoneBy g t to args results must (extended_must t to g.fail args results must)
+    IsTrail gs g t → TraceNamesOwn t → Calls g t i to site must →
+    LosesNoneBy g t to site must (extended_must t to g.fail site must)
 
 -- at the exit each assignment that meets the guard gives a run that returns
 abbrev pub ReturnsGiveRuns : Type 0

@@ -3,6 +3,7 @@ use Rattle.std.specs.Prelude.{◌≡◌, ◌≢◌, ℕ, ◌==◌, IsTrue, List,
 use Rattle.c_tree.specs.Meaning.{State, entered}
 use Rattle.linear_formula.specs.LinearSum.{LinearSum, Valuation, Is64, value_of}
 use Rattle.linear_formula.specs.Formula.{HoldsAll}
+use Rattle.flow_graph.specs.Calls.{CallSite}
 use Rattle.flow_graph.specs.declared.graph.Graph.{Graph}
 use Rattle.flow_graph.specs.WellFormed.{first_node}
 use Rattle.flow_graph.specs.Runs.{Place, inside, left, failing, Frame, GraphRun, GraphRuns, Step, after_call}
@@ -87,12 +88,13 @@ LosesNoStep g t e new =
     ++ used))
 
 -- By a must: u gives the called run.
-abbrev pub LosesNoneBy : Graph → Trace → (to : ℕ) → (args results : List ℕ) → Path → Trace → Type 0
-LosesNoneBy g t to args results path new =
+abbrev pub LosesNoneBy : Graph → Trace → (to : ℕ) → CallSite → Path → Trace → Type 0
+LosesNoneBy g t to site path new =
     (v u : Valuation) → Is64 v → Is64 u → HoldsAll v t.guard.atoms → HoldsAll u path.guard.atoms →
-    values_of u path.entry ≡ map (slots_at v t.slots) args →
+    values_of u path.entry ≡ map (slots_at v t.slots) site.arguments →
     (w : Valuation) × Is64 w × ((x : ℕ) → IsTrue (is_symbol_column t.symbols x) → w x ≡ v x)
     × HoldsAll w new.guard.atoms
-    × (end_place g.exit w new.node new.slots new.failed ≡ after_call to results (slots_at v t.slots)
+    × (end_place g.exit w new.node new.slots new.failed ≡ after_call to site.results
+    (slots_at v t.slots)
     (end_with path.exit (values_of u path.outcome)))
     × (values_of w new.inputs ≡ values_of v t.inputs ++ values_of u path.inputs)

@@ -4,6 +4,7 @@ use Rattle.std.specs.Prelude.{slice_get, slice_index_or, IfOk, OnOk, IsTrue}
 use Rattle.std.proofs.lemmas.Option.{same_Some, none-some, get_or_from_slice_get}
 use borrow.Author.Tests.{eqb-true}
 use Rattle.linear_formula.proofs.Limits.{both}
+use Rattle.flow_graph.specs.Calls.{CallSite, call_edge}
 use Rattle.flow_graph.specs.Linked.{AreGraphs, takes}
 use Rattle.linear_formula.specs.LinearSum.{LinearSum}
 use Rattle.flow_graph.specs.declared.graph.Edge.{Edge}
@@ -150,39 +151,39 @@ module _ (gs : List Graph) where
       })
 
   -- over a call
-  pub call_step : (levels : List Level) (f next : Frame) (symbols edge node from to proc : ℕ) (args results : List ℕ) (h : Graph)
+  pub call_step : (levels : List Level) (f next : Frame) (symbols edge node from to : ℕ) (site : CallSite) (h : Graph)
       (step : Step)
       (stage : Stage) → f.place ≡ At node → (g : Graph) → slice_get gs f.proc ≡ Some g → slice_get g.edges edge
-      ≡ Some (Call from to proc args results) →
-      source (Call from to proc args results) ≡ Some node → slice_get gs proc ≡ Some h →
+      ≡ Some (call_edge from to site) →
+      source (call_edge from to site) ≡ Some node → slice_get gs site.procedure ≡ Some h →
       next ≡ record {
-        proc = proc;
+        proc = site.procedure;
         place = Entering;
-        slots = opened h (map (term_at f.slots) args);
-        entry = map (term_at f.slots) args;
+        slots = opened h (map (term_at f.slots) site.arguments);
+        entry = map (term_at f.slots) site.arguments;
         caller = Some (length levels);
       } → step.frame ≡ next → step.rows.atoms ≡ [] → step.read ≡ [] → step.symbols ≡ symbols → IsStage gs levels f stage →
       IsStep gs levels f symbols edge step stage
-  call_step levels f next symbols edge node from to proc args results h step stage p g at_g at src at_h is frame rows read count st =
+  call_step levels f next symbols edge node from to site h step stage p g at_g at src at_h is frame rows read count st =
       let en = running levels f node stage p st in
       let same : en.graph ≡ g = same_Some en.graph g (sym en.at ∙ at_g) in
-      let at' : slice_get en.graph.edges edge ≡ Some (Call from to proc args results) =
-      subst (λ (x : Graph). slice_get x.edges edge ≡ Some (Call from to proc args results)) (sym same) at in
-      let waiting : Waiting = record { graph = en.graph; to = to; results = results; slots = f.slots; entry = f.entry } in
+      let at' : slice_get en.graph.edges edge ≡ Some (call_edge from to site) =
+      subst (λ (x : Graph). slice_get x.edges edge ≡ Some (call_edge from to site)) (sym same) at in
+      let waiting : Waiting = record { graph = en.graph; to = to; results = site.results; slots = f.slots; entry = f.entry } in
       subst (IsStep gs levels f symbols edge step) (sym en.is) (record {
         sums = [];
         after = record {
           symbols = symbols;
           guard = [];
           inputs = [];
-          at = enters h (map (term_at f.slots) args) (waiting ∷ en.ws);
+          at = enters h (map (term_at f.slots) site.arguments) (waiting ∷ en.ws);
         };
-        follows = (Call from to proc args results, at', src, (h, at_h, refl, refl));
+        follows = (call_edge from to site, at', src, (h, at_h, refl, refl));
         narrow = refl;
         rows = rows;
         read = read;
         count = count;
-        lies = λ l lf le. subst (λ fr. IsStage gs (levels ++ l ∷ []) fr (enters h (map (term_at f.slots) args) (waiting ∷ en.ws)))
+        lies = λ l lf le. subst (λ fr. IsStage gs (levels ++ l ∷ []) fr (enters h (map (term_at f.slots) site.arguments) (waiting ∷ en.ws)))
             (sym (frame ∙ is)) (
               refl,
               at_h,
@@ -194,8 +195,8 @@ module _ (gs : List Graph) where
                 record {
                   graph = ap (λ (x : Frame). slice_get gs x.proc) lf ∙ en.at;
                   from = from;
-                  proc = proc;
-                  args = args;
+                  proc = site.procedure;
+                  args = site.arguments;
                   call = ap (slice_get en.graph.edges) le ∙ at';
                   slots = ap (λ (x : Frame). x.slots) lf;
                   entry = ap (λ (x : Frame). x.entry) lf;
@@ -340,13 +341,13 @@ pub list_at : {X : Type 0} (xs ys : List X) (i : ℕ) (x y : X) → ys ≡ xs �
     slice_get xs i ≡ Some x
 list_at xs ys i x y same at is = read_at xs i x y (subst (λ zs. slice_get zs i ≡ Some y) same at) is
 
-pub not_call : (e : Edge) → ((from to proc : ℕ) (args results : List ℕ) → e ≡ Call from to proc args results → ⊥) → is_call e ≡ false
+pub not_call : (e : Edge) → ((from to : ℕ) (site : CallSite) → e ≡ call_edge from to site → ⊥) → is_call e ≡ false
 not_call (Entry to params) h = refl
 not_call (Assign from to slot value) h = refl
 not_call (Guard from to rows) h = refl
 not_call (Input from to slot) h = refl
 not_call (Pick from to slot rows) h = refl
-not_call (Call from to proc args results) h = absurd (h from to proc args results refl)
+not_call (Call from to proc args results) h = absurd (h from to (record { procedure = proc; arguments = args; results = results }) refl)
 not_call (Assert from to id rows) h = refl
 not_call (Return from to slots) h = refl
 
@@ -386,20 +387,26 @@ edge_here gs levels f edge node p n g edges e g_is edges_are e_is =
 
 -- the graph of the called procedure
 pub callee_at : (gs : List Graph) → AreGraphs gs → (p : ℕ) (g : Graph) → slice_get gs p ≡ Some g →
-    (i from to proc : ℕ) (args results : List ℕ) →
-    slice_get g.edges i ≡ Some (Call from to proc args results) → (h : Graph) × (slice_get gs proc ≡ Some h) × (length args ≡ h.params)
-callee_at gs linked p g at i from to proc args results call = on (slice_get gs proc) (linked p g at i from to proc args results call) where
-  on : (o : Option Graph) → IsTrue (takes o (length args) (length results)) → (h : Graph) × (o ≡ Some h) × (length args ≡ h.params)
+    (i from to : ℕ) (site : CallSite) →
+    slice_get g.edges i ≡ Some (call_edge from to site) → (h : Graph) × (slice_get gs site.procedure ≡ Some h)
+    × (length site.arguments ≡ h.params)
+callee_at gs linked p g at i from to site call = on (slice_get gs site.procedure) (linked p g at i from to site call) where
+  on : (o : Option Graph) → IsTrue (takes o (length site.arguments) (length site.results)) → (h : Graph) × (o ≡ Some h)
+      × (length site.arguments ≡ h.params)
   on None t = absurd (cc)
-  on (Some h) t = (h, refl, sym (eqb-true h.params (length args) (both (h.params == length args) (h.exits == length results) t).0))
+  on (Some h) t = (
+    h,
+    refl,
+    sym (eqb-true h.params (length site.arguments) (both (h.params == length site.arguments) (h.exits == length site.results) t).0),
+  )
 
 pub callee_read : (gs : List Graph) → AreGraphs gs → (p : ℕ) (g : Graph) → slice_get gs p ≡ Some g →
-    (i from to proc : ℕ) (args results : List ℕ) →
-    slice_get g.edges i ≡ Some (Call from to proc args results) → (h : Graph) → h ≡ slice_index_or gs proc h →
-    (slice_get gs proc ≡ Some h) × (length args ≡ h.params)
-callee_read gs linked p g at i from to proc args results call h is =
-    let k = callee_at gs linked p g at i from to proc args results call in
-    let same : h ≡ k.0 = is ∙ get_or_from_slice_get gs proc k.0 h k.1 in
+    (i from to : ℕ) (site : CallSite) →
+    slice_get g.edges i ≡ Some (call_edge from to site) → (h : Graph) → h ≡ slice_index_or gs site.procedure h →
+    (slice_get gs site.procedure ≡ Some h) × (length site.arguments ≡ h.params)
+callee_read gs linked p g at i from to site call h is =
+    let k = callee_at gs linked p g at i from to site call in
+    let same : h ≡ k.0 = is ∙ get_or_from_slice_get gs site.procedure k.0 h k.1 in
     (k.1 ∙ ap Some (sym same), k.2 ∙ ap (λ (x : Graph). x.params) (sym same))
 
 -- the edges that may follow a frame at a node

@@ -8,6 +8,7 @@ use borrow.Author.Tests.{eqb-true, ltb-true, lt-ltb}
 use Rattle.linear_formula.specs.LinearSum.{LinearSum}
 use Rattle.linear_formula.specs.Results.{constant_sum}
 use Rattle.linear_formula.proofs.Limits.{both, both_in}
+use Rattle.flow_graph.specs.Calls.{CallSite, call_edge}
 use Rattle.flow_graph.specs.declared.graph.Graph.{Graph}
 use Rattle.flow_graph.specs.declared.graph.Edge.{Edge}
 use Rattle.flow_graph.specs.declared.graph.Edge.TheVariants.{Entry, Assign, Guard, Input, Pick, Call, Assert, Return}
@@ -207,29 +208,31 @@ module _ (gs : List Graph) where
     stage_fits (Return from to returned) at =
         back_fits w.symbols (map (term_at slots) returned) ws (map_names (is_symbol_column w.symbols) slots returned frame.slot_names) waits
 
-    called : (from to proc : ℕ) (args results : List ℕ) → slice_get g.edges i ≡ Some (Call from to proc args results) → (h : Graph) →
-        slice_get gs proc ≡ Some h → Fits (record w {
-          at = enters h (map (term_at slots) args)
-              (record { graph = g; to = to; results = results; slots = slots; entry = entry } ∷ ws);
+    called : (from to : ℕ) (site : CallSite) → slice_get g.edges i ≡ Some (call_edge from to site) → (h : Graph) →
+        slice_get gs site.procedure ≡ Some h → Fits (record w {
+          at = enters h (map (term_at slots) site.arguments)
+              (record { graph = g; to = to; results = site.results; slots = slots; entry = entry } ∷ ws);
         })
-    called from to proc args results at h at_h =
-        let p = linked frame.one.0 g frame.one.1 i from to proc args results at in
-        let q : h.params ≡ length args = eqb-true h.params (length args)
-        (both (h.params == length args) (h.exits == length results) (subst (λ o. IsTrue (takes o (length args) (length results))) at_h p)).0
+    called from to site at h at_h =
+        let p = linked frame.one.0 g frame.one.1 i from to site at in
+        let q : h.params ≡ length site.arguments = eqb-true h.params (length site.arguments)
+        (both (h.params == length site.arguments) (h.exits == length site.results)
+        (subst (λ o. IsTrue (takes o (length site.arguments) (length site.results))) at_h p)).0
         in
-        let named = ((g.well_formed).are_edges i (Call from to proc args results) at).slots_named in
+        let named = ((g.well_formed).are_edges i (call_edge from to site) at).slots_named in
         record {
           guard_names = f.guard_names;
           input_names = f.input_names;
           stage = (
-            (proc, at_h),
-            length-map args (term_at slots) ∙ sym q,
-            map_names (is_symbol_column w.symbols) slots args frame.slot_names,
+            (site.procedure, at_h),
+            length-map site.arguments (term_at slots) ∙ sym q,
+            map_names (is_symbol_column w.symbols) slots site.arguments frame.slot_names,
             (
               record {
                 one = frame.one;
                 many = frame.many;
-                results_in = (both (list_all (λ x. nat_lt x g.slots) results) (list_all (λ x. nat_lt x g.slots) args) named).0;
+                results_in = (both (list_all (λ x. nat_lt x g.slots) site.results) (list_all (λ x. nat_lt x g.slots) site.arguments)
+                    named).0;
                 slot_names = frame.slot_names;
                 entry_names = frame.entry_names;
               },
@@ -253,7 +256,8 @@ module _ (gs : List Graph) where
         subst Fits (sym h.1) (behind (Assert from to id rows) at _ (stage_fits (Assert from to id rows) at))
     edge_fits (Return from to returned) at sums new h =
         subst Fits (sym h.1) (behind (Return from to returned) at _ (stage_fits (Return from to returned) at))
-    edge_fits (Call from to proc args results) at sums new h = subst Fits (sym h.3) (called from to proc args results at h.0 h.1)
+    edge_fits (Call from to proc args results) at sums new h =
+        subst Fits (sym h.3) (called from to (record { procedure = proc; arguments = args; results = results }) at h.0 h.1)
 
   pub opened_fits : (n : ℕ) (g : Graph) (args : List LinearSum) → IsOne g → length args ≡ g.params → Named n args →
       FrameFits n g (opened g args) args

@@ -2,6 +2,7 @@
 use Rattle.std.proofs.Common.{◌≡◌, ℕ, suc, ◌+◌, List, [], ◌∷◌, Some, ℤ, false, map, refl, sym, subst, arith}
 use Rattle.std.specs.Prelude.{slice_get}
 use Rattle.c_tree.specs.Meaning.{State, entered}
+use Rattle.flow_graph.specs.Calls.{CallSite, call_edge}
 use Rattle.flow_graph.specs.declared.graph.Edge.{Edge}
 use Rattle.flow_graph.specs.declared.graph.Edge.TheVariants.{Entry, Assign, Guard, Input, Pick, Call, Assert, Return}
 use Rattle.flow_graph.specs.declared.graph.Graph.{Graph}
@@ -70,37 +71,40 @@ module _ (gs : List Graph) (id : ℕ) (rest : List ℤ) where
           (failed j, mid, step e at src (failing j t) ins mid (failed j) mid 0 (at_depth 0 (failing j t) st) 0 (refl, refl), f)
       by_place halted st f = absurd f
 
-    calls : (from to proc : ℕ) (args results : List ℕ) → slice_get g.edges i ≡ Some (Call from to proc args results) →
-        source (Call from to proc args results) ≡ Some n → (h : Graph) → slice_get gs proc ≡ Some h → (ins : List ℤ) →
-        Fails (entering h (map s args) (record { graph = g; to = to; results = results; slots = s } ∷ cs)) ins →
+    calls : (from to : ℕ) (site : CallSite) → slice_get g.edges i ≡ Some (call_edge from to site) →
+        source (call_edge from to site) ≡ Some n → (h : Graph) → slice_get gs site.procedure ≡ Some h → (ins : List ℤ) →
+        Fails (entering h (map s site.arguments) (record { graph = g; to = to; results = site.results; slots = s } ∷ cs)) ins →
         Fails (running g n s cs) ins
-    calls from to proc args results at src h at_h ins f = by_end f.0 f.1 f.2 f.3 f.4 where
+    calls from to site at src h at_h ins f = by_end f.0 f.1 f.2 f.3 f.4 where
       e : Edge
-      e = Call from to proc args results
+      e = call_edge from to site
 
       w : Caller
-      w = record { graph = g; to = to; results = results; slots = s }
+      w = record { graph = g; to = to; results = site.results; slots = s }
 
-      by_end : (end : End) (mid : List ℤ) (d : ℕ) → EntersGraph (GraphRun gs d) (Some h) (map s args) ins mid end → Goes end (w ∷ cs) mid →
+      by_end : (end : End) (mid : List ℤ) (d : ℕ) → EntersGraph (GraphRun gs d) (Some h) (map s site.arguments) ins mid end →
+          Goes end (w ∷ cs) mid →
           Fails (running g n s cs) ins
       by_end stopped mid d run go = absurd go
       by_end (failed j) mid d run go =
-          let r : GraphRun gs (suc d) proc (map s args) ins mid (failed j) = subst (λ o. EntersGraph (GraphRun gs d) o (map s args) ins mid
+          let r : GraphRun gs (suc d) site.procedure (map s site.arguments) ins mid (failed j) = subst
+          (λ o. EntersGraph (GraphRun gs d) o (map s site.arguments) ins mid
           (failed j)) (sym at_h) run in
           (failed j, mid, step e at src (failing j s) ins mid (failed j) mid (suc d) (failed j, r, refl) 0 (refl, refl), go)
       by_end (came values) mid d run go =
-          let r : GraphRun gs (suc d) proc (map s args) ins mid (came values) = subst (λ o. EntersGraph (GraphRun gs d) o (map s args) ins
+          let r : GraphRun gs (suc d) site.procedure (map s site.arguments) ins mid (came values) = subst
+          (λ o. EntersGraph (GraphRun gs d) o (map s site.arguments) ins
           mid
           (came values)) (sym at_h) run in
           let k = go.2.depth in
           let same : suc d + k ≡ k + suc d = omega arith in
-          let place : Place = inside to (with_slots s results values) in
+          let place : Place = inside to (with_slots s site.results values) in
           let more = subst (λ x. EndsIn (GraphRun gs x) g.edges go.2.count place mid go.1 go.0) same
           (ends_more (GraphRun gs k) (GraphRun gs (suc d + k)) (deeper gs k (suc d)) g.edges go.2.count place mid go.1 go.0 go.2.ends) in (
             go.0,
             go.1,
             step e at src place ins mid go.0 go.1 (k + suc d)
-                (came values, deeper gs (suc d) k proc (map s args) ins mid (came values) r, refl) go.2.count more,
+                (came values, deeper gs (suc d) k site.procedure (map s site.arguments) ins mid (came values) r, refl) go.2.count more,
             go.3,
           )
 
@@ -120,7 +124,7 @@ module _ (gs : List Graph) (id : ℕ) (rest : List ℤ) where
     by_edge (Assert from to j rows) at src o = plain g n s cs i (Assert from to j rows) refl at src ins mid c o.0 o.1 o.2 f
     by_edge (Return from to x) at src o = plain g n s cs i (Return from to x) refl at src ins mid c o.0 o.1 o.2 f
     by_edge (Call from to proc args results) at src o =
-        calls g n s cs i from to proc args results at src o.0 o.1 ins (subst (λ l. Fails
+        calls g n s cs i from to (record { procedure = proc; arguments = args; results = results }) at src o.0 o.1 ins (subst (λ l. Fails
         (entering o.0 (map s args) (record { graph = g; to = to; results = results; slots = s } ∷ cs)) l) o.3 (subst (λ z. Fails z mid) o.2
         f))
 

@@ -11,6 +11,7 @@ use Rattle.linear_formula.proofs.Limits.{both}
 use Rattle.shadow_elim.specs.Projection.{gives, projected, summed}
 use Rattle.shadow_elim.specs.ProjectionLaws.{FitsProjection, Pair}
 use Rattle.shadow_elim.specs.Sums.{equal_sums, first_wide, renaming, row_sums, rows_of_sums}
+use Rattle.flow_graph.specs.Calls.{CallSite}
 use Rattle.flow_graph.specs.Readings.{term_at, results_reading}
 use Rattle.shadow_elim.proofs.Projecting.{unless-none}
 use Rattle.flow_graph.specs.Columns.{first_entry, first_symbol, names_only, rows_name_only}
@@ -96,45 +97,51 @@ module _ (allowed : ℕ → Bool) (slots : (x : ℕ) → x < first_entry → IsT
       (with_named done (single t) x (k 0 x refl) y n h)
 
   -- A must and a target
-  module _ (must : Path) (args : List ℕ) (results : List ℕ) (target : List Atom) (low : (j a : ℕ) → slice_get args j ≡ Some a →
+  module _ (must : Path) (site : CallSite) (target : List Atom) (low : (j a : ℕ) → slice_get site.arguments j ≡ Some a →
       a < first_entry)
       (guard : IsTrue (rows_name_only allowed must.guard.atoms)) (entry : IsTrue (all_name_only allowed must.entry))
       (outcome : IsTrue (all_name_only allowed must.outcome)) (names : IsTrue (rows_name_only allowed target)) where
-    plain_named : IsTrue (rows_name_only allowed (plain_rows must args results target))
+    plain_named : IsTrue (rows_name_only allowed (plain_rows must site target))
     plain_named =
-        rows_named_append allowed must.guard.atoms (rows_of_sums (must_sums must args results target)) guard
-        (rows_named allowed (must_sums must args results target)
-        (sums_named_append allowed (other_sums [] args must.entry) (row_sums (exit_reading must.exit results must.outcome) target)
-        (others_named [] args must.entry low entry)
-        (row_sums_named allowed allowed (exit_reading must.exit results must.outcome) (behind_named must.exit results must.outcome outcome)
+        rows_named_append allowed must.guard.atoms (rows_of_sums (must_sums must site target)) guard
+        (rows_named allowed (must_sums must site target)
+        (sums_named_append allowed (other_sums [] site.arguments must.entry) (row_sums (exit_reading must.exit site.results must.outcome)
+        target)
+        (others_named [] site.arguments must.entry low entry)
+        (row_sums_named allowed allowed (exit_reading must.exit site.results must.outcome) (behind_named must.exit site.results must.outcome
+        outcome)
         target
         names)))
 
-    pub slots_named : IsTrue (sums_name_only allowed (slot_sums must args (plain_rows must args results target)))
+    pub slots_named : IsTrue (sums_name_only allowed (slot_sums must site.arguments (plain_rows must site target)))
     slots_named =
-        row_sums_named allowed allowed (renaming (renamed_column (replacing [] args must.entry)))
-        (λ x h. column_named allowed (renamed_column (replacing [] args must.entry) x) (renamed_named [] args must.entry low x h h))
-        (plain_rows must args results target) plain_named
+        row_sums_named allowed allowed (renaming (renamed_column (replacing [] site.arguments must.entry)))
+        (λ x h. column_named allowed (renamed_column (replacing [] site.arguments must.entry) x)
+        (renamed_named [] site.arguments must.entry low x h h))
+        (plain_rows must site target) plain_named
 
-    pub all_named : IsTrue (rows_name_only allowed (must_rows must args results target))
-    all_named = rows_named allowed (slot_sums must args (plain_rows must args results target)) slots_named
+    pub all_named : IsTrue (rows_name_only allowed (must_rows must site target))
+    all_named = rows_named allowed (slot_sums must site.arguments (plain_rows must site target)) slots_named
 
 -- The projection of the symbols that are left
 
-pub record IsMustAnswer (must : Path) (args : List ℕ) (results : List ℕ) (target rows : List Atom) (pair : Pair) : Type 0 where
-  pub fits : FitsProjection (symbol_columns (must_rows must args results target)) (must_rows must args results target)
-  pub was : projected (symbol_columns (must_rows must args results target)) (must_rows must args results target) ≡ gives rows pair
+pub record IsMustAnswer (must : Path) (site : CallSite) (target rows : List Atom) (pair : Pair) : Type 0 where
+  pub fits : FitsProjection (symbol_columns (must_rows must site target)) (must_rows must site target)
+  pub was : projected (symbol_columns (must_rows must site target)) (must_rows must site target) ≡ gives rows pair
 
-pub must_answer : (must : Path) (args : List ℕ) (results : List ℕ) (target : List Atom) → FitsMust must args results target →
+pub must_answer : (must : Path) (site : CallSite) (target : List Atom) → FitsMust must site target →
     (rows : List Atom)
-    (pair : Pair) → must_preimage must args results target ≡ gives rows pair → IsMustAnswer must args results target rows pair
-must_answer must args results target f rows pair e =
-    let plain : List Atom = plain_rows must args results target in
-    let all : List Atom = must_rows must args results target in
-    let a = unless-none (first_wide (must_sums must args results target))
-    (summed (slot_sums must args plain) (λ rs. projected (symbol_columns rs) rs)) rows pair e in
-    let b = unless-none (first_wide (slot_sums must args plain)) (projected (symbol_columns all) all) rows pair a.1 in
-    let numbered = slots_named is_number (λ x l. lt-ltb x (2 ^ 32) (omega (arith, l))) must args results target f.behind.are_slots
+    (pair : Pair) → must_preimage must site target ≡ gives rows pair → IsMustAnswer must site target rows pair
+must_answer must site target f rows pair e =
+    let plain : List Atom = plain_rows must site target in
+    let all : List Atom = must_rows must site target in
+    let a = unless-none (first_wide (must_sums must site target))
+    (summed (slot_sums must site.arguments plain) (λ rs. projected (symbol_columns rs) rs)) rows pair e in
+    let b = unless-none (first_wide (slot_sums must site.arguments plain)) (projected (symbol_columns all) all) rows pair a.1 in
+    let numbered = slots_named is_number (λ x l. lt-ltb x (2 ^ 32) (omega (arith, l))) must site target f.behind.are_slots
     f.numbers.guard f.numbers.entry f.numbers.outcome
     (rows_wider inner_column is_number (λ x h. let l = inner_low x h in lt-ltb x (2 ^ 32) (omega (arith, l))) target f.behind.names) in
-    record { fits = kind_fits (λ x. nat_le first_symbol x) all (sums_are_terms (slot_sums must args plain) numbered b.0); was = b.1 }
+    record {
+      fits = kind_fits (λ x. nat_le first_symbol x) all (sums_are_terms (slot_sums must site.arguments plain) numbered b.0);
+      was = b.1;
+    }

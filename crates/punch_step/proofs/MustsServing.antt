@@ -13,10 +13,10 @@ use Rattle.shadow_elim.specs.Projection.{gives}
 use Rattle.shadow_elim.specs.Questions.{IsMet, IsNever}
 use Rattle.shadow_elim.specs.Sums.{row_sums, rows_of_sums}
 use Rattle.shadow_elim.proofs.Projecting.{gives-rows}
+use Rattle.flow_graph.specs.Calls.{call_edge}
 use Rattle.flow_graph.specs.Columns.{AreAllValues, columns_of, first_entry, first_exit, first_symbol, is_entry_column, is_slot_column, names_only, rows_name_only, valuation_of}
 use Rattle.flow_graph.specs.Linked.{AreGraphs}
 use Rattle.flow_graph.specs.Readings.{reading, term_at}
-use Rattle.flow_graph.specs.declared.graph.Edge.TheVariants.{Call}
 use Rattle.flow_graph.specs.declared.graph.Graph.{Graph}
 use Rattle.flow_graph.proofs.Numbers.{columns_64, none_values}
 use Rattle.summary_form.specs.Answering.{AnswersYes}
@@ -104,7 +104,7 @@ few_entries (Some g) = let w = g.well_formed in omega (arith, w.params_in_slots,
 
 module _ (gs : List Graph) (linked : AreGraphs gs) (g : Graph) (table : List Summary) (holds : AllHold gs table) (m : Model)
     (h : IsMarked gs linked g m) (good : Good gs linked g m) (k : RegionEdge) (live : IsTrue (m.parted.live k)) (c : CallAt g m k)
-    (place : ℕ) (path : Path) (must_at : MustAt table c.proc place c.exit path) where
+    (place : ℕ) (path : Path) (must_at : MustAt table c.site.procedure place c.exit path) where
   abbrev source : List Atom
   source = c.between.source.cube.atoms
 
@@ -114,25 +114,25 @@ module _ (gs : List Graph) (linked : AreGraphs gs) (g : Graph) (table : List Sum
   held : MustHolds (graph_runs gs) (arity_in gs path.proc) path
   held = holds place (Must path) must_at.there
 
-  fits : FitsMust path c.args c.results target
+  fits : FitsMust path c.site target
   fits = fits_must gs linked g table holds m good k live c place path must_at
 
   inner_source : IsTrue (rows_name_only inner_column source)
   inner_source =
       let b = c.between in
-      let at : slice_get g.edges k.edge ≡ Some (Call c.from c.to c.proc c.args c.results) = b.at_edge ∙ ap Some c.is_call in
-      let joined = good.keeps.connected k live (Call c.from c.to c.proc c.args c.results) at b.source b.target b.at_source b.at_target in
-      let apart = ((g.well_formed.are_edges k.edge (Call c.from c.to c.proc c.args c.results) at).leaves c.from refl).1 in
+      let at : slice_get g.edges k.edge ≡ Some (call_edge c.from c.to c.site) = b.at_edge ∙ ap Some c.is_call in
+      let joined = good.keeps.connected k live (call_edge c.from c.to c.site) at b.source b.target b.at_source b.at_target in
+      let apart = ((g.well_formed.are_edges k.edge (call_edge c.from c.to c.site) at).leaves c.from refl).1 in
       names_same (node_column g.exit b.source.node) inner_column source (inner_at b.source.node (λ n. apart (sym joined.0 ∙ n)))
       (fit_names (node_column g.exit b.source.node) source (good.keeps.fit k.from b.source b.at_source))
     where
       inner_at : (node : ℕ) → (node ≡ g.exit → ⊥) → (x : ℕ) → node_column g.exit node x ≡ inner_column x
       inner_at node n x = rw (ne_eqb node g.exit n) refl
 
-  few : length c.args < first_entry + 1
+  few : length c.site.arguments < first_entry + 1
   few = omega (arith, fits.behind.many, held.entry_terms, few_entries (slice_get gs path.proc))
 
-  fits_here : FitsCall c.args c.results source target
+  fits_here : FitsCall c.site source target
   fits_here = record {
     are_slots = fits.behind.are_slots;
     results_low = fits.behind.results_low;
@@ -150,13 +150,13 @@ module _ (gs : List Graph) (linked : AreGraphs gs) (g : Graph) (table : List Sum
   outcome_values (kind.Fail id) d called ins [] e run = none_values
   outcome_values (kind.Fail id) d called ins (z ∷ values) e run = absurd (let no : suc (length values) ≡ 0 = e in cc)
 
-  is_called : (q : Query) (rows : List Atom) → asked c.exit c.args c.results source target ≡ gives rows None →
+  is_called : (q : Query) (rows : List Atom) → asked c.exit c.site source target ≡ gives rows None →
       q.start.atoms ≡ start_of rows → q.end.atoms ≡ end_of rows → (y : AnswersYes q path) →
-      IsCalled c.exit c.args c.results source target (values_of y.at path.entry) (values_of y.at path.outcome)
+      IsCalled c.exit c.site source target (values_of y.at path.entry) (values_of y.at path.outcome)
   is_called q rows is start end y =
       let run = held.gives_runs y.at y.values y.guarded in
       let v : Valuation = valuation_of (values_of y.at path.entry) (values_of y.at path.outcome) in
-      asked_exact c.exit c.args c.results source target fits_here rows None is refl (values_of y.at path.entry)
+      asked_exact c.exit c.site source target fits_here rows None is refl (values_of y.at path.entry)
       (values_of y.at path.outcome)
       run.1.values
       (outcome_values path.exit run.0 (values_of y.at path.entry) (values_of y.at path.inputs) (values_of y.at path.outcome)
@@ -166,23 +166,24 @@ module _ (gs : List Graph) (linked : AreGraphs gs) (g : Graph) (table : List Sum
       (subst (λ (xs : List Atom). HoldsAll v (q.start.atoms ++ xs)) end y.met)))
 
   -- so something in the source meets the preimage
-  in_source : (q : Query) (rows : List Atom) → asked c.exit c.args c.results source target ≡ gives rows None →
+  in_source : (q : Query) (rows : List Atom) → asked c.exit c.site source target ≡ gives rows None →
       q.start.atoms ≡ start_of rows → q.end.atoms ≡ end_of rows → AnswersYes q path → (pre : List Atom) →
-      must_preimage path c.args c.results target ≡ gives pre None → HasPoint (source ++ pre)
+      must_preimage path c.site target ≡ gives pre None → HasPoint (source ++ pre)
   in_source q rows is start end y pre exact =
       let w = is_called q rows is start end y in
-      let leads : Leads path c.args c.results target w.state w.entry = record {
+      let leads : Leads path c.site target w.state w.entry = record {
         symbols = y.at;
         bits = y.values;
         guard = y.guarded;
         passes = sym w.passes;
-        into = subst (λ (x : ExitKind). LiesBehind x c.results w.state w.entry (values_of y.at path.outcome) target) (sym must_at.of_exit)
+        into = subst (λ (x : ExitKind). LiesBehind x c.site.results w.state w.entry (values_of y.at path.outcome) target)
+            (sym must_at.of_exit)
             w.into;
       } in (
         columns_of w.state w.entry [],
         columns_64 w.state w.entry [] w.are_values w.entry_values none_values,
         holds_append (columns_of w.state w.entry []) source pre w.from
-            (must_holds path c.args c.results target fits pre None exact w.state w.entry w.are_values w.entry_values leads),
+            (must_holds path c.site target fits pre None exact w.state w.entry w.are_values w.entry_values leads),
       )
 
   -- The must serves
@@ -200,8 +201,8 @@ module _ (gs : List Graph) (linked : AreGraphs gs) (g : Graph) (table : List Sum
       (terms_read w.trail n (source ++ pre) (rows_named_append inner_column source pre inner_source names) read)
 
   pub must_serves : (w : StandsAt gs g m k) → TraceNamesOwn w.trail → NamesTerms w.trail → (q : Query) (rows : List Atom) →
-      asked c.exit c.args c.results source target ≡ gives rows None → q.start.atoms ≡ start_of rows → q.end.atoms ≡ end_of rows →
-      AnswersYes q path → (pre : List Atom) → must_preimage path c.args c.results target ≡ gives pre None →
+      asked c.exit c.site source target ≡ gives rows None → q.start.atoms ≡ start_of rows → q.end.atoms ≡ end_of rows →
+      AnswersYes q path → (pre : List Atom) → must_preimage path c.site target ≡ gives pre None →
       ¬ ServesNeither m.query (w.trail ∷ []) source (call_by c path)
   must_serves w own n q rows is start end y pre exact = λ s. by_part s.not_split.pre (same s) s.not_split.fails (parted s) where
     Neither : Type 0
@@ -228,5 +229,5 @@ module _ (gs : List Graph) (linked : AreGraphs gs) (g : Graph) (table : List Sum
     by_part other e (inr (inr (inr z))) p = absurd z
     by_part other e (inr (inr (inl seen))) p =
         let here = subst (λ (xs : List Atom). IsRead w.trail (source ++ xs) × IsMet (seen_at m.query w.trail (source ++ xs))) e seen in
-        let names = (must_region path c.args c.results target fits pre None exact).names in
+        let names = (must_region path c.site target fits pre None exact).names in
         p.1 (met_point (seen_at m.query w.trail (source ++ pre)) (seen_terms w n pre names here.0) here.1)

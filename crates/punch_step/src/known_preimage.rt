@@ -4,6 +4,7 @@ ghost use Rattle.std.specs.Prelude.{◌≡◌, IfOk, IsTrue};
 ghost use Rattle.punch_step.specs.Memos.{AreAlike, IsComputed};
 
 use c_tree::tree::Slot;
+use flow_graph::calls::CallSite;
 use flow_graph::graph::Slots;
 use linear_formula::error::OutOfMemory;
 use linear_formula::formula::Cube;
@@ -39,7 +40,11 @@ impl Model for KnownPreimage {
 
     ghost view = { λ k. k.computed };
 
-    ghost invariant = { λ k. IsComputed k.must k.args k.results k.target.atoms k.computed };
+    ghost invariant = { λ k. IsComputed k.must (record {
+      procedure = k.must.proc;
+      arguments = k.args;
+      results = k.results;
+    }) k.target.atoms k.computed };
 }
 
 /// Whether the musts differ in nothing that a preimage reads.
@@ -54,12 +59,12 @@ fn are_alike(left: &Path, right: &Path) -> bool
 
 impl KnownPreimage {
     /// Whether it is the preimage of the target over the call with these slots by the must.
-    pub(crate) fn is_of(&self, must: &Path, args: &[Slot], results: &[Slot], target: &Cube) -> bool
+    pub(crate) fn is_of(&self, must: &Path, site: &CallSite, target: &Cube) -> bool
         ensures { IsTrue result →
-            IsComputed must.now args.now results.now target.now.atoms self.now }
+            IsComputed must.now site.now target.now.atoms self.now }
     {
-        self.results.as_slice() == results
-            && self.args.as_slice() == args
+        self.results.as_slice() == site.results()
+            && self.args.as_slice() == site.arguments()
             && self.target == *target
             && are_alike(&self.must, must)
     }
@@ -83,18 +88,17 @@ fn copied(alloc: Global, slots: &[Slot]) -> Result<Slots, OutOfMemory>
 pub(crate) fn known_of(
     alloc: Global,
     must: &Path,
-    args: &[Slot],
-    results: &[Slot],
+    site: &CallSite,
     target: &Cube,
     computed: Computed,
 ) -> Result<KnownPreimage, OutOfMemory>
-    requires { IsComputed must.now args.now results.now target.now.atoms computed }
+    requires { IsComputed must.now site.now target.now.atoms computed }
     ensures { IfOk result (λ known. known ≡ computed) }
 {
     let must = must.copy(alloc)?;
     let target = target.copy(alloc)?;
-    let args = copied(alloc, args)?;
-    let results = copied(alloc, results)?;
+    let args = copied(alloc, site.arguments())?;
+    let results = copied(alloc, site.results())?;
     Ok(KnownPreimage {
         must,
         args,

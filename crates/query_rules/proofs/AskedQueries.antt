@@ -50,17 +50,19 @@ pub asks_fitting : (gs : List Graph) (linked : AreGraphs gs) (g : Graph) (m : Mo
     (callee : Graph) × (slice_get gs q.proc ≡ Some callee) × Fits q.proc (arity_in gs q.proc) q
 asks_fitting gs linked g m h k live q a =
     let c = a.call in
-    let t : IsTrue (takes (slice_get gs c.proc) (length c.args) (length c.results)) = linked m.query.proc g h.at k.edge c.from c.to c.proc
-    c.args c.results
+    let t : IsTrue (takes (slice_get gs c.site.procedure) (length c.site.arguments) (length c.site.results)) = linked m.query.proc g h.at
+    k.edge c.from c.to c.site
     (c.between.at_edge ∙ ap Some c.is_call) in
-    let callee = taken (slice_get gs c.proc) (length c.args) (length c.results) t in
-    let arity : with_values (length c.args) (length c.results) ≡ arity_in gs q.proc = same_arity (slice_get gs c.proc) (length c.args)
-    (length c.results) t
+    let callee = taken (slice_get gs c.site.procedure) (length c.site.arguments) (length c.site.results) t in
+    let arity : with_values (length c.site.arguments) (length c.site.results) ≡ arity_in gs q.proc = same_arity
+    (slice_get gs c.site.procedure)
+    (length c.site.arguments)
+    (length c.site.results) t
     ∙ ap (arity_in gs) (sym a.of_procedure) in (
       callee.0,
       ap (slice_get gs) a.of_procedure ∙ callee.1,
-      same_fits c.proc (arity_in gs q.proc) c.exit a.rows q a.of_exit a.start a.end
-          (subst (λ (n : Arity). Fits c.proc n (query_of c.proc c.exit a.rows)) arity
-          (asked_fits c.proc c.exit c.args c.results c.between.source.cube.atoms c.between.target.cube.atoms a.rows a.pair
+      same_fits c.site.procedure (arity_in gs q.proc) c.exit a.rows q a.of_exit a.start a.end
+          (subst (λ (n : Arity). Fits c.site.procedure n (query_of c.site.procedure c.exit a.rows)) arity
+          (asked_fits c.site.procedure c.exit c.site c.between.source.cube.atoms c.between.target.cube.atoms a.rows a.pair
           (fits_call gs linked g m h k live c) a.is_asked)),
     )

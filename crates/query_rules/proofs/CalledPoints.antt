@@ -9,8 +9,9 @@ use Rattle.linear_formula.specs.Formula.{HoldsAll}
 use Rattle.linear_formula.specs.Replaced.{replaced_valuation}
 use Rattle.linear_formula.specs.declared.formula.Atom.{Atom}
 use Rattle.shadow_elim.specs.Projection.{gives}
+use Rattle.flow_graph.specs.Calls.{call_edge}
 use Rattle.flow_graph.specs.declared.graph.Graph.{Graph}
-use Rattle.flow_graph.specs.declared.graph.Edge.TheVariants.{Call, Entry}
+use Rattle.flow_graph.specs.declared.graph.Edge.TheVariants.{Entry}
 use Rattle.flow_graph.specs.Columns.{columns_of}
 use Rattle.flow_graph.specs.Linked.{AreGraphs}
 use Rattle.flow_graph.specs.Readings.{reading}
@@ -57,8 +58,8 @@ behind_call (kind.Fail id) to results s entry vs target h = h
 module _ (gs : List Graph) (linked : AreGraphs gs) (g : Graph) (table : List Summary) (holds : AllHold gs table) (m : Model)
     (h : IsMarked gs linked g m) (good : Good gs linked g m) where
   pub carries_called : (k : RegionEdge) → IsTrue (m.parted.live k) → (c : CallAt g m k) (place : ℕ) (path : Path) →
-      MustAt table c.proc place c.exit path → (n : ℕ) (t : Trace) → MarksWith m n t k.from → TraceNamesOwn t → (pre : List Atom) →
-      must_preimage path c.args c.results c.between.target.cube.atoms ≡ gives pre None → HasPoint (seen_at m.query t pre) →
+      MustAt table c.site.procedure place c.exit path → (n : ℕ) (t : Trace) → MarksWith m n t k.from → TraceNamesOwn t → (pre : List Atom) →
+      must_preimage path c.site c.between.target.cube.atoms ≡ gives pre None → HasPoint (seen_at m.query t pre) →
       HasPoint (seen_at m.query (called_trail t c path) c.between.target.cube.atoms)
   carries_called k live c place path must_at n t w names pre is (v, v64, met) =
       comes_behind gs linked g m h t new pre c.between.target.cube.atoms v step.0 before_call step.1 same_entry step.3 behind
@@ -72,31 +73,31 @@ module _ (gs : List Graph) (linked : AreGraphs gs) (g : Graph) (table : List Sum
       stands : t.node ≡ c.from
       stands = at_source gs g g.well_formed m h.marks h.joined.connected k live c.between n t w c.from (ap source c.is_call)
 
-      at : slice_get g.edges k.edge ≡ Some (Call t.node c.to c.proc c.args c.results)
-      at = c.between.at_edge ∙ ap Some c.is_call ∙ ap (λ x. Some (Call x c.to c.proc c.args c.results)) (sym stands)
+      at : slice_get g.edges k.edge ≡ Some (call_edge t.node c.to c.site)
+      at = c.between.at_edge ∙ ap Some c.is_call ∙ ap (λ x. Some (call_edge x c.to c.site)) (sym stands)
 
-      edge_ok : IsEdge g.nodes g.exit g.fail g.exits g.slots (Call t.node c.to c.proc c.args c.results)
-      edge_ok = g.well_formed.are_edges k.edge (Call t.node c.to c.proc c.args c.results) at
+      edge_ok : IsEdge g.nodes g.exit g.fail g.exits g.slots (call_edge t.node c.to c.site)
+      edge_ok = g.well_formed.are_edges k.edge (call_edge t.node c.to c.site) at
 
       apart : (t.node ≢ g.exit) × (t.node ≢ g.fail)
       apart = let a = edge_ok.leaves t.node refl in (a.1, a.2)
 
-      fits : FitsMust path c.args c.results c.between.target.cube.atoms
+      fits : FitsMust path c.site c.between.target.cube.atoms
       fits = fits_must gs linked g table holds m good k live c place path must_at
 
       before_call : IsBefore m t pre v
       before_call = before gs linked g m h n t k.from w apart pre
-          (must_region path c.args c.results c.between.target.cube.atoms fits pre None is).names v v64 met
+          (must_region path c.site c.between.target.cube.atoms fits pre None is).names v v64 met
 
-      leads : Leads path c.args c.results c.between.target.cube.atoms (slots_at v t.slots) (values_of v t.entry)
-      leads = must_exact path c.args c.results c.between.target.cube.atoms fits pre None is refl (slots_at v t.slots) (values_of v t.entry)
+      leads : Leads path c.site c.between.target.cube.atoms (slots_at v t.slots) (values_of v t.entry)
+      leads = must_exact path c.site c.between.target.cube.atoms fits pre None is refl (slots_at v t.slots) (values_of v t.entry)
           before_call.values before_call.entry before_call.meets
 
       step : (u : Valuation) × Is64 u × ((x : ℕ) → IsTrue (is_symbol_column t.symbols x) → u x ≡ v x) × HoldsAll u new.guard.atoms
-          × (end_place g.exit u new.node new.slots new.failed ≡ after_call c.to c.results (slots_at v t.slots)
+          × (end_place g.exit u new.node new.slots new.failed ≡ after_call c.to c.site.results (slots_at v t.slots)
           (end_with path.exit (values_of leads.symbols path.outcome)))
       step =
-          let s = loses_none_by gs g t k.edge c.to c.proc c.args c.results path is_trail names at v leads.symbols v64 leads.bits
+          let s = loses_none_by gs g t k.edge c.to c.site path is_trail names at v leads.symbols v64 leads.bits
           before_call.guard
           leads.guard leads.passes in
           (s.0, s.1, s.2, s.3, s.4)
@@ -107,10 +108,10 @@ module _ (gs : List Graph) (linked : AreGraphs gs) (g : Graph) (table : List Sum
       at_place : HoldsAll (place_columns (values_of step.0 t.entry) (end_place g.exit step.0 new.node new.slots new.failed))
           c.between.target.cube.atoms
       at_place =
-          let place = after_call c.to c.results (slots_at v t.slots) (end_with path.exit (values_of leads.symbols path.outcome)) in
+          let place = after_call c.to c.site.results (slots_at v t.slots) (end_with path.exit (values_of leads.symbols path.outcome)) in
           subst (λ p. HoldsAll (place_columns (values_of step.0 t.entry) p) c.between.target.cube.atoms) (sym step.4)
           (subst (λ vs. HoldsAll (place_columns vs place) c.between.target.cube.atoms) (sym same_entry)
-          (behind_call path.exit c.to c.results (slots_at v t.slots) (values_of v t.entry) (values_of leads.symbols path.outcome)
+          (behind_call path.exit c.to c.site.results (slots_at v t.slots) (values_of v t.entry) (values_of leads.symbols path.outcome)
           c.between.target.cube.atoms leads.into))
 
       no_exit : (exit : ExitKind) → must_node c.to g.fail exit ≢ g.exit
@@ -125,8 +126,8 @@ module _ (gs : List Graph) (linked : AreGraphs gs) (g : Graph) (table : List Sum
           new.failed (no_exit path.exit)) at_place)
 
   pub calls_parted : (k : RegionEdge) → IsTrue (m.parted.live k) → (c : CallAt g m k) (place : ℕ) (path : Path) →
-      MustAt table c.proc place c.exit path → (w : StandsAt gs g m k) → TraceNamesOwn w.trail → (pre : List Atom) →
-      must_preimage path c.args c.results c.between.target.cube.atoms ≡ gives pre None →
+      MustAt table c.site.procedure place c.exit path → (w : StandsAt gs g m k) → TraceNamesOwn w.trail → (pre : List Atom) →
+      must_preimage path c.site c.between.target.cube.atoms ≡ gives pre None →
       ¬ HasPoint (seen_at m.query (called_trail w.trail c path) c.between.target.cube.atoms) →
       (pre ≢ []) × (¬ HasPoint (seen_at m.query w.trail (c.between.source.cube.atoms ++ pre)))
   calls_parted k live c place path must_at w names pre is never =
@@ -138,5 +139,5 @@ module _ (gs : List Graph) (linked : AreGraphs gs) (g : Graph) (table : List Sum
       inside_edge : ¬ (k.edge ≡ 0)
       inside_edge e = other (same_Some _ _ (sym (entry_edge g.params g.edges g.well_formed.begins) ∙ ap (slice_get g.edges) (sym e)
           ∙ c.between.at_edge ∙ ap Some c.is_call)) where
-            other : Entry (first_node g.edges) g.params ≡ Call c.from c.to c.proc c.args c.results → ⊥
+            other : Entry (first_node g.edges) g.params ≡ call_edge c.from c.to c.site → ⊥
             other x = cc

@@ -8,6 +8,7 @@ use borrow.Author.Tests.{eqb-true, eqb-false, eq-eqb, ne_eqb, not-true, not-fals
 use Rattle.linear_formula.specs.LinearSum.{LinearSum, Valuation, Is64, valuation, value_of}
 use Rattle.linear_formula.specs.Formula.{HoldsAll}
 use Rattle.linear_formula.proofs.Limits.{both}
+use Rattle.flow_graph.specs.Calls.{call_edge}
 use Rattle.flow_graph.specs.declared.graph.Graph.{Graph}
 use Rattle.flow_graph.specs.declared.graph.Edge.{Edge}
 use Rattle.flow_graph.specs.declared.graph.Edge.TheVariants.{Entry, Assign, Guard, Input, Pick, Call, Assert, Return}
@@ -314,7 +315,7 @@ module _ (gs : List Graph) (g : Graph) (ok : IsGraph g.nodes g.exit g.fail g.par
   -- Calls
   pub extend_called : AreGraphs gs → slice_get gs m.query.proc ≡ Some g → (table : List Summary) → AllHold gs table → (k : RegionEdge) →
       IsTrue (m.parted.live k) → (n place : ℕ) (point : Point) → (l : ExtendsCall g table m k n place point) →
-      KeepsMarks gs g m.query (m.trails ++ extended_must l.trail l.call.to g.fail l.call.args l.call.results l.path ∷ [])
+      KeepsMarks gs g m.query (m.trails ++ extended_must l.trail l.call.to g.fail l.call.site l.path ∷ [])
       (m.marks ++ record { trail = length m.trails; region = k.to; point = point } ∷ []) m.parted.regions
   extend_called linked at table musts k live n place point l =
       marks_more gs g m.query m.trails m.marks m.parted.regions (new ∷ [])
@@ -328,17 +329,18 @@ module _ (gs : List Graph) (g : Graph) (ok : IsGraph g.nodes g.exit g.fail g.par
         same_node = node;
         values = l.comes.values;
         seen = l.comes.met;
-      })) (λ r t y. read_at k b new there (wide_behind (must_sums l.trail l.call.args l.path) (row_sums (reading new.slots new.entry)
+      })) (λ r t y. read_at k b new there (wide_behind (must_sums l.trail l.call.site.arguments l.path) (row_sums
+      (reading new.slots new.entry)
       b.target.cube.atoms) l.comes.decided) r t y) h
     where
       b : Between g m k
       b = l.call.between
 
-      call_at : slice_get g.edges k.edge ≡ Some (Call l.call.from l.call.to l.call.proc l.call.args l.call.results)
+      call_at : slice_get g.edges k.edge ≡ Some (call_edge l.call.from l.call.to l.call.site)
       call_at = l.call.between.at_edge ∙ ap Some l.call.is_call
 
-      call_ok : IsEdge g.nodes g.exit g.fail g.exits g.slots (Call l.call.from l.call.to l.call.proc l.call.args l.call.results)
-      call_ok = ok.are_edges k.edge (Call l.call.from l.call.to l.call.proc l.call.args l.call.results) call_at
+      call_ok : IsEdge g.nodes g.exit g.fail g.exits g.slots (call_edge l.call.from l.call.to l.call.site)
+      call_ok = ok.are_edges k.edge (call_edge l.call.from l.call.to l.call.site) call_at
 
       held : MustHolds (graph_runs gs) (arity_in gs l.path.proc) l.path
       held = musts place (Must l.path) l.must_at.there
@@ -349,24 +351,23 @@ module _ (gs : List Graph) (g : Graph) (ok : IsGraph g.nodes g.exit g.fail g.par
       stands : l.trail.node ≡ l.call.from
       stands = at_source k live l.call.between n l.trail l.marks l.call.from (ap source l.call.is_call)
 
-      count : length l.call.args ≡ length l.path.entry
+      count : length l.call.site.arguments ≡ length l.path.entry
       count =
-          takes_entries (slice_get gs l.call.proc) (length l.call.args) (length l.call.results)
-          (linked m.query.proc g at k.edge l.call.from l.call.to l.call.proc
-          l.call.args l.call.results call_at)
+          takes_entries (slice_get gs l.call.site.procedure) (length l.call.site.arguments) (length l.call.site.results)
+          (linked m.query.proc g at k.edge l.call.from l.call.to l.call.site call_at)
           ∙ ap (λ p. (arity_in gs p).entries) (sym l.must_at.of_procedure) ∙ sym held.entry_terms
 
       new : Trace
-      new = extended_must l.trail l.call.to g.fail l.call.args l.call.results l.path
+      new = extended_must l.trail l.call.to g.fail l.call.site l.path
 
-      is_trail : IsTrail gs g (extended_must l.trail l.call.to g.fail l.call.args l.call.results l.path)
-      is_trail = extended_must_trail gs g ok l.trail (h.are_trails n l.trail l.marks.0).0 k.edge l.call.from l.call.to l.call.proc
-          l.call.args l.call.results call_at (sym stands) l.path gives l.must_at.of_procedure count
+      is_trail : IsTrail gs g (extended_must l.trail l.call.to g.fail l.call.site l.path)
+      is_trail = extended_must_trail gs g ok l.trail (h.are_trails n l.trail l.marks.0).0 k.edge l.call.from l.call.to l.call.site call_at
+          (sym stands) l.path gives l.must_at.of_procedure count
 
       kind_of : (id : ℕ) → l.call.exit ≡ kind.Fail id → m.query.exit ≡ kind.Fail id
       kind_of id e = call_fails g.fail m.query.exit l.call.between.target.node l.call.exit l.call.is_kind id e
 
-      fails_as : FailsAsAsked m.query.exit (extended_must l.trail l.call.to g.fail l.call.args l.call.results l.path)
+      fails_as : FailsAsAsked m.query.exit (extended_must l.trail l.call.to g.fail l.call.site l.path)
       fails_as = fails_must m.query.exit l.trail l.path.exit (λ id e. kind_of id (sym l.must_at.of_exit ∙ e))
           (h.are_trails n l.trail l.marks.0).1
 
@@ -378,7 +379,7 @@ module _ (gs : List Graph) (g : Graph) (ok : IsGraph g.nodes g.exit g.fail g.par
       there = subst (λ j. slice_get (m.trails ++ new ∷ []) j ≡ Some new) (let z : length m.trails + 0 ≡ length m.trails = omega arith in z)
           (get_right m.trails 0 (new ∷ []) new refl)
 
-      leads_to : IsTrue (leads g.fail (Call l.call.from l.call.to l.call.proc l.call.args l.call.results) l.call.between.target.node)
+      leads_to : IsTrue (leads g.fail (call_edge l.call.from l.call.to l.call.site) l.call.between.target.node)
       leads_to = subst (λ e. IsTrue (leads g.fail e l.call.between.target.node)) l.call.is_call
           (joined k live l.call.between.edge l.call.between.at_edge l.call.between.source l.call.between.target l.call.between.at_source
           l.call.between.at_target).1

@@ -9,6 +9,7 @@ use Rattle.linear_formula.specs.LinearSum.{Valuation, Is64}
 use Rattle.linear_formula.specs.Formula.{HoldsAll}
 use Rattle.linear_formula.specs.declared.formula.Atom.{Atom}
 use Rattle.linear_formula.proofs.Limits.{both, both_in}
+use Rattle.flow_graph.specs.Calls.{CallSite, call_edge}
 use Rattle.flow_graph.specs.declared.graph.Graph.{Graph}
 use Rattle.flow_graph.specs.declared.graph.Edge.{Edge}
 use Rattle.flow_graph.specs.declared.graph.Edge.TheVariants.{Entry, Assign, Guard, Input, Pick, Call, Assert, Return}
@@ -103,60 +104,70 @@ takes_exits (Some g) n m t = sym (eqb-true g.exits m (both (g.params == n) (g.ex
 
 -- as many arguments as the called procedure has parameters
 fits_call : (gs : List Graph) → AreGraphs gs → (p : ℕ) (g : Graph) → slice_get gs p ≡ Some g →
-    (i from to proc : ℕ) (args results : List ℕ) →
-    slice_get g.edges i ≡ Some (Call from to proc args results) → (s : State) → length (map s args) ≡ (arity_of (slice_get gs proc)).entries
-fits_call gs linked p g at i from to proc args results e s =
-    rw length-map (takes_entries (slice_get gs proc) (length args) (length results) (linked p g at i from to proc args results e))
+    (i from to : ℕ) (site : CallSite) →
+    slice_get g.edges i ≡ Some (call_edge from to site) → (s : State) → length (map s site.arguments)
+    ≡ (arity_of (slice_get gs site.procedure)).entries
+fits_call gs linked p g at i from to site e s =
+    rw length-map (takes_entries (slice_get gs site.procedure) (length site.arguments) (length site.results)
+    (linked p g at i from to site e))
 
 module _ (gs : List Graph) (linked : AreGraphs gs) (g : Graph) (q : Query) (at : slice_get gs q.proc ≡ Some g)
     (ok : IsGraph g.nodes g.exit g.fail g.params g.exits g.slots g.edges) where
   -- the run of a call that the asked query asks for
-  called : (d i from to proc : ℕ) (args results : List ℕ) → slice_get g.edges i ≡ Some (Call from to proc args results) → (asked : Query) →
-      asked.proc ≡ proc → NotMayWithin (graph_runs gs) d asked → (s : State) → AreValues s → (ins rest values : List ℤ) (end : End) →
-      end ≡ end_with asked.exit values → GraphRun gs d proc (map s args) ins rest end →
-      Meets asked (map s args) (read_with asked.exit values) →
+  called : (d i from to : ℕ) (site : CallSite) → slice_get g.edges i ≡ Some (call_edge from to site) → (asked : Query) →
+      asked.proc ≡ site.procedure → NotMayWithin (graph_runs gs) d asked → (s : State) → AreValues s → (ins rest values : List ℤ)
+      (end : End) →
+      end ≡ end_with asked.exit values → GraphRun gs d site.procedure (map s site.arguments) ins rest end →
+      Meets asked (map s site.arguments) (read_with asked.exit values) →
       ⊥
-  called d i from to proc args results e asked same none s v ins rest values end k run meets =
-      let alone = exact (λ x r. GraphRun gs d proc (map s args) x r end) ins rest (run_cut gs d proc (map s args) ins rest end run) in
-      let exactly : GraphRun gs d proc (map s args) alone.0 [] (end_with asked.exit values) = subst
-      (λ x. GraphRun gs d proc (map s args) alone.0 [] x) k alone.2 in
-      let there : graph_runs gs d proc (map s args) alone.0 (end_with asked.exit values) = record {
+  called d i from to site e asked same none s v ins rest values end k run meets =
+      let alone = exact (λ x r. GraphRun gs d site.procedure (map s site.arguments) x r end) ins rest
+      (run_cut gs d site.procedure (map s site.arguments) ins rest end run) in
+      let exactly : GraphRun gs d site.procedure (map s site.arguments) alone.0 [] (end_with asked.exit values) = subst
+      (λ x. GraphRun gs d site.procedure (map s site.arguments) alone.0 [] x) k alone.2 in
+      let there : graph_runs gs d site.procedure (map s site.arguments) alone.0 (end_with asked.exit values) = record {
         count = fits_call gs linked q.proc g at
-            i from to proc args results e s;
-        values = values_map s v args;
+            i from to site e s;
+        values = values_map s v site.arguments;
         run = exactly;
       } in
-      none (map s args) alone.0 values (subst (λ x. graph_runs gs d x (map s args) alone.0 (end_with asked.exit values)) (sym same) there)
+      none (map s site.arguments) alone.0 values (subst (λ x. graph_runs gs d x (map s site.arguments) alone.0 (end_with asked.exit values))
+      (sym same) there)
       meets
 
   -- where the asked query has no run of the calls' depth, no call goes from the source into the target
-  idle_step : (d i from to proc : ℕ) (args results : List ℕ) → slice_get g.edges i ≡ Some (Call from to proc args results) →
+  idle_step : (d i from to : ℕ) (site : CallSite) → slice_get g.edges i ≡ Some (call_edge from to site) →
       (source target : List Atom) (node : ℕ) (exit : ExitKind) → call_exit g.fail q.exit node ≡ Some exit → (asked : Query) →
-      MeetsCalls proc args results exit source target asked → NotMayWithin (graph_runs gs) d asked → (entry : List ℤ) → AreAllValues entry →
+      MeetsCalls site exit source target asked → NotMayWithin (graph_runs gs) d asked → (entry : List ℤ) → AreAllValues entry →
       (s : State) → AreValues s → HoldsAll (columns_of s entry []) source → (ins rest : List ℤ) (b : Place) → spot_node g (standing b) <
       g.nodes → Wanted q.exit (standing b) → node ≡ spot_node g (standing b) → HoldsAll (place_columns entry b) target → (end : End) →
-      b ≡ after_call to results s end → GraphRun gs d proc (map s args) ins rest end → ⊥
-  idle_step d i from to proc args results e source target node exit ex asked ask none entry ve s vs hs ins rest b there wanted nb hb
+      b ≡ after_call to site.results s end → GraphRun gs d site.procedure (map s site.arguments) ins rest end → ⊥
+  idle_step d i from to site e source target node exit ex asked ask none entry ve s vs hs ins rest b there wanted nb hb
       (came values) eb run =
       ⊎_elim returns (λ h. absurd (apart (sym (ap (λ x. spot_node g (standing x)) eb) ∙ sym nb ∙ h.0)))
       (exit_cases g.fail q.exit node exit ex)
     where
       apart : to ≡ g.fail → ⊥
-      apart = eqb-false to g.fail (sym (ok.are_edges i (Call from to proc args results) e).to_fail)
+      apart = eqb-false to g.fail (sym (ok.are_edges i (call_edge from to site) e).to_fail)
 
       returns : ((node ≡ g.fail → ⊥) × (exit ≡ kind.Return)) → ⊥
       returns h =
           let kind_of : asked.exit ≡ kind.Return = ask.of_exit ∙ h.1 in
-          let good : AreAllValues values = run_values gs d proc (map s args) ins rest (came values) (values_map s vs args) run in
-          let lies : LiesBehind kind.Return results s entry values target = subst (λ x. HoldsAll (place_columns entry x) target) eb hb in
-          let meets = ask.meets s entry values vs ve good hs (subst (λ x. LiesBehind x results s entry values target) (sym h.1) lies) in
-          called d i from to proc args results e asked ask.of_procedure none s vs ins rest values (came values)
-          (ap (λ x. end_with x values) (sym kind_of)) run (subst (λ x. Meets asked (map s args) (read_with x values)) (sym kind_of) meets)
-  idle_step d i from to proc args results e source target node exit ex asked ask none entry ve s vs hs ins rest b there wanted nb hb stopped
+          let good : AreAllValues values = run_values gs d site.procedure (map s site.arguments) ins rest (came values)
+          (values_map s vs site.arguments) run in
+          let lies : LiesBehind kind.Return site.results s entry values target = subst (λ x. HoldsAll (place_columns entry x) target) eb hb
+          in
+          let meets = ask.meets s entry values vs ve good hs (subst (λ x. LiesBehind x site.results s entry values target) (sym h.1) lies)
+          in
+          called d i from to site e asked ask.of_procedure none s vs ins rest values (came values)
+          (ap (λ x. end_with x values) (sym kind_of)) run (subst (λ x. Meets asked (map s site.arguments) (read_with x values))
+          (sym kind_of)
+          meets)
+  idle_step d i from to site e source target node exit ex asked ask none entry ve s vs hs ins rest b there wanted nb hb stopped
       eb
       run =
       omega (arith, there, ap (λ x. spot_node g (standing x)) eb)
-  idle_step d i from to proc args results e source target node exit ex asked ask none entry ve s vs hs ins rest b there wanted nb hb
+  idle_step d i from to site e source target node exit ex asked ask none entry ve s vs hs ins rest b there wanted nb hb
       (failed id)
       eb run =
       ⊎_elim (λ h. h.0 (nb ∙ ap (λ x. spot_node g (standing x)) eb)) fails (exit_cases g.fail q.exit node exit ex)
@@ -165,27 +176,29 @@ module _ (gs : List Graph) (linked : AreGraphs gs) (g : Graph) (q : Query) (at :
       fails h =
           let same : id ≡ h.1 = subst (λ x. Wanted x (standing (failing id s))) h.2 (subst (λ x. Wanted q.exit (standing x)) eb wanted) in
           let kind_of : asked.exit ≡ kind.Fail h.1 = ask.of_exit ∙ h.3 in
-          let lies : LiesBehind (kind.Fail h.1) results s entry [] target = subst (λ x. HoldsAll (place_columns entry x) target) eb hb in
-          let meets = ask.meets s entry [] vs ve none_values hs (subst (λ x. LiesBehind x results s entry [] target) (sym h.3) lies) in
-          called d i from to proc args results e asked ask.of_procedure none s vs ins rest [] (failed id)
-          (ap failed same ∙ ap (λ x. end_with x []) (sym kind_of)) run (subst (λ x. Meets asked (map s args) (read_with x [])) (sym kind_of)
+          let lies : LiesBehind (kind.Fail h.1) site.results s entry [] target = subst (λ x. HoldsAll (place_columns entry x) target) eb hb
+          in
+          let meets = ask.meets s entry [] vs ve none_values hs (subst (λ x. LiesBehind x site.results s entry [] target) (sym h.3) lies) in
+          called d i from to site e asked ask.of_procedure none s vs ins rest [] (failed id)
+          (ap failed same ∙ ap (λ x. end_with x []) (sym kind_of)) run (subst (λ x. Meets asked (map s site.arguments) (read_with x []))
+          (sym kind_of)
           meets)
 
-  pub idle_call : (p : Parted) (k : RegionEdge) (from to proc : ℕ) (args results : List ℕ) → slice_get g.edges k.edge
-      ≡ Some (Call from to proc args results) → (r t : Region) → slice_get p.regions k.from ≡ Some r → slice_get p.regions k.to ≡ Some t →
-      (exit : ExitKind) → call_exit g.fail q.exit t.node ≡ Some exit → (asked : Query) → MeetsCalls proc args results exit r.cube.atoms
+  pub idle_call : (p : Parted) (k : RegionEdge) (from to : ℕ) (site : CallSite) → slice_get g.edges k.edge
+      ≡ Some (call_edge from to site) → (r t : Region) → slice_get p.regions k.from ≡ Some r → slice_get p.regions k.to ≡ Some t →
+      (exit : ExitKind) → call_exit g.fail q.exit t.node ≡ Some exit → (asked : Query) → MeetsCalls site exit r.cube.atoms
       t.cube.atoms asked → (d : ℕ) → NotMayWithin (graph_runs gs) d asked → IsIdle (GraphRun gs d) g q p k
-  idle_call p k from to proc args results e r t er et exit ex asked ask d none entry outside outside ox oy go sx sy = absurd go
-  idle_call p k from to proc args results e r t er et exit ex asked ask d none entry outside (standing b) ox oy go sx sy =
+  idle_call p k from to site e r t er et exit ex asked ask d none entry outside outside ox oy go sx sy = absurd go
+  idle_call p k from to site e r t er et exit ex asked ask d none entry outside (standing b) ox oy go sx sy =
       let i : ℕ = k.edge in
-      let same : Call from to proc args results ≡ Entry go.0 go.1 = same_Some _ _
+      let same : call_edge from to site ≡ Entry go.0 go.1 = same_Some _ _
       (sym e ∙ subst (λ j. slice_get g.edges j ≡ Some (Entry go.0 go.1)) (sym go.2) go.3) in
       absurd cc
-  idle_call p k from to proc args results e r t er et exit ex asked ask d none entry (standing (inside n s)) outside ox oy go sx sy = absurd
+  idle_call p k from to site e r t er et exit ex asked ask d none entry (standing (inside n s)) outside ox oy go sx sy = absurd
       go
-  idle_call p k from to proc args results e r t er et exit ex asked ask d none entry (standing (inside n s)) (standing b) ox oy go sx sy =
-      let same : go.0 ≡ Call from to proc args results = same_Some _ _ (sym go.3 ∙ e) in
-      let st : Step (GraphRun gs d) (Call from to proc args results) s go.1 b go.2 = subst (λ x. Step (GraphRun gs d) x s go.1 b go.2) same
+  idle_call p k from to site e r t er et exit ex asked ask d none entry (standing (inside n s)) (standing b) ox oy go sx sy =
+      let same : go.0 ≡ call_edge from to site = same_Some _ _ (sym go.3 ∙ e) in
+      let st : Step (GraphRun gs d) (call_edge from to site) s go.1 b go.2 = subst (λ x. Step (GraphRun gs d) x s go.1 b go.2) same
       go.5
       in
       let same_r : sx.region ≡ r = same_Some _ _ (sym sx.there ∙ er) in
@@ -195,11 +208,11 @@ module _ (gs : List Graph) (linked : AreGraphs gs) (g : Graph) (q : Query) (at :
       let hb : HoldsAll (place_columns entry b) t.cube.atoms = subst (λ (x : Region). HoldsAll (place_columns entry b) x.cube.atoms) same_t
       sy.lies.meets in
       let nb : t.node ≡ spot_node g (standing b) = subst (λ (x : Region). x.node ≡ spot_node g (standing b)) same_t sy.lies.stands in
-      idle_step d k.edge from to proc args results e r.cube.atoms t.cube.atoms t.node exit ex asked ask none entry ox.arguments.values s
+      idle_step d k.edge from to site e r.cube.atoms t.cube.atoms t.node exit ex asked ask none entry ox.arguments.values s
       ox.valued hs go.1 go.2 b oy.covered.there oy.wanted nb hb st.0 st.2 st.1
-  idle_call p k from to proc args results e r t er et exit ex asked ask d none entry (standing (left vs)) y ox oy go sx sy = absurd go
-  idle_call p k from to proc args results e r t er et exit ex asked ask d none entry (standing (failing id s)) y ox oy go sx sy = absurd go
-  idle_call p k from to proc args results e r t er et exit ex asked ask d none entry (standing halted) y ox oy go sx sy = absurd go
+  idle_call p k from to site e r t er et exit ex asked ask d none entry (standing (left vs)) y ox oy go sx sy = absurd go
+  idle_call p k from to site e r t er et exit ex asked ask d none entry (standing (failing id s)) y ox oy go sx sy = absurd go
+  idle_call p k from to site e r t er et exit ex asked ask d none entry (standing halted) y ox oy go sx sy = absurd go
 
 -- Other edges
 no_call : true ≡ false → ⊥

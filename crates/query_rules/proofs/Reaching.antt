@@ -11,6 +11,7 @@ use Rattle.linear_formula.specs.declared.formula.Atom.{Atom}
 use Rattle.linear_formula.proofs.Limits.{both}
 use Rattle.linear_formula.proofs.TermAtoms.{are_terms-append}
 use Rattle.infeasible_cert.specs.declared.certificate.Certificate.{Certificate}
+use Rattle.flow_graph.specs.Calls.{call_edge}
 use Rattle.flow_graph.specs.declared.graph.Graph.{Graph}
 use Rattle.flow_graph.specs.declared.graph.Edge.{Edge}
 use Rattle.flow_graph.specs.declared.graph.Edge.TheVariants.{Entry, Assign, Guard, Input, Pick, Call, Assert, Return}
@@ -219,9 +220,9 @@ module _ (gs : List Graph) (linked : AreGraphs gs) (g : Graph) where
       IsTrue (rows_name_only inner_column c.between.source.cube.atoms)
   inner_source m h k live c =
       let b = c.between in
-      let e : slice_get g.edges k.edge ≡ Some (Call c.from c.to c.proc c.args c.results) = b.at_edge ∙ ap Some c.is_call in
-      let joined = h.keeps.connected k live (Call c.from c.to c.proc c.args c.results) e b.source b.target b.at_source b.at_target in
-      let edge_ok = ok.are_edges k.edge (Call c.from c.to c.proc c.args c.results) e in
+      let e : slice_get g.edges k.edge ≡ Some (call_edge c.from c.to c.site) = b.at_edge ∙ ap Some c.is_call in
+      let joined = h.keeps.connected k live (call_edge c.from c.to c.site) e b.source b.target b.at_source b.at_target in
+      let edge_ok = ok.are_edges k.edge (call_edge c.from c.to c.site) e in
       names_same (node_column g.exit b.source.node) inner_column b.source.cube.atoms
       (inner_at g.exit b.source.node (λ n. (edge_ok.leaves c.from refl).1 (sym joined.0 ∙ n)))
       (fit_names (node_column g.exit b.source.node) b.source.cube.atoms (h.keeps.fit k.from b.source b.at_source))
@@ -230,28 +231,28 @@ module _ (gs : List Graph) (linked : AreGraphs gs) (g : Graph) where
       IsTrue (rows_name_only inner_column c.between.target.cube.atoms)
   inner_target m h k live c =
       let b = c.between in
-      let e : slice_get g.edges k.edge ≡ Some (Call c.from c.to c.proc c.args c.results) = b.at_edge ∙ ap Some c.is_call in
-      let joined = h.keeps.connected k live (Call c.from c.to c.proc c.args c.results) e b.source b.target b.at_source b.at_target in
-      let edge_ok = ok.are_edges k.edge (Call c.from c.to c.proc c.args c.results) e in
+      let e : slice_get g.edges k.edge ≡ Some (call_edge c.from c.to c.site) = b.at_edge ∙ ap Some c.is_call in
+      let joined = h.keeps.connected k live (call_edge c.from c.to c.site) e b.source b.target b.at_source b.at_target in
+      let edge_ok = ok.are_edges k.edge (call_edge c.from c.to c.site) e in
       names_same (node_column g.exit b.target.node) inner_column b.target.cube.atoms
-      (inner_at g.exit b.target.node (leads_exit g ok (Call c.from c.to c.proc c.args c.results) edge_ok refl b.target.node joined.1))
+      (inner_at g.exit b.target.node (leads_exit g ok (call_edge c.from c.to c.site) edge_ok refl b.target.node joined.1))
       (target_names m h k b)
 
   -- the slots of a call
-  call_slots : (m : Model) (k : RegionEdge) (c : CallAt g m k) → IsTrue (list_all (λ x. nat_lt x max_slots) c.results)
-      × IsTrue (list_all (λ x. nat_lt x max_slots) c.args)
-  call_slots m k c = both (list_all (λ x. nat_lt x max_slots) c.results) (list_all (λ x. nat_lt x max_slots) c.args)
-      (slots_of k (Call c.from c.to c.proc c.args c.results) (c.between.at_edge ∙ ap Some c.is_call))
+  call_slots : (m : Model) (k : RegionEdge) (c : CallAt g m k) → IsTrue (list_all (λ x. nat_lt x max_slots) c.site.results)
+      × IsTrue (list_all (λ x. nat_lt x max_slots) c.site.arguments)
+  call_slots m k c = both (list_all (λ x. nat_lt x max_slots) c.site.results) (list_all (λ x. nat_lt x max_slots) c.site.arguments)
+      (slots_of k (call_edge c.from c.to c.site) (c.between.at_edge ∙ ap Some c.is_call))
 
   -- as many arguments as the called procedure has parameters
-  call_many : (m : Model) → Good m → (k : RegionEdge) (c : CallAt g m k) → length c.args ≡ (arity_in gs c.proc).entries
-  call_many m h k c = takes_entries (slice_get gs c.proc) (length c.args) (length c.results)
-      (linked m.query.proc g h.at k.edge c.from c.to c.proc c.args c.results (c.between.at_edge ∙ ap Some c.is_call))
+  call_many : (m : Model) → Good m → (k : RegionEdge) (c : CallAt g m k) → length c.site.arguments ≡ (arity_in gs c.site.procedure).entries
+  call_many m h k c = takes_entries (slice_get gs c.site.procedure) (length c.site.arguments) (length c.site.results)
+      (linked m.query.proc g h.at k.edge c.from c.to c.site (c.between.at_edge ∙ ap Some c.is_call))
 
   -- and as many results as it has exit values
-  call_exits : (m : Model) → Good m → (k : RegionEdge) (c : CallAt g m k) → length c.results ≡ (arity_in gs c.proc).exits
-  call_exits m h k c = takes_exits (slice_get gs c.proc) (length c.args) (length c.results)
-      (linked m.query.proc g h.at k.edge c.from c.to c.proc c.args c.results (c.between.at_edge ∙ ap Some c.is_call))
+  call_exits : (m : Model) → Good m → (k : RegionEdge) (c : CallAt g m k) → length c.site.results ≡ (arity_in gs c.site.procedure).exits
+  call_exits m h k c = takes_exits (slice_get gs c.site.procedure) (length c.site.arguments) (length c.site.results)
+      (linked m.query.proc g h.at k.edge c.from c.to c.site (c.between.at_edge ∙ ap Some c.is_call))
 
   few_exits : (o : Option Graph) → (arity_of o).exits ≤ first_entry
   few_exits None = omega arith
@@ -262,12 +263,12 @@ module _ (gs : List Graph) (linked : AreGraphs gs) (g : Graph) where
   few_entries (Some other) = let w = other.well_formed in omega (arith, w.params_in_slots, w.few_slots)
 
   pub fits_call : (m : Model) → Good m → (k : RegionEdge) → IsTrue (m.parted.live k) → (c : CallAt g m k) →
-      FitsCall c.args c.results c.between.source.cube.atoms c.between.target.cube.atoms
+      FitsCall c.site c.between.source.cube.atoms c.between.target.cube.atoms
   fits_call m h k live c = record {
-    are_slots = slots_below c.args (call_slots m k c).1;
-    results_low = slots_below c.results (call_slots m k c).0;
-    few_results = omega (arith, call_exits m h k c, few_exits (slice_get gs c.proc));
-    few = omega (arith, call_many m h k c, few_entries (slice_get gs c.proc));
+    are_slots = slots_below c.site.arguments (call_slots m k c).1;
+    results_low = slots_below c.site.results (call_slots m k c).0;
+    few_results = omega (arith, call_exits m h k c, few_exits (slice_get gs c.site.procedure));
+    few = omega (arith, call_many m h k c, few_entries (slice_get gs c.site.procedure));
     source_names = inner_source m h k live c;
     target_names = inner_target m h k live c;
   }
@@ -278,9 +279,7 @@ module _ (gs : List Graph) (linked : AreGraphs gs) (g : Graph) where
   asks_of m h k live q a = record {
     from = a.call.from;
     to = a.call.to;
-    proc = a.call.proc;
-    results = a.call.results;
-    args = a.call.args;
+    site = a.call.site;
     call = a.call.between.at_edge ∙ ap Some a.call.is_call;
     source = a.call.between.source;
     target = a.call.between.target;
@@ -292,14 +291,15 @@ module _ (gs : List Graph) (linked : AreGraphs gs) (g : Graph) where
       of_procedure = a.of_procedure;
       of_exit = a.of_exit;
       meets = λ s entry values vs ve vx hs hb. meets s values
-          (asked_holds a.call.exit a.call.args a.call.results a.call.between.source.cube.atoms a.call.between.target.cube.atoms
+          (asked_holds a.call.exit a.call.site a.call.between.source.cube.atoms a.call.between.target.cube.atoms
           (fits_call m h k live a.call) a.rows a.pair a.is_asked s entry values vs ve vx hs hb);
     };
   }
     where
-      meets : (s : State) (values : List ℤ) → HoldsAll (valuation_of (map s a.call.args) values) a.rows → Meets q (map s a.call.args) values
+      meets : (s : State) (values : List ℤ) → HoldsAll (valuation_of (map s a.call.site.arguments) values) a.rows →
+          Meets q (map s a.call.site.arguments) values
       meets s values all =
-          let v : Valuation = valuation_of (map s a.call.args) values in
+          let v : Valuation = valuation_of (map s a.call.site.arguments) values in
           holds_append v q.start.atoms q.end.atoms
           (subst (HoldsAll v) (sym a.start) (holds_filter v (λ x. not (names_exit x)) a.rows all))
           (subst (HoldsAll v) (sym a.end) (holds_filter v names_exit a.rows all))
@@ -389,14 +389,14 @@ module _ (gs : List Graph) (linked : AreGraphs gs) (g : Graph) where
   entry_idle C m h k s e inner atoms entry (standing b) y ox oy go sx sy = absurd (no_entry C g ok entry b y go)
 
   pub fits_must : (table : List Summary) → AllHold gs table → (m : Model) → Good m → (k : RegionEdge) → IsTrue (m.parted.live k) →
-      (c : CallAt g m k) (place : ℕ) (path : Path) → MustAt table c.proc place c.exit path → FitsMust path c.args c.results
+      (c : CallAt g m k) (place : ℕ) (path : Path) → MustAt table c.site.procedure place c.exit path → FitsMust path c.site
       c.between.target.cube.atoms
   fits_must table holds m h k live c place path must_at =
       let held : MustHolds (graph_runs gs) (arity_in gs path.proc) path = holds place (Must path) must_at.there in
       record {
         behind = record {
-          are_slots = slots_below c.args (call_slots m k c).1;
-          results_low = slots_below c.results (call_slots m k c).0;
+          are_slots = slots_below c.site.arguments (call_slots m k c).1;
+          results_low = slots_below c.site.results (call_slots m k c).0;
           many = held.entry_terms ∙ ap (λ p. (arity_in gs p).entries) must_at.of_procedure ∙ sym (call_many m h k c);
           names = inner_target m h k live c;
         };
@@ -408,7 +408,7 @@ module _ (gs : List Graph) (linked : AreGraphs gs) (g : Graph) where
       (proofs : List Certificate) → Good m → IsTrue (m.parted.live k) → SplitsCall g table m k place atoms proofs → IsRegion atoms
   must_rows table holds m k place atoms proofs h live l =
       let c = l.call in
-      must_region l.path c.args c.results c.between.target.cube.atoms (fits_must table holds m h k live c place l.path l.must_at) atoms
+      must_region l.path c.site c.between.target.cube.atoms (fits_must table holds m h k live c place l.path l.must_at) atoms
       l.is_pre.0 l.is_pre.1
 
   call_split_holds : (table : List Summary) → AllHold gs table → (m : Model) (k : RegionEdge) (place : ℕ)

@@ -68,9 +68,7 @@ asks_split g exit regions from atoms lt k q a =
     record {
       from = a.from;
       to = a.to;
-      proc = a.proc;
-      results = a.results;
-      args = a.args;
+      site = a.site;
       call = a.call;
       source = s.0;
       target = t.0;
@@ -82,7 +80,7 @@ asks_split g exit regions from atoms lt k q a =
         of_procedure = a.met.of_procedure;
         of_exit = a.met.of_exit;
         meets = λ st entry values vs ve vx h l. a.met.meets st entry values vs ve vx (s.2.had (columns_of st entry []) h)
-            (lies_smaller a.kind a.results st entry values a.target.cube.atoms t.0.cube.atoms t.2.had l);
+            (lies_smaller a.kind a.site.results st entry values a.target.cube.atoms t.0.cube.atoms t.2.had l);
       };
     }
 
@@ -161,7 +159,7 @@ module _ (gs : List Graph) (linked : AreGraphs gs) (g : Graph) (q : Query) (at :
   -- a call that asks what has no run of the depth
   idle_asked : (p : Parted) (k : RegionEdge) (asked : Query) → Asks g q.exit p.regions k asked → (d : ℕ) → NotMayWithin (graph_runs gs) d
       asked → IsIdle (GraphRun gs d) g q p k
-  idle_asked p k asked a d none = idle_call gs linked g q at ok p k a.from a.to a.proc a.args a.results a.call a.source a.target a.at_source
+  idle_asked p k asked a d none = idle_call gs linked g q at ok p k a.from a.to a.site a.call a.source a.target a.at_source
       a.at_target a.kind a.is_kind asked a.met d none
 
   -- by a not-may of the table

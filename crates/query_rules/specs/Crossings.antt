@@ -13,8 +13,9 @@ use Rattle.shadow_elim.specs.Projection.{Projected, cube_of, gives}
 use Rattle.shadow_elim.specs.Questions.{IsMet, IsNever, is_negatable}
 use Rattle.shadow_elim.specs.Sums.{first_wide, row_sums, total}
 use Rattle.shadow_elim.specs.declared.sum.Sum.{Sum}
+use Rattle.flow_graph.specs.Calls.{call_site, call_edge}
 use Rattle.flow_graph.specs.declared.graph.Edge.{Edge}
-use Rattle.flow_graph.specs.declared.graph.Edge.TheVariants.{Entry, Assign, Input, Pick, Call, Return}
+use Rattle.flow_graph.specs.declared.graph.Edge.TheVariants.{Entry, Assign, Input, Pick, Return}
 use Rattle.flow_graph.specs.declared.graph.Graph.{Graph}
 use Rattle.flow_graph.specs.Readings.{reading, entry_reading, return_reading}
 use Rattle.weakest_pre.specs.Preimage.{preimage, lin_sum, assigned_sums}
@@ -24,7 +25,6 @@ use Rattle.summary_form.specs.declared.path.Path.{Path}
 use Rattle.may_partition.specs.declared.region.RegionEdge.{RegionEdge}
 use Rattle.must_region.specs.Traces.{Trace}
 use Rattle.must_region.specs.Rules.{carried, carried_sums, extended, sums_of}
-use Rattle.call_bridge.specs.Calls.{arguments, results_of}
 use Rattle.call_bridge.specs.Musts.{must_preimage, must_sums, slot_sums, plain_rows, must_rows, symbol_columns}
 use Rattle.query_rules.specs.declared.step.Mark.{Mark}
 use Rattle.query_rules.specs.Steps.{Model, Point}
@@ -106,13 +106,13 @@ must_crossing fail call target path = record {
   target = target;
   carried = λ t. carried t fail call path;
   carrying = λ t. carried_sums t call path;
-  preimage = must_preimage path (arguments call) (results_of call) target;
-  summing = must_sums path (arguments call) (results_of call) target
-      ++ slot_sums path (arguments call)
-      (plain_rows path (arguments call) (results_of call) target);
+  preimage = must_preimage path (call_site call) target;
+  summing = must_sums path (call_site call) target
+      ++ slot_sums path (call_site call).arguments
+      (plain_rows path (call_site call) target);
   eliminating = asks.Eliminate
-      (cube_of (must_rows path (arguments call) (results_of call) target))
-      (symbol_columns (must_rows path (arguments call) (results_of call) target)) ∷ [];
+      (cube_of (must_rows path (call_site call) target))
+      (symbol_columns (must_rows path (call_site call) target)) ∷ [];
   whole = true;
 }
 
@@ -244,7 +244,7 @@ over_plain at = edge_crossing at.between.edge at.between.target.cube.atoms
 
 abbrev pub call_by : {g : Graph} {m : Model} {k : RegionEdge} → CallAt g m k → Path → Crossing
 call_by {g} c path =
-    must_crossing g.fail (Call c.from c.to c.proc c.args c.results) c.between.target.cube.atoms path
+    must_crossing g.fail (call_edge c.from c.to c.site) c.between.target.cube.atoms path
 
 -- the trail carried over the call by a must
 abbrev pub called_trail : {g : Graph} {m : Model} {k : RegionEdge} → Trace → CallAt g m k → Path →

@@ -10,6 +10,7 @@ use Rattle.shadow_elim.specs.RightLimit.{IsRight}
 use Rattle.shadow_elim.specs.Sums.{row_sums, renaming}
 use Rattle.shadow_elim.specs.declared.limit.Kept.{Kept}
 use Rattle.shadow_elim.specs.declared.sum.Sum.{Sum}
+use Rattle.flow_graph.specs.Calls.{CallSite}
 use Rattle.flow_graph.specs.declared.graph.Graph.{Graph}
 use Rattle.summary_form.specs.declared.query.ExitKind.{ExitKind}
 use Rattle.summary_form.specs.declared.query.Query.{Query}
@@ -37,12 +38,12 @@ pub record IsNamed (table : List Summary) (levels : List Query) (q s : Query) : 
 
 -- a call from the source into the target, apart from the musts of the table
 module _ (table : List Summary) (levels : List Query) (Asks : Query → Type 0) (exit : ExitKind)
-    (args results : List ℕ) (source target : List Atom) where
+    (site : CallSite) (source target : List Atom) where
   abbrev pub rows_asked : List Atom
-  rows_asked = call_rows exit args results source target
+  rows_asked = call_rows exit site source target
 
   pub data IsCallQuestion (question : Question) : Type 0 where
-    of_asked_sum : (s : Sum) → Contains (call_sums exit args results source target) s →
+    of_asked_sum : (s : Sum) → Contains (call_sums exit site source target) s →
         question ≡ sum_question s → IsCallQuestion question
     of_asked_elimination :
         question ≡ asks.Eliminate (cube_of rows_asked) (caller_columns rows_asked) →
@@ -62,11 +63,11 @@ pub data IsQuestion (g : Graph) (table : List Summary) (m : Model) (k : RegionEd
       IsAskedAcross m.query (trails_on m k.from) at.between.source.cube.atoms (over_plain at)
       question → IsQuestion g table m k question
   of_call : (call : CallAt g m k) →
-      IsCallQuestion table (levels_known m) (AsksAt g m k) call.exit call.args call.results
+      IsCallQuestion table (levels_known m) (AsksAt g m k) call.exit call.site
       call.between.source.cube.atoms call.between.target.cube.atoms question →
       IsQuestion g table m k question
   of_must : (call : CallAt g m k) (place : ℕ) (path : Path) →
-      MustAt table call.proc place call.exit path →
+      MustAt table call.site.procedure place call.exit path →
       IsAskedAcross m.query (trails_on m k.from) call.between.source.cube.atoms (call_by call path)
       question → IsQuestion g table m k question
 

@@ -7,10 +7,11 @@ use Rattle.infeasible_cert.specs.Refutation.{close, refutation_of}
 use Rattle.infeasible_cert.specs.Right.{IsRightStep, Refutes}
 use Rattle.infeasible_cert.specs.Terms.{HasTerms}
 use Rattle.infeasible_cert.specs.declared.certificate.Certificate.{Certificate}
+use Rattle.flow_graph.specs.Calls.{CallSite, call_edge}
 use Rattle.flow_graph.specs.Linked.{AreGraphs}
 use Rattle.flow_graph.specs.declared.graph.Graph.{Graph}
 use Rattle.flow_graph.specs.declared.graph.Edge.{Edge}
-use Rattle.flow_graph.specs.declared.graph.Edge.TheVariants.{Entry, Return, Call}
+use Rattle.flow_graph.specs.declared.graph.Edge.TheVariants.{Entry, Return}
 use Rattle.flow_graph.specs.Shapes.{is_entry, leads}
 use Rattle.flow_graph.specs.WellFormed.{IsEdge, IsGraph}
 use Rattle.summary_form.specs.Instances.{arity_in}
@@ -80,24 +81,24 @@ returning_graph = record {
   alone = not_back;
 }
 
-no_call : (i from to proc : ℕ) (args results : List ℕ) → slice_get returning_edges i ≡ Some (Call from to proc args results) → ⊥
-no_call zero from to proc args results h = let e : Entry 2 1 ≡ Call from to proc args results = same_Some (Entry 2 1)
-    (Call from to proc args results)
+no_call : (i from to : ℕ) (site : CallSite) → slice_get returning_edges i ≡ Some (call_edge from to site) → ⊥
+no_call zero from to site h = let e : Entry 2 1 ≡ call_edge from to site = same_Some (Entry 2 1)
+    (call_edge from to site)
     h in cc
-no_call (suc zero) from to proc args results h =
-    let e : Return 2 0 (0 ∷ []) ≡ Call from to proc args results = same_Some (Return 2 0 (0 ∷ [])) (Call from to proc args results) h in
+no_call (suc zero) from to site h =
+    let e : Return 2 0 (0 ∷ []) ≡ call_edge from to site = same_Some (Return 2 0 (0 ∷ [])) (call_edge from to site) h in
     cc
-no_call (suc (suc i)) from to proc args results h = none_later i (Call from to proc args results) h
+no_call (suc (suc i)) from to site h = none_later i (call_edge from to site) h
 
 -- no graph of the list calls
 pub one_graph : (gs : List Graph) → AreReturning gs → AreGraphs gs
 one_graph gs h = subst AreGraphs (sym h.1) single where
   single : AreGraphs (h.0 ∷ [])
-  single zero g at i from to proc args results call =
+  single zero g at i from to site call =
       let same : h.0 ≡ g = same_Some h.0 g at in
-      absurd (no_call i from to proc args results (ap (λ es. slice_get es i) (sym h.2.edges) ∙ ap (λ (x : Graph). slice_get x.edges i) same
+      absurd (no_call i from to site (ap (λ es. slice_get es i) (sym h.2.edges) ∙ ap (λ (x : Graph). slice_get x.edges i) same
       ∙ call))
-  single (suc p) g at i from to proc args results call = absurd (none-some g at)
+  single (suc p) g at i from to site call = absurd (none-some g at)
 
 -- The graph by its parts
 

@@ -5,8 +5,8 @@ use Rattle.std.specs.List.{list_all}
 use Rattle.linear_formula.proofs.Limits.{both, not_so as is_false}
 use Rattle.std.proofs.lemmas.Bool.{ltb-true, leb-true}
 use Rattle.std.proofs.lemmas.Bool.Decides.{Decides-eqb, Decides-not}
+use Rattle.flow_graph.specs.Calls.{call_edge}
 use Rattle.flow_graph.specs.declared.graph.Edge.{Edge}
-use Rattle.flow_graph.specs.declared.graph.Edge.TheVariants.{Call}
 use Rattle.flow_graph.specs.declared.graph.Graph.{Graph}
 use Rattle.flow_graph.specs.Linked.{AreGraphs}
 use Rattle.flow_graph.specs.Shapes.{source, target, is_entry, is_assert, is_return, leads}
@@ -104,5 +104,5 @@ graph_by_test nodes params exits slots (entry ∷ rest) h =
 
 -- each graph's calls fit
 pub graphs_by_test : (gs : List Graph) → IsTrue (list_all (λ g. list_all (is_linked gs) g.edges) gs) → AreGraphs gs
-graphs_by_test gs h p g at i from to proc args results call =
-    each (is_linked gs) g.edges (each (λ (x : Graph). list_all (is_linked gs) x.edges) gs h p g at) i (Call from to proc args results) call
+graphs_by_test gs h p g at i from to site call =
+    each (is_linked gs) g.edges (each (λ (x : Graph). list_all (is_linked gs) x.edges) gs h p g at) i (call_edge from to site) call

@@ -89,8 +89,10 @@ call-returns-clause-adds t c =
     let added : c.push.new.self.edges.items ≡ Edges c.args.b.now.next c.push_globals.new.slots.items c.in_ok-results.results =
     c.in_ok-push.ensures.edges ∙ ap (λ to. Edges to c.from_vec.result c.in_ok-results.results) c.node-to.ensures.node
     ∙ ap (λ l. Edges c.args.b.now.next l c.in_ok-results.results) c.from_vec.ensures in
-    call_added c.args.proc vs gs c.args.from c.args.t c.args.b.now c.node-to.new.self old
-    c.push.new.self c.push_globals.new.slots.items c.in_ok-results.results c.in_ok-last.last c.in_slot.result
+    call_added vs gs c.args.from c.args.t c.args.b.now c.node-to.new.self old
+    c.push.new.self
+    (record { procedure = c.args.proc; arguments = c.push_globals.new.slots.items; results = c.in_ok-results.results }) c.in_ok-last.last
+    c.in_slot.result
     c.node-to.ensures.edges c.node-to.ensures.next c.in_ok-last.ensures.adds args c.in_ok-results.ensures added
     c.push.ensures.next (c.in_slot.ensures.node ∙ c.node-to.ensures.node) c.in_slot.ensures.operand c.in_slot.ensures.slot
     c.in_slot.ensures.in_place

@@ -1,6 +1,7 @@
 use Rattle.std.proofs.Common.{◌≡◌, Some, refl, sym, subst, ◌∙◌, ap}
 use Rattle.std.specs.Prelude.{slice_get, IfOk, IfErr}
 use Rattle.linear_formula.specs.declared.formula.Cube.{Cube}
+use Rattle.flow_graph.specs.Calls.{CallSite}
 use Rattle.flow_graph.specs.Shapes.{source}
 use Rattle.flow_graph.proofs.Slots.{edges_name_slots}
 use Rattle.must_region.specs.Traces.{trace_of}
@@ -17,11 +18,12 @@ returns-in-Call-clause-step c = λ stage h.
     c.index-graphs-frame.result c.as_slice.result.now c.index-as_slice-number.result c.index-graphs-frame.is c.as_slice.ensures
     c.index-as_slice-number.is in
     let here = subst (λ x. slice_get c.index-graphs-frame.result.edges c.args.number ≡ Some x) c.in-Call.is k.here in
+    let site : CallSite = record { procedure = c.in-Call.proc; arguments = c.in-Call.args; results = c.in-Call.results } in
     let callee = callee_read c.args.graphs.now c.requires.linked c.args.frame.now.proc c.index-graphs-frame.result k.at c.args.number
     c.in-Call.from
-    c.in-Call.to c.in-Call.proc c.in-Call.args c.in-Call.results here c.index-graphs-proc.result c.index-graphs-proc.is in
+    c.in-Call.to site here c.index-graphs-proc.result c.index-graphs-proc.is in
     call_step c.args.graphs.now c.args.levels.now c.args.frame.now c.in_ok-next.next c.args.symbols c.args.number c.args.node c.in-Call.from
-    c.in-Call.to c.in-Call.proc c.in-Call.args c.in-Call.results c.index-graphs-proc.result c.bare.result stage c.requires.at
+    c.in-Call.to site c.index-graphs-proc.result c.bare.result stage c.requires.at
     c.index-graphs-frame.result k.at here (ap source (sym c.in-Call.is) ∙ k.leaves) callee.0 c.in_ok-next.ensures c.bare.ensures.frame
     c.bare.ensures.rows c.bare.ensures.read c.bare.ensures.symbols h
 
