@@ -137,5 +137,5 @@ module _ (P : PureProgram) (well : IsWellFormed P) (divides : DividesByLiterals 
       let p = found.0 in
       let called = (procedure_bounded P well divides gs graphs literals k p g found.1 found.2).edges i (call_edge from to site) at in
       let sound = (kept P p (well.procedures_well_formed k p found.1)).sound in
-      let able = statements_take P p.slots q called.0 false p.body sound called.3 in
-      graph_takes q called.0 (length args) (length results) (slice_get P.procedures q) refl able.0 able.1 called.1 called.2
+      let able = statements_take P p.slots site.procedure called.0 false p.body sound called.3 in
+      graph_takes site.procedure called.0 (length site.arguments) (length site.results) (slice_get P.procedures site.procedure) refl able.0 able.1 called.1 called.2
