@@ -4,8 +4,8 @@ use Rattle.std.specs.Prelude.{slice_get, IsTrue}
 use Rattle.std.specs.Option.{option_map}
 use Rattle.std.proofs.lemmas.Option.{same_Some, slice_get-map}
 use Rattle.infeasible_cert.specs.Refutation.{Refutation}
+use Rattle.flow_graph.specs.Calls.{call_site}
 use Rattle.flow_graph.specs.declared.graph.Graph.{Graph}
-use Rattle.flow_graph.specs.declared.graph.Edge.TheVariants.{Call}
 use Rattle.summary_form.specs.declared.query.ExitKind.{ExitKind}
 use Rattle.summary_form.specs.declared.query.Query.{Query}
 use Rattle.may_partition.specs.declared.region.Region.{Region}
@@ -23,16 +23,6 @@ use Rattle.bundle_check.proofs.Deciding.{alive, never, same_rows}
 
 -- One query
 
-module _ (f t p f' t' p' : ℕ) (xs rs xs' rs' : List ℕ) (e : Call f t p xs rs ≡ Call f' t' p' xs' rs') where
-  same_proc : p ≡ p'
-  same_proc = cc
-
-  same_args : xs ≡ xs'
-  same_args = cc
-
-  same_results : rs ≡ rs'
-  same_results = cc
-
 pub asked_same : (g : Graph) (exit : ExitKind) (p : Parted) (k : RegionEdge) (a b : HasAsked g exit p k) → asked_query a ≡ asked_query b
 asked_same g exit p k a b =
     let x = a.between in
@@ -41,18 +31,12 @@ asked_same g exit p k a b =
     let source : x.source ≡ y.source = same_Some x.source y.source (sym x.at_source ∙ y.at_source) in
     let target : x.target ≡ y.target = same_Some x.target y.target (sym x.at_target ∙ y.at_target) in
     let call = sym a.is_call ∙ (edge ∙ b.is_call) in
-    let proc : a.site.procedure ≡ b.site.procedure = same_proc a.from a.to a.site.procedure b.from b.to b.site.procedure a.site b.site call
-    in
-    let args : a.site.arguments ≡ b.site.arguments = same_args a.from a.to a.site.procedure b.from b.to b.site.procedure a.site b.site call
-    in
-    let results : a.site.results ≡ b.site.results = same_results a.from a.to a.site.procedure b.from b.to b.site.procedure a.site b.site
-    call
-    in
+    let site : a.site ≡ b.site = ap call_site call in
     let kind : a.kind ≡ b.kind = same_Some a.kind b.kind (sym a.is_kind ∙ ap (λ (r : Region). call_exit g.fail exit r.node) target
     ∙ b.is_kind) in
-    let same : a.rows ≡ b.rows = same_rows a.rows b.rows a.pair b.pair (sym a.is_asked ∙ (λ i. asked (kind i) (args i) (results i)
+    let same : a.rows ≡ b.rows = same_rows a.rows b.rows a.pair b.pair (sym a.is_asked ∙ (λ i. asked (kind i) (site i)
     (source i).cube.atoms (target i).cube.atoms) ∙ b.is_asked) in
-    λ i. query_of (proc i) (kind i) (same i)
+    λ i. query_of (site i).procedure (kind i) (same i)
 
 -- the query of a claim by its number
 pub query_of_claim : (claims : List Claim) (n : ℕ) (x : Claim) → slice_get claims n ≡ Some x →

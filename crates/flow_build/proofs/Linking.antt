@@ -138,4 +138,5 @@ module _ (P : PureProgram) (well : IsWellFormed P) (divides : DividesByLiterals 
       let called = (procedure_bounded P well divides gs graphs literals k p g found.1 found.2).edges i (call_edge from to site) at in
       let sound = (kept P p (well.procedures_well_formed k p found.1)).sound in
       let able = statements_take P p.slots site.procedure called.0 false p.body sound called.3 in
-      graph_takes site.procedure called.0 (length site.arguments) (length site.results) (slice_get P.procedures site.procedure) refl able.0 able.1 called.1 called.2
+      graph_takes site.procedure called.0 (length site.arguments) (length site.results) (slice_get P.procedures site.procedure) refl able.0
+      able.1 called.1 called.2

@@ -341,13 +341,13 @@ pub list_at : {X : Type 0} (xs ys : List X) (i : ℕ) (x y : X) → ys ≡ xs �
     slice_get xs i ≡ Some x
 list_at xs ys i x y same at is = read_at xs i x y (subst (λ zs. slice_get zs i ≡ Some y) same at) is
 
-pub not_call : (e : Edge) → ((from to : ℕ) (site : CallSite) → e ≡ call_edge from to site → ⊥) → is_call e ≡ false
+pub not_call : (e : Edge) → ((from to proc : ℕ) (args results : List ℕ) → e ≡ Call from to proc args results → ⊥) → is_call e ≡ false
 not_call (Entry to params) h = refl
 not_call (Assign from to slot value) h = refl
 not_call (Guard from to rows) h = refl
 not_call (Input from to slot) h = refl
 not_call (Pick from to slot rows) h = refl
-not_call (Call from to proc args results) h = absurd (h from to (record { procedure = proc; arguments = args; results = results }) refl)
+not_call (Call from to proc args results) h = absurd (h from to proc args results refl)
 not_call (Assert from to id rows) h = refl
 not_call (Return from to slots) h = refl
 

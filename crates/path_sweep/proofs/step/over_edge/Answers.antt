@@ -1,5 +1,6 @@
 use Rattle.std.proofs.Common.{◌≡◌, Some, refl, sym, subst, ◌∙◌, ap}
 use Rattle.std.specs.Prelude.{slice_get, IfOk, IfErr}
+use Rattle.std.proofs.lemmas.Option.{slice_get_within}
 use Rattle.linear_formula.specs.declared.formula.Cube.{Cube}
 use Rattle.flow_graph.specs.Calls.{CallSite}
 use Rattle.flow_graph.specs.Shapes.{source}
@@ -9,8 +10,28 @@ use Rattle.shadow_elim.specs.Projection.{IfRefused}
 use Rattle.shadow_elim.specs.RightLimit.{IsRight}
 use Rattle.path_sweep.specs.Guards.{Stage}
 use Rattle.path_sweep.specs.steps.Frames.{IsStage, IsStep, IsWideStep}
-use Rattle.path_sweep.proofs.Adding.{call_step, plain_step, plain_wide, edge_here, not_call, waits_at, running, callee_read, err_is, refused_map}
+use Rattle.path_sweep.proofs.Adding.{call_step, plain_step, plain_wide, edge_here, not_call, waits_at, running, callee_at, callee_read, err_is, refused_map}
 use Rattle.path_sweep.proofs.step.over_edge.Goals as goal
+
+pub bounds-graphs-proc : goal.bounds-graphs-proc
+bounds-graphs-proc c =
+    let k = edge_here c.args.graphs.now c.args.levels.now c.args.frame.now c.args.number c.args.node c.requires.at c.requires.follows
+    c.index-graphs-frame.result c.as_slice.result.now c.index-as_slice-number.result c.index-graphs-frame.is c.as_slice.ensures
+    c.index-as_slice-number.is in
+    let here = subst (λ x. slice_get c.index-graphs-frame.result.edges c.args.number ≡ Some x) c.in-Call.is k.here in
+    let callee = callee_at c.args.graphs.now c.requires.linked c.args.frame.now.proc c.index-graphs-frame.result k.at c.args.number
+    c.in-Call.from c.in-Call.to (record { procedure = c.in-Call.proc; arguments = c.in-Call.args; results = c.in-Call.results }) here in
+    slice_get_within c.args.graphs.now c.in-Call.proc callee.0 callee.1
+
+pub over_call-requires : goal.over_call-requires
+over_call-requires c =
+    let k = edge_here c.args.graphs.now c.args.levels.now c.args.frame.now c.args.number c.args.node c.requires.at c.requires.follows
+    c.index-graphs-frame.result c.as_slice.result.now c.index-as_slice-number.result c.index-graphs-frame.is c.as_slice.ensures
+    c.index-as_slice-number.is in
+    let here = subst (λ x. slice_get c.index-graphs-frame.result.edges c.args.number ≡ Some x) c.in-Call.is k.here in
+    (callee_read c.args.graphs.now c.requires.linked c.args.frame.now.proc c.index-graphs-frame.result k.at c.args.number c.in-Call.from
+    c.in-Call.to (record { procedure = c.in-Call.proc; arguments = c.in-Call.args; results = c.in-Call.results }) here
+    c.index-graphs-proc.result c.index-graphs-proc.is).1
 
 pub returns-in-Call-clause-step : goal.returns-in-Call-clause-step
 returns-in-Call-clause-step c = λ stage h.
