@@ -195,9 +195,9 @@ module _ (gs : List Graph) where
                 record {
                   graph = ap (λ (x : Frame). slice_get gs x.proc) lf ∙ en.at;
                   from = from;
-                  proc = site.procedure;
-                  args = site.arguments;
+                  site = site;
                   call = ap (slice_get en.graph.edges) le ∙ at';
+                  results = refl;
                   slots = ap (λ (x : Frame). x.slots) lf;
                   entry = ap (λ (x : Frame). x.entry) lf;
                 },

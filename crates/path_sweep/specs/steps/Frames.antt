@@ -4,8 +4,9 @@ use Rattle.linear_formula.specs.LinearSum.{LinearSum}
 use Rattle.shadow_elim.specs.declared.limit.Kept.{Kept}
 use Rattle.shadow_elim.specs.Sums.{first_wide, IsFirstWide}
 use Rattle.shadow_elim.specs.declared.sum.Sum.{Sum}
+use Rattle.flow_graph.specs.Calls.{CallSite, call_edge}
 use Rattle.flow_graph.specs.declared.graph.Edge.{Edge}
-use Rattle.flow_graph.specs.declared.graph.Edge.TheVariants.{Call, Assert, Return}
+use Rattle.flow_graph.specs.declared.graph.Edge.TheVariants.{Assert, Return}
 use Rattle.flow_graph.specs.declared.graph.Graph.{Graph}
 use Rattle.must_region.specs.Traces.{Trace}
 use Rattle.must_region.specs.Rules.{set_terms}
@@ -21,9 +22,9 @@ use Rattle.path_sweep.specs.steps.Linking.{Leaves}
 pub record IsWaiting (gs : List Graph) (l : Level) (w : Waiting) : Type 0 where
   pub graph : slice_get gs l.frame.proc ≡ Some w.graph
   pub from : ℕ
-  pub proc : ℕ
-  pub args : List ℕ
-  pub call : slice_get w.graph.edges l.edge ≡ Some (Call from w.to proc args w.results)
+  pub site : CallSite
+  pub call : slice_get w.graph.edges l.edge ≡ Some (call_edge from w.to site)
+  pub results : site.results ≡ w.results
   pub slots : l.frame.slots ≡ w.slots
   pub entry : l.frame.entry ≡ w.entry
 
