@@ -1,17 +1,18 @@
 //! Cubes whose copies share their atoms.
 
-ghost use Rattle.std.specs.Prelude.{◌≡◌, ◌++◌, ◌∷◌, [], IfOk, OnOk, IsTrue};
+ghost use Rattle.std.specs.Prelude.{◌≡◌, ◌++◌, ◌∷◌, [], flat_map, IfOk, OnOk, IsTrue};
 ghost use Rattle.linear_formula.specs.Formula.{are_terms};
 
 use crate::error::OutOfMemory;
 use crate::formula::{Atom, Atoms, Cube};
 use std::alloc::Global;
 use std::marker::Model;
+use std::mem;
 use std::sync::Arc;
 
 /// An atom that its copies share.
 #[derive(Debug, Drop)]
-pub struct SharedAtom {
+struct SharedAtom {
     shared: Arc<Atom>,
 }
 
@@ -23,28 +24,64 @@ impl Model for SharedAtom {
     ghost view = { λ a. a.shared.value };
 }
 
-/// All of the atoms, as a `Cube` has them. A copy takes one pointer for each atom, and no atom
-/// anew.
+/// Atoms in order, which copies share as one.
+#[derive(Debug, Drop)]
+struct Block {
+    shared: Arc<Vec<SharedAtom>>,
+}
+
+impl Model for Block {
+    ghost use Rattle.std.specs.Prelude.{List};
+    ghost use Rattle.linear_formula.specs.declared.formula.Atom.{Atom};
+
+    ghost Value = { List Atom };
+
+    ghost view = { λ b. b.shared.value.items };
+}
+
+/// Full blocks in order, which copies share as one.
+#[derive(Debug, Drop)]
+struct Blocks {
+    shared: Option<Arc<Vec<Block>>>,
+}
+
+impl Model for Blocks {
+    ghost use Rattle.std.specs.Prelude.{List, [], flat_map, unwrap_or, option_map};
+    ghost use Rattle.linear_formula.specs.declared.formula.Atom.{Atom};
+
+    ghost Value = { List Atom };
+
+    ghost view = {
+        λ b. unwrap_or (option_map (λ a. flat_map (λ x. x) a.value.items) b.shared) []
+    };
+}
+
+/// All of the atoms, as a `Cube` has them. A copy takes one pointer for all full blocks and one for
+/// each atom behind them, and no atom anew.
 #[derive(Debug, Drop)]
 pub struct SharedCube {
-    atoms: Vec<SharedAtom>,
+    blocks: Blocks,
+    last: Vec<SharedAtom>,
 }
 
 impl Model for SharedCube {
-    ghost use Rattle.std.specs.Prelude.{IsTrue};
+    ghost use Rattle.std.specs.Prelude.{IsTrue, ◌++◌};
     ghost use Rattle.linear_formula.specs.declared.formula.Cube.{Cube};
     ghost use Rattle.linear_formula.specs.Formula.{are_terms};
 
     ghost Value = { Cube };
 
-    ghost view = { λ c. record { atoms = c.atoms.items } };
+    ghost view = { λ c. record { atoms = c.blocks ++ c.last.items } };
 
-    ghost invariant = { λ c. IsTrue (are_terms c.atoms.items) };
+    ghost invariant = { λ c. IsTrue (are_terms (c.blocks ++ c.last.items)) };
 }
+
+/// How many atoms a block has. With it a cube of some thousand atoms takes the fewest pointers.
+const BLOCK: usize = 64;
 
 impl SharedAtom {
     /// Takes the atom over.
-    pub fn new(alloc: Global, atom: Atom) -> Result<SharedAtom, OutOfMemory>
+    fn new(alloc: Global, atom: Atom) -> Result<SharedAtom, OutOfMemory>
         ensures { IfOk result (λ a. a ≡ atom) }
     {
         let shared = Arc::new(alloc, atom)?;
@@ -52,7 +89,7 @@ impl SharedAtom {
     }
 
     /// The same atom, shared.
-    pub fn copy(&self) -> Result<SharedAtom, OutOfMemory>
+    fn copy(&self) -> Result<SharedAtom, OutOfMemory>
         ensures { IfOk result (λ a. a ≡ self.now) }
     {
         let shared = Arc::try_clone(&self.shared)?;
@@ -60,10 +97,71 @@ impl SharedAtom {
     }
 
     /// What is shared.
-    pub fn atom(&self) -> &Atom
+    fn atom(&self) -> &Atom
         ensures { result.now ≡ self.now }
     {
         &self.shared
+    }
+}
+
+impl Block {
+    /// Takes the atoms over.
+    fn new(alloc: Global, atoms: Vec<SharedAtom>) -> Result<Block, OutOfMemory>
+        ensures { IfOk result (λ b. b ≡ atoms.items) }
+    {
+        let shared = Arc::new(alloc, atoms)?;
+        Ok(Block { shared })
+    }
+
+    /// The same atoms, shared.
+    fn copy(&self) -> Result<Block, OutOfMemory>
+        ensures { IfOk result (λ b. b ≡ self.now) }
+    {
+        let shared = Arc::try_clone(&self.shared)?;
+        Ok(Block { shared })
+    }
+
+    fn as_slice(&self) -> &[SharedAtom]
+        ensures { result.now ≡ self.now }
+    {
+        self.shared.as_slice()
+    }
+}
+
+impl Blocks {
+    /// The blocks, in order.
+    fn as_slice(&self) -> &[Block]
+        ensures { flat_map (λ b. b) result.now ≡ self.now }
+    {
+        match &self.shared {
+            Some(blocks) => blocks.as_slice(),
+            None => &[],
+        }
+    }
+
+    /// The same blocks, shared.
+    fn copy(&self) -> Result<Blocks, OutOfMemory>
+        ensures { IfOk result (λ b. b ≡ self.now) }
+    {
+        let shared = match &self.shared {
+            Some(blocks) => Some(Arc::try_clone(blocks)?),
+            None => None,
+        };
+        Ok(Blocks { shared })
+    }
+
+    /// The blocks with one more.
+    fn with(&self, alloc: Global, block: Block) -> Result<Blocks, OutOfMemory>
+        ensures { IfOk result (λ b. b ≡ self.now ++ block) }
+    {
+        let old = self.as_slice();
+        let mut all = Vec::with_capacity(alloc, old.len() + 1)?;
+        for block in old {
+            all.push(block.copy()?)?;
+        }
+        all.push(block)?;
+        let shared = Some(Arc::new(alloc, all)?);
+        Ok(Blocks { shared })
     }
 }
 
@@ -73,42 +171,46 @@ impl SharedCube {
         ensures { result.atoms ≡ [] }
     {
         SharedCube {
-            atoms: Vec::new(alloc),
+            blocks: Blocks { shared: None },
+            last: Vec::new(alloc),
         }
     }
 
-    /// No atoms, with room for n.
-    fn with_capacity(alloc: Global, n: usize) -> Result<SharedCube, OutOfMemory>
-        ensures { IfOk result (λ c. c.atoms ≡ []) }
-    {
-        let atoms = Vec::with_capacity(alloc, n)?;
-        Ok(SharedCube { atoms })
-    }
-
-    /// Puts an atom at the end. Without memory the cube stays as it was.
-    fn push(&mut self, atom: SharedAtom) -> Result<(), OutOfMemory>
+    /// Puts an atom at the end.
+    fn push(&mut self, alloc: Global, atom: SharedAtom) -> Result<(), OutOfMemory>
         ensures { OnOk result (self.new.atoms ≡ self.old.atoms ++ atom ∷ []) }
     {
         let _ = atom.atom().term.parts();
-        self.atoms.push(atom)?;
+        self.last.push(atom)?;
+        if self.last.len() >= BLOCK {
+            self.close(alloc)?;
+        }
         Ok(())
     }
 
-    /// The atoms, in order.
-    pub fn as_slice(&self) -> &[SharedAtom]
-        ensures value { result.now ≡ self.now.atoms }
-        ensures terms { IsTrue (are_terms self.now.atoms) }
+    /// The atoms behind the last block become one.
+    fn close(&mut self, alloc: Global) -> Result<(), OutOfMemory>
+        ensures { OnOk result (self.new ≡ self.old) }
     {
-        self.atoms.as_slice()
+        let last = mem::replace(&mut self.last, Vec::new(alloc));
+        let block = Block::new(alloc, last)?;
+        self.blocks = self.blocks.with(alloc, block)?;
+        Ok(())
+    }
+
+    /// What is kept of each cube: its rows are terms.
+    pub fn keeps_terms(&self)
+        ensures { IsTrue (are_terms self.now.atoms) }
+    {
+        let _ = self.last.len();
     }
 
     /// The atoms of the cube, which are copied.
     pub fn of(alloc: Global, cube: &Cube) -> Result<SharedCube, OutOfMemory>
         ensures { IfOk result (λ c. c ≡ cube.now) }
     {
-        let atoms = cube.atoms.as_slice();
-        let mut all = SharedCube::with_capacity(alloc, atoms.len())?;
-        copies_onto(&mut all, alloc, atoms)?;
+        let mut all = SharedCube::new(alloc);
+        copies_onto(&mut all, alloc, cube.atoms.as_slice())?;
         Ok(all)
     }
 
@@ -116,19 +218,17 @@ impl SharedCube {
     pub fn copy(&self, alloc: Global) -> Result<SharedCube, OutOfMemory>
         ensures { IfOk result (λ c. c ≡ self.now) }
     {
-        let mut all = SharedCube::with_capacity(alloc, self.atoms.len())?;
-        share_onto(&mut all, self.as_slice())?;
-        Ok(all)
+        let blocks = self.blocks.copy()?;
+        let last = shared_atoms(alloc, &self.last)?;
+        Ok(SharedCube { blocks, last })
     }
 
     /// The cube with one more atom. The others are shared.
     pub fn with(&self, alloc: Global, atom: Atom) -> Result<SharedCube, OutOfMemory>
         ensures { IfOk result (λ c. c.atoms ≡ self.now.atoms ++ atom ∷ []) }
     {
-        let old = self.as_slice();
-        let mut all = SharedCube::with_capacity(alloc, old.len() + 1)?;
-        share_onto(&mut all, old)?;
-        all.push(SharedAtom::new(alloc, atom)?)?;
+        let mut all = self.copy(alloc)?;
+        all.push(alloc, SharedAtom::new(alloc, atom)?)?;
         Ok(all)
     }
 
@@ -136,11 +236,8 @@ impl SharedCube {
     pub fn and(&self, alloc: Global, other: &Cube) -> Result<SharedCube, OutOfMemory>
         ensures { IfOk result (λ c. c.atoms ≡ self.now.atoms ++ other.now.atoms) }
     {
-        let left = self.as_slice();
-        let right = other.atoms.as_slice();
-        let mut all = SharedCube::with_capacity(alloc, left.len() + right.len())?;
-        share_onto(&mut all, left)?;
-        copies_onto(&mut all, alloc, right)?;
+        let mut all = self.copy(alloc)?;
+        copies_onto(&mut all, alloc, other.atoms.as_slice())?;
         Ok(all)
     }
 
@@ -148,9 +245,7 @@ impl SharedCube {
     pub fn to_cube(&self, alloc: Global) -> Result<Cube, OutOfMemory>
         ensures { IfOk result (λ c. c ≡ self.now) }
     {
-        let shared = self.as_slice();
-        let mut atoms = Atoms::with_capacity(alloc, shared.len())?;
-        unshared_onto(&mut atoms, alloc, shared)?;
+        let atoms = self.copied(alloc, 0)?;
         Ok(Cube { atoms })
     }
 
@@ -158,22 +253,36 @@ impl SharedCube {
     pub fn cube_with(&self, alloc: Global, other: Cube) -> Result<Cube, OutOfMemory>
         ensures { IfOk result (λ c. c.atoms ≡ self.now.atoms ++ other.atoms) }
     {
-        let left = self.as_slice();
-        let mut atoms = Atoms::with_capacity(alloc, left.len() + other.atoms.as_slice().len())?;
-        unshared_onto(&mut atoms, alloc, left)?;
+        let mut atoms = self.copied(alloc, other.atoms.as_slice().len())?;
         atoms.append(other.atoms)?;
         Ok(Cube { atoms })
     }
+
+    /// Copies of the atoms, with room for so many more.
+    fn copied(&self, alloc: Global, more: usize) -> Result<Atoms, OutOfMemory>
+        ensures { IfOk result (λ atoms. atoms ≡ self.now.atoms) }
+    {
+        let blocks = self.blocks.as_slice();
+        let full = blocks.len().saturating_mul(BLOCK);
+        let room = full.saturating_add(self.last.len()).saturating_add(more);
+        let mut atoms = Atoms::with_capacity(alloc, room)?;
+        for block in blocks {
+            unshared_onto(&mut atoms, alloc, block.as_slice())?;
+        }
+        unshared_onto(&mut atoms, alloc, &self.last)?;
+        Ok(atoms)
+    }
 }
 
-/// Adds the atoms, which are shared.
-fn share_onto(out: &mut SharedCube, atoms: &[SharedAtom]) -> Result<(), OutOfMemory>
-    ensures { OnOk result (out.new.atoms ≡ out.old.atoms ++ atoms.now) }
+/// The same atoms, with room for one more.
+fn shared_atoms(alloc: Global, atoms: &[SharedAtom]) -> Result<Vec<SharedAtom>, OutOfMemory>
+    ensures { IfOk result (λ all. all.items ≡ atoms.now) }
 {
+    let mut all = Vec::with_capacity(alloc, atoms.len().saturating_add(1))?;
     for atom in atoms {
-        out.push(atom.copy()?)?;
+        all.push(atom.copy()?)?;
     }
-    Ok(())
+    Ok(all)
 }
 
 /// Adds copies of the atoms.
@@ -181,7 +290,7 @@ fn copies_onto(out: &mut SharedCube, alloc: Global, atoms: &[Atom]) -> Result<()
     ensures { OnOk result (out.new.atoms ≡ out.old.atoms ++ atoms.now) }
 {
     for atom in atoms {
-        out.push(SharedAtom::new(alloc, atom.copy(alloc)?)?)?;
+        out.push(alloc, SharedAtom::new(alloc, atom.copy(alloc)?)?)?;
     }
     Ok(())
 }

@@ -4,7 +4,7 @@ ghost use Rattle.std.specs.Prelude.{◌≡◌, ◌↔◌, ◌<◌, length, IsTru
 
 use linear_formula::formula::{Atom, Cube};
 use linear_formula::term::{Parts, Term};
-use may_partition::{Partition, RegionEdge, SplitError};
+use may_partition::{Partition, Region, RegionEdge, SplitError};
 use std::alloc::Global;
 use std::test::Fail;
 use summary_form::query::ExitKind;
@@ -87,14 +87,24 @@ fn edge_of(live: Live) -> RegionEdge
     }
 }
 
+/// How many atoms a region has.
+fn size_of(alloc: Global, region: &Region) -> Result<usize, Fail> {
+    let cube = region.cube.to_cube(alloc)?;
+    Ok(cube.atoms.as_slice().len())
+}
+
 /// Whether the regions have these nodes and as many atoms.
-fn has_regions(partition: &Partition, wanted: &[(u32, usize)]) -> bool {
+fn has_regions(
+    alloc: Global,
+    partition: &Partition,
+    wanted: &[(u32, usize)],
+) -> Result<bool, Fail> {
     for (region, (node, atoms)) in partition.regions().iter().zip(wanted) {
-        if region.node != *node || region.cube.as_slice().len() != *atoms {
-            return false;
+        if region.node != *node || size_of(alloc, region)? != *atoms {
+            return Ok(false);
         }
     }
-    partition.regions().len() == wanted.len()
+    Ok(partition.regions().len() == wanted.len())
 }
 
 /// How many edges are live.
@@ -146,12 +156,24 @@ fn after_split(alloc: Global, shape: &Shape, at: Live, rows: &[Row]) -> Result<P
     Ok(partition)
 }
 
-/// The part and the constant of the last atom of a region.
-fn last_atom(partition: &Partition, region: usize) -> Option<(i128, i128)> {
-    let region = partition.regions().get(region)?;
-    let atom = region.cube.as_slice().last()?.atom();
+/// The part and the constant of the last atom of the cube.
+fn last_of(cube: &Cube) -> Option<(i128, i128)> {
+    let atom = cube.atoms.as_slice().last()?;
     let part = atom.term.parts().first()?;
     Some((part.1, atom.term.constant()))
+}
+
+/// The part and the constant of the last atom of a region.
+fn last_atom(
+    alloc: Global,
+    partition: &Partition,
+    region: usize,
+) -> Result<Option<(i128, i128)>, Fail> {
+    let Some(region) = partition.regions().get(region) else {
+        return Ok(None);
+    };
+    let cube = region.cube.to_cube(alloc)?;
+    Ok(last_of(&cube))
 }
 
 /// Slot 0 is at most so much.
@@ -209,7 +231,7 @@ const BEGINNINGS: [Beginning; 3] = [
 fn begins(rt: HostRuntime) -> Result<(), Fail> {
     for (shape, exit, regions, live) in BEGINNINGS {
         let partition = begun(rt.alloc(), &shape, exit)?;
-        let right = has_regions(&partition, regions) && has_live(&partition, live);
+        let right = has_regions(rt.alloc(), &partition, regions)? && has_live(&partition, live);
         assert!(rt; right, "{exit:?}");
     }
     Ok(())
@@ -296,7 +318,8 @@ const LAST_ATOMS: [(Live, &[Row], usize, (i128, i128)); 6] = [
 fn pieces_have_the_rows_and_their_negations(rt: HostRuntime) -> Result<(), Fail> {
     for (at, rows, region, atom) in LAST_ATOMS {
         let partition = after_split(rt.alloc(), &SMALL, at, rows)?;
-        assert!(rt; last_atom(&partition, region) == Some(atom), "{region}");
+        let last = last_atom(rt.alloc(), &partition, region)?;
+        assert!(rt; last == Some(atom), "{region}");
     }
     Ok(())
 }
@@ -314,7 +337,7 @@ fn numbers_the_pieces(rt: HostRuntime) -> Result<(), Fail> {
         (2, 3),
         (2, 4),
     ];
-    assert!(rt; has_regions(&partition, &regions));
+    assert!(rt; has_regions(rt.alloc(), &partition, &regions)?);
     Ok(())
 }
 
@@ -330,7 +353,7 @@ fn is_too_wide(alloc: Global, partition: &mut Partition) -> Result<bool, Fail> {
     let answer = split(alloc, partition, (3, 4, 2), atoms.atoms.as_slice())?;
     Ok(
         answer == Err(SplitError::Wide)
-            && has_regions(partition, &[(4, 0), (0, 0), (1, 2), (2, 1), (3, 0)])
+            && has_regions(alloc, partition, &[(4, 0), (0, 0), (1, 2), (2, 1), (3, 0)])?
             && has_live(partition, &BEFORE),
     )
 }

@@ -48,26 +48,22 @@ const LAST_SYMBOL: Plain = (&[(30_002, 1)], 0);
 
 const ZERO: Plain = (&[], 0);
 
-/// Whether these are the rows, in order.
-fn has_rows(guard: &SharedCube, wanted: &[Plain]) -> bool {
-    let atoms = guard.as_slice();
-    for (shared, plain) in atoms.iter().zip(wanted) {
-        if !is_term(&shared.atom().term, plain) {
-            return false;
-        }
-    }
-    atoms.len() == wanted.len()
+/// Whether these are the rows of the guard, in order.
+fn has_rows(alloc: Global, guard: &SharedCube, wanted: &[Plain]) -> Result<bool, Fail> {
+    let cube = guard.to_cube(alloc)?;
+    Ok(are_rows(&cube, wanted))
 }
 
 /// Whether the trail is the wanted one, with the first symbol as its entry value.
-fn is_trail(trail: &Trail, wanted: &Wanted) -> bool {
-    trail.node == wanted.node
+fn is_trail(alloc: Global, trail: &Trail, wanted: &Wanted) -> Result<bool, Fail> {
+    let guarded = has_rows(alloc, &trail.guard, wanted.guard)?;
+    Ok(guarded
+        && trail.node == wanted.node
         && trail.symbols == wanted.symbols
         && trail.failed == wanted.failed
-        && has_rows(&trail.guard, wanted.guard)
         && are_terms(trail.entry.as_slice(), &[SYMBOL])
         && are_terms(trail.inputs.as_slice(), wanted.inputs)
-        && are_terms(trail.slots.as_slice(), wanted.slots)
+        && are_terms(trail.slots.as_slice(), wanted.slots))
 }
 
 /// The trail over an edge that leaves its node.
@@ -206,7 +202,7 @@ const CASES: [Case; 9] = [
 fn extends(alloc: Global, case: &Case) -> Result<bool, Fail> {
     let trail = trail_over(alloc, case.0)?;
     let copy = trail.copy(alloc)?;
-    Ok(is_trail(&trail, &case.1) && is_trail(&copy, &case.1))
+    Ok(is_trail(alloc, &trail, &case.1)? && is_trail(alloc, &copy, &case.1)?)
 }
 
 #[test]
@@ -357,7 +353,7 @@ fn carried(alloc: Global, graph: &Graph, call: &Edge, must: &Path) -> Result<Tra
 fn calls(alloc: Global, called: &Called) -> Result<bool, Fail> {
     let must = path_over(alloc, called.steps, called.exit, called.end)?;
     let trail = by_must(alloc, &must, called.arg, called.results)?;
-    Ok(is_trail(&trail, &called.wanted))
+    is_trail(alloc, &trail, &called.wanted)
 }
 
 /// The argument is the callee's.
