@@ -1,14 +1,14 @@
 -- Distances that follow a state over one step.
-use Rattle.std.proofs.Common.{◌≡◌, ℕ, ◌-◌, ◌<◌, ◌≤◌, ◌==◌, Bool, true, false, not, ◌&&◌, ◌||◌, List, [], ◌∷◌, ◌++◌, Option, Some, None, length, arith, refl, sym, subst, ap, ◌∙◌}
+use Rattle.std.proofs.Common.{◌≡◌, ◌≢◌, ℕ, ◌-◌, ◌<◌, ◌≤◌, ◌==◌, Bool, true, false, not, ◌&&◌, ◌||◌, List, [], ◌∷◌, ◌++◌, Option, Some, None, length, arith, refl, sym, subst, ap, ◌∙◌}
 use Rattle.std.specs.Result.{OnOk}
-use Rattle.std.specs.Prelude.{Err, IsTrue, Ok, Result, slice_get, slice_set}
-use borrow.Author.Tests.{eqb-true, eqb-false}
+use Rattle.std.specs.Prelude.{Err, IsTrue, Ok, Result, nat_le, nat_lt, slice_get, slice_set}
+use borrow.Author.Tests.{eqb-true, eqb-false, lt-ltb, lt-leb}
 use Rattle.std.proofs.Math.ListN.{length-set, length-append}
 use Rattle.std.proofs.Math.Bool.{or-false}
 use Rattle.std.proofs.lemmas.Option.{same_Some}
 use Rattle.std.proofs.lemmas.List.{get_or-set_same, get_or-set_other}
 use Rattle.std.proofs.lemmas.List.Folds.{list_any-append}
-use Rattle.linear_formula.proofs.Limits.{both}
+use Rattle.linear_formula.proofs.Limits.{both, both_in}
 use Rattle.linear_formula.specs.declared.formula.Atom.{Atom}
 use Rattle.abstract_path.specs.Routes.{is_at}
 use Rattle.flow_graph.specs.declared.graph.Graph.{Graph}
@@ -31,9 +31,10 @@ use Rattle.punch_step.specs.Analysed.{IsAnalysed}
 use Rattle.punch_step.specs.Slices.{end_of}
 use Rattle.punch_step.specs.declared.distances.Distances.{Distances}
 use Rattle.punch_step.specs.steps.Far.{AreAtLeast, IsOpenEdge}
-use Rattle.punch_step.specs.steps.Following.{AreOf, IsBehind, IsFollowed, IsSplitFrom, KeepsRest}
+use Rattle.punch_step.specs.steps.Following.{AreNoted, AreOf, IsBehind, IsFollowed, IsSplitFrom, KeepsRest}
 use Rattle.punch_step.specs.steps.Reaching.{AreMarksWithin}
 use Rattle.punch_step.proofs.FarAway.{fewer_open}
+use Rattle.punch_step.proofs.Noting.{Keeps, is_other}
 
 clash : true ≡ false → ⊥
 clash h = cc
@@ -75,6 +76,18 @@ all_within gs table g s m a i k e =
     (marks_within gs g m.query m.trails m.marks m.parted.regions
     (state_marked gs a.grounded.graphs g table a.grounded.table_holds m.query m.ancestors m a.grounded.state).marks i k
     (ap (λ ks. slice_get ks i) a.shows.marks ∙ e))
+
+-- where what else is kept stays
+pub kept_followed : (s : Seen) (d new : Distances) → IsFollowed s d → KeepsRest d new → AreOf s.partition new →
+    AreNoted s.partition new.noted.items → IsFollowed s new
+kept_followed s d new f keeps far noted = record {
+  shut = λ e. ap (λ l. is_live l e) keeps.shut ∙ f.shut e;
+  many = ap length keeps.marked ∙ f.many;
+  marked = λ r. ap (λ bits. is_at bits r) keeps.marked ∙ f.marked r;
+  target = subst (λ t. t < length s.partition.regions) (sym keeps.target) f.target;
+  far = far;
+  noted = noted;
+}
 
 module _ (s : Seen) (d : Distances) (b : IsBehind s d) where
   abbrev m : Model
@@ -136,6 +149,17 @@ module _ (s : Seen) (d : Distances) (b : IsBehind s d) where
       bounded = fewer_open b.before.partition.edges d.shut s.partition.edges shut d.reach.far.items b.followed.far.bounded fewer;
     }
 
+    noted_of : (noted : List (Option RegionEdge)) → Keeps d.noted.items noted →
+        ((r : ℕ) (e : RegionEdge) → slice_get noted r ≡ Some (Some e) → e.from ≡ r → IsTrue (m.parted.live e) → IsTrue (made.parted.live e)) →
+        AreNoted s.partition noted
+    noted_of noted keeps live r e at =
+        let h = b.followed.noted r e (keeps r e at) in (
+          h.0,
+          subst (λ n. e.from < n) (sym count) h.1,
+          subst (λ n. e.to < n) (sym count) h.2,
+          b.is.shows.partition.live e ∙ live r e at h.0 (sym (b.was.shows.partition.live e) ∙ h.3),
+        )
+
     target_in : d.target < length s.partition.regions
     target_in = subst (λ n. d.target < n) (sym count) b.followed.target
 
@@ -159,13 +183,22 @@ module _ (s : Seen) (d : Distances) (b : IsBehind s d) where
       left : (e : RegionEdge) → IsTrue (m.parted.live e && not (same_edge e k)) → IsTrue (m.parted.live e)
       left e t = (both (m.parted.live e) (not (same_edge e k)) t).0
 
-    pub kill_followed : (new : Distances) → KeepsRest d new → AreOf s.partition new → IsFollowed s new
-    kill_followed new keeps far = record {
+    pub noted_kill : (noted : List (Option RegionEdge)) →
+        ((r : ℕ) (e : RegionEdge) → slice_get noted r ≡ Some (Some e) → (r ≢ k.from) × (slice_get d.noted.items r ≡ Some (Some e))) →
+        AreNoted s.partition noted
+    noted_kill noted left = noted_of kill_regions noted (λ r e at. (left r e at).1)
+        (λ r e at from live. ap (λ (n : Model). n.parted.live e) made_kill
+        ∙ both_in (m.parted.live e) (not (same_edge e k)) live (is_other e k (λ z. (left r e at).0 (sym from ∙ z))))
+
+    pub kill_followed : (new : Distances) → KeepsRest d new → AreOf s.partition new → AreNoted s.partition new.noted.items →
+        IsFollowed s new
+    kill_followed new keeps far noted = record {
       shut = λ e. ap (λ l. is_live l e) keeps.shut ∙ same_shut e (ap (gives_up e) is);
       many = ap length keeps.marked ∙ b.followed.many ∙ sym (count kill_regions);
       marked = λ r. ap (λ bits. is_at bits r) keeps.marked ∙ same_marked kill_regions (ap (λ (n : Model). n.marks) made_kill) r;
       target = subst (λ t. t < length s.partition.regions) (sym keeps.target) (target_in kill_regions);
       far = far;
+      noted = noted;
     }
 
   -- An edge is given up
@@ -195,8 +228,8 @@ module _ (s : Seen) (d : Distances) (b : IsBehind s d) where
     swapped false false false = refl
 
     pub stuck_followed : (new : Distances) → new.target ≡ d.target → new.shut ≡ shut → new.marked.items ≡ d.marked.items →
-        AreOf s.partition new → IsFollowed s new
-    stuck_followed new t sh ms far = record {
+        new.noted ≡ d.noted → AreOf s.partition new → IsFollowed s new
+    stuck_followed new t sh ms same far = record {
       shut = λ e.
           ap (λ l. is_live l e) sh ∙ more e ∙ ap (λ x. x || same_edge k e) (b.followed.shut e)
           ∙ swapped (is_stuck b.before.steps e) (same_edge k e) (is_awaited b.before.asked e)
@@ -205,6 +238,8 @@ module _ (s : Seen) (d : Distances) (b : IsBehind s d) where
       marked = λ r. ap (λ bits. is_at bits r) ms ∙ same_marked stuck_regions (ap (λ (n : Model). n.marks) made_stuck) r;
       target = subst (λ x. x < length s.partition.regions) (sym t) (target_in stuck_regions);
       far = far;
+      noted = noted_of stuck_regions new.noted.items (λ r e at. subst (λ v. slice_get v.items r ≡ Some (Some e)) same at)
+          (λ r e at from live. ap (λ (n : Model). n.parted.live e) made_stuck ∙ live);
     }
 
   -- A region is marked
@@ -248,8 +283,8 @@ module _ (s : Seen) (d : Distances) (b : IsBehind s d) where
             ∙ sym (ap (λ t. is_marked b.before.marks r || t) e ∙ or-false (is_marked b.before.marks r))
 
     pub mark_followed : (new : Distances) → new.target ≡ d.target → new.shut ≡ d.shut → new.reach ≡ d.reach →
-        new.marked.items ≡ slice_set d.marked.items k.to true → IsFollowed s new
-    mark_followed new t sh re ms = record {
+        new.marked.items ≡ slice_set d.marked.items k.to true → new.noted ≡ d.noted → IsFollowed s new
+    mark_followed new t sh re ms same = record {
       shut = λ e. ap (λ l. is_live l e) sh ∙ same_shut e (free e);
       many = ap length ms ∙ length-set d.marked.items k.to true ∙ b.followed.many ∙ sym (count regions);
       marked = λ r. ap (λ bits. is_at bits r) ms ∙ marked_more r;
@@ -258,6 +293,8 @@ module _ (s : Seen) (d : Distances) (b : IsBehind s d) where
         b.was.shows.partition.live e ∙ sym (live e) ∙ sym (b.is.shows.partition.live e) ∙ o.0,
         o.1,
       )));
+      noted = noted_of regions new.noted.items (λ r e at. subst (λ v. slice_get v.items r ≡ Some (Some e)) same at)
+          (λ r e at from l. live e ∙ l);
     } where
       moved : (new : Distances) → new.target ≡ d.target → new.shut ≡ d.shut → new.reach ≡ d.reach → AreOf s.partition d →
           AreOf s.partition new
@@ -277,9 +314,11 @@ module _ (s : Seen) (d : Distances) (b : IsBehind s d) where
       marks = all_within b.graphs b.table b.graph s made b.is;
       old = b.before.partition;
       far = b.followed.far;
+      noted = b.followed.noted;
       more = longer;
       live = λ e l. subst (λ n. IsTrue (is_live b.before.partition.edges (parents n k.from e))) (sym counts)
           (b.was.shows.partition.live (parents (length m.parted.regions) k.from e) ∙ parent_live e l);
+      stays = stays;
     } where
       counts : length b.before.partition.regions ≡ length m.parted.regions
       counts = ap length b.was.shows.partition.regions
@@ -307,3 +346,24 @@ module _ (s : Seen) (d : Distances) (b : IsBehind s d) where
           let u = both (has_regions (length (split_regions m.parted.regions k.from atoms)) e)
           (m.parted.live (parents (length m.parted.regions) k.from e) && not (is_cut (length m.parted.regions) k e)) t in
           (both (m.parted.live (parents (length m.parted.regions) k.from e)) (not (is_cut (length m.parted.regions) k e)) u.1).0
+
+      old_parents : (n : ℕ) (e : RegionEdge) → e.from < n → e.to < n → parents n k.from e ≡ e
+      old_parents n e from to = rw (lt-ltb e.from n from, lt-ltb e.to n to) refl
+
+      not_cut : (n : ℕ) (e : RegionEdge) → e.from < n → IsTrue (not (is_cut n k e))
+      not_cut n e from = rw (lt-leb n e.from from) refl
+
+      stays : (e : RegionEdge) → e.from < length b.before.partition.regions → e.to < length b.before.partition.regions →
+          IsTrue (is_live b.before.partition.edges e) → IsTrue (is_live s.partition.edges e)
+      stays e from to l =
+          let n = length m.parted.regions in let grown = length (split_regions m.parted.regions k.from atoms) in
+          let more : length s.partition.regions ≡ grown =
+          ap length b.is.shows.partition.regions ∙ ap (λ (p : Parted). length p.regions) parted in
+          let same : parents n k.from e ≡ e = old_parents n e (omega (arith, from, counts)) (omega (arith, to, counts)) in
+          b.is.shows.partition.live e ∙ ap (λ (p : Parted). p.live e) parted
+          ∙ both_in (has_regions grown e) (m.parted.live (parents n k.from e) && not (is_cut n k e))
+          (both_in (nat_lt e.from grown) (nat_lt e.to grown) (lt-ltb e.from grown (omega (arith, from, longer, more)))
+          (lt-ltb e.to grown (omega (arith, to, longer, more))))
+          (both_in (m.parted.live (parents n k.from e)) (not (is_cut n k e))
+          (subst (λ (x : RegionEdge). IsTrue (m.parted.live x)) (sym same) (sym (b.was.shows.partition.live e) ∙ l))
+          (not_cut n e (omega (arith, from, counts))))

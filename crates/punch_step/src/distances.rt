@@ -6,11 +6,12 @@ ghost use Rattle.abstract_path.specs.Routes.{is_at};
 ghost use Rattle.may_partition.specs.Parted.{parent};
 ghost use Rattle.may_partition.specs.Shown.{is_live};
 ghost use Rattle.punch_step.specs.steps.Far.{IfLastCrossing, IsNearest, LeadsNearer, crosses};
-ghost use Rattle.punch_step.specs.steps.Following.{AreOf, IsBehind, IsFollowed, IsSplitFrom, KeepsRest};
+ghost use Rattle.punch_step.specs.steps.Following.{AreNoted, AreOf, IsBehind, IsFollowed, IsSplitFrom, KeepsRest};
 ghost use Rattle.punch_step.specs.steps.Walks.{IsWalk};
 ghost use Rattle.punch_step.specs.steps.Reaching.{AreMarksWithin};
 
 use crate::measure::{Reach, measure};
+use crate::noted::{forget, is_live_way, make_room, nothing};
 use crate::reaching::{marked_regions, shut_edges};
 use linear_formula::error::OutOfMemory;
 use may_partition::edge_list::EdgeList;
@@ -19,6 +20,7 @@ use may_partition::region::RegionEdge;
 use query_rules::state::QueryState;
 use query_rules::step::Step;
 use std::alloc::Global;
+use std::mem;
 use summary_form::numbers::number_behind;
 
 /// How far regions lie from the target over open edges, at least. A step only takes open edges
@@ -30,9 +32,8 @@ pub struct Distances {
     pub shut: EdgeList,
     pub marked: Vec<bool>,
     pub reach: Reach,
-    /// Where each region's way stood among the region's edges when it was found. It may have moved
-    /// since.
-    pub spots: Vec<usize>,
+    /// For each region an edge from it that is live, where one is known.
+    pub noted: Vec<Option<RegionEdge>>,
     /// Regions whose way may lead nowhere any more.
     pub waiting: Vec<u32>,
 }
@@ -100,7 +101,7 @@ impl Distances {
             shut,
             marked,
             reach,
-            spots: vec![in alloc; 0; regions]?,
+            noted: nothing(alloc, regions)?,
             waiting: Vec::new(alloc),
         })
     }
@@ -149,6 +150,7 @@ impl Distances {
         requires far { AreOf partition.now self.old }
         requires region { region < length partition.now.regions }
         ensures rest { KeepsRest self.old self.new }
+        ensures noted { self.new.noted ≡ self.old.noted }
         ensures far { AreOf partition.now self.new }
     {
         for edge in partition.edges_into(region) {
@@ -159,26 +161,12 @@ impl Distances {
         Ok(())
     }
 
-    /// Notes where the region's way stands among its edges.
-    fn note_spot(&mut self, partition: &Partition, region: u32, way: &RegionEdge)
-        requires region { region < length partition.now.regions }
-        ensures rest { KeepsRest self.old self.new }
-        ensures reach { self.new.reach ≡ self.old.reach }
-    {
-        let edges = partition.edges_from(region);
-        let Some(place) = edges.iter().position(|edge| *edge == *way) else {
-            return;
-        };
-        if let Some(spot) = self.spots.get_mut(region as usize) {
-            *spot = place;
-        }
-    }
-
     /// Raises the region's distance to the least one over an open edge.
     fn raise(&mut self, partition: &Partition, region: u32) -> Result<(), OutOfMemory>
         requires far { AreOf partition.now self.old }
         requires region { region < length partition.now.regions }
         ensures rest { KeepsRest self.old self.new }
+        ensures noted { self.new.noted ≡ self.old.noted }
         ensures far { AreOf partition.now self.new }
     {
         let old = self.reach.far[region as usize];
@@ -188,7 +176,6 @@ impl Distances {
         let (near, way) = self.nearest(partition, region);
         let far = one_more(near);
         self.reach.way[region as usize] = way;
-        self.note_spot(partition, region, &way);
         if far == old {
             return Ok(());
         }
@@ -200,6 +187,7 @@ impl Distances {
     fn raise_one(&mut self, partition: &Partition) -> Result<(), OutOfMemory>
         requires far { AreOf partition.now self.old }
         ensures rest { KeepsRest self.old self.new }
+        ensures noted { self.new.noted ≡ self.old.noted }
         ensures far { AreOf partition.now self.new }
     {
         match self.waiting.pop() {
@@ -215,6 +203,7 @@ impl Distances {
     fn settle(&mut self, partition: &Partition) -> Result<(), OutOfMemory>
         requires far { AreOf partition.now self.old }
         ensures rest { KeepsRest self.old self.new }
+        ensures noted { self.new.noted ≡ self.old.noted }
         ensures far { AreOf partition.now self.new }
     {
         let most = self.reach.far.len().saturating_mul(4);
@@ -231,6 +220,7 @@ impl Distances {
     fn leave(&mut self, partition: &Partition, edge: &RegionEdge) -> Result<(), OutOfMemory>
         requires far { AreOf partition.now self.old }
         ensures rest { KeepsRest self.old self.new }
+        ensures noted { self.new.noted ≡ self.old.noted }
         ensures far { AreOf partition.now self.new }
     {
         if self.reach.way.get(edge.from as usize) != Some(edge) {
@@ -246,6 +236,7 @@ impl Distances {
         requires ways { length self.old.reach.way.items ≡ length self.old.reach.far.items }
         requires more { length self.old.reach.far.items ≤ regions }
         ensures rest { OnOk result (KeepsRest self.old self.new) }
+        ensures noted { OnOk result (self.new.noted ≡ self.old.noted) }
         ensures fars { OnOk result (length self.new.reach.far.items ≡ regions) }
         ensures ways { OnOk result (length self.new.reach.way.items ≡ regions) }
         ensures far { OnOk result ((r : ℕ) → r < regions → slice_index self.new.reach.far.items r
@@ -257,7 +248,6 @@ impl Distances {
         for piece in self.reach.far.len()..regions {
             self.reach.far.push(far)?;
             self.reach.way.push(way)?;
-            self.spots.push(0)?;
             self.waiting.push(number_behind(piece)?)?;
         }
         Ok(())
@@ -278,6 +268,7 @@ impl Distances {
         state.partition().live_within();
         let regions = state.partition().regions().len();
         self.copy_far(from, regions)?;
+        make_room(&mut self.noted, regions)?;
         self.marked = marked_regions(alloc, regions, state.marks())?;
         self.settle(state.partition())
     }
@@ -299,7 +290,10 @@ impl Distances {
             }
             Some(Step::Split { edge, .. }) => self.divide(alloc, state, edge.from),
             Some(Step::CallSplit { edge, .. }) => self.divide(alloc, state, edge.from),
-            Some(Step::Kill { edge, .. }) => self.leave(state.partition(), edge),
+            Some(Step::Kill { edge, .. }) => {
+                forget(&mut self.noted, edge);
+                self.leave(state.partition(), edge)
+            }
             Some(Step::Stuck { edge, .. }) => {
                 self.shut.add(*edge)?;
                 self.leave(state.partition(), edge)
@@ -308,26 +302,21 @@ impl Distances {
         }
     }
 
-    /// Whether the edge stands where the region's way was found. Then it is live, which takes a
-    /// search else.
-    fn is_at_spot(&self, partition: &Partition, region: u32, edge: &RegionEdge) -> bool
-        ensures { IsTrue result → IsTrue (is_live partition.now.edges edge.now) }
-    {
-        if region as usize >= partition.regions().len() {
-            return false;
-        }
-        let Some(spot) = self.spots.get(region as usize) else {
-            return false;
-        };
-        partition.edges_from(region).get(*spot) == Some(edge)
-    }
-
     /// Whether the edge is open and leads nearer to the target.
-    fn leads_on(&self, partition: &Partition, here: u32, edge: &RegionEdge) -> bool
+    fn leads_on(
+        &self,
+        partition: &Partition,
+        noted: &mut Vec<Option<RegionEdge>>,
+        here: u32,
+        edge: &RegionEdge,
+    ) -> bool
+        requires far { AreOf partition.now self.now }
+        requires noted { AreNoted partition.now noted.old.items }
         ensures leads { IsTrue result → LeadsNearer partition.now.edges self.now.shut
             self.now.reach.far.items here edge.now }
         ensures all { LeadsNearer partition.now.edges self.now.shut self.now.reach.far.items here
             edge.now → IsTrue result }
+        ensures noted { AreNoted partition.now noted.new.items }
     {
         let (Some(far), Some(next)) = (
             self.reach.far.get(here as usize),
@@ -335,20 +324,21 @@ impl Distances {
         ) else {
             return false;
         };
-        edge.from == here
-            && *next != 0
-            && *next < *far
-            && (self.is_at_spot(partition, here, edge) || partition.live(edge))
-            && !self.shut.has(edge)
+        if edge.from != here || *next == 0 || *next >= *far || self.shut.has(edge) {
+            return false;
+        }
+        is_live_way(partition, noted, edge)
     }
 
-    /// Follows the ways from the outside to the target.
-    fn walk(&self, partition: &Partition) -> Walk
+    /// Follows the ways from the outside to the target, and notes them.
+    fn walk(&self, partition: &Partition, noted: &mut Vec<Option<RegionEdge>>) -> Walk
         requires far { AreOf partition.now self.now }
+        requires noted { AreNoted partition.now noted.old.items }
         requires many { length self.now.marked.items ≡ length partition.now.regions }
         requires outside { is_at self.now.marked.items 0 ≡ true }
         requires target { is_at self.now.marked.items self.now.target ≡ false }
-        ensures { IsWalk partition.now self.now result }
+        ensures walk { IsWalk partition.now self.now result }
+        ensures noted { AreNoted partition.now noted.new.items }
     {
         if self.reach.far[0] == 0 {
             return Walk::Closed;
@@ -357,7 +347,7 @@ impl Distances {
         let mut last = None;
         while here != self.target {
             let edge = self.reach.way[here as usize];
-            if !self.leads_on(partition, here, &edge) {
+            if !self.leads_on(partition, noted, here, &edge) {
                 return Walk::Lost;
             }
             if crosses(&self.marked, &edge) {
@@ -371,6 +361,24 @@ impl Distances {
         }
     }
 
+    /// The same, with what the distances note.
+    fn walk_on(&mut self, alloc: Global, partition: &Partition) -> Walk
+        requires far { AreOf partition.now self.old }
+        requires noted { AreNoted partition.now self.old.noted.items }
+        requires many { length self.old.marked.items ≡ length partition.now.regions }
+        requires outside { is_at self.old.marked.items 0 ≡ true }
+        requires target { is_at self.old.marked.items self.old.target ≡ false }
+        ensures walk { IsWalk partition.now self.old result }
+        ensures rest { KeepsRest self.old self.new }
+        ensures reach { self.new.reach ≡ self.old.reach }
+        ensures noted { AreNoted partition.now self.new.noted.items }
+    {
+        let mut noted = mem::replace(&mut self.noted, Vec::new(alloc));
+        let walk = self.walk(partition, &mut noted);
+        self.noted = noted;
+        walk
+    }
+
     /// The last edge of a shortest open path that leads from a marked region to one that isn't.
     /// Where the kept ways don't lead to the target, all distances are measured anew.
     pub fn turn(
@@ -379,6 +387,7 @@ impl Distances {
         partition: &Partition,
     ) -> Result<Option<RegionEdge>, OutOfMemory>
         requires far { AreOf partition.now self.old }
+        requires noted { AreNoted partition.now self.old.noted.items }
         requires in_target { self.old.target < length partition.now.regions }
         requires many { length self.old.marked.items ≡ length partition.now.regions }
         requires outside { is_at self.old.marked.items 0 ≡ true }
@@ -387,15 +396,16 @@ impl Distances {
             self.old.marked.items self.old.target) }
         ensures rest { KeepsRest self.old self.new }
         ensures far { OnOk result (AreOf partition.now self.new) }
+        ensures noted { OnOk result (AreNoted partition.now self.new.noted.items) }
     {
-        match self.walk(partition) {
+        match self.walk_on(alloc, partition) {
             Walk::To(edge) => return Ok(Some(edge)),
             Walk::Closed => return Ok(None),
             Walk::Lost => {}
         }
         self.reach = measure(alloc, partition, &self.shut, self.target)?;
         self.waiting.clear();
-        match self.walk(partition) {
+        match self.walk_on(alloc, partition) {
             Walk::To(edge) => Ok(Some(edge)),
             Walk::Closed => Ok(None),
             Walk::Lost => unreachable!(),

@@ -1,5 +1,5 @@
 -- Distances that follow a state.
-use Rattle.std.specs.Prelude.{◌≡◌, ◌≤◌, ◌<◌, ◌||◌, ℕ, IsTrue, List, None, length}
+use Rattle.std.specs.Prelude.{◌≡◌, ◌≤◌, ◌<◌, ◌||◌, ℕ, IsTrue, List, None, Option, Some, length, slice_get}
 use Rattle.abstract_path.specs.Routes.{is_at}
 use Rattle.flow_graph.specs.declared.graph.Graph.{Graph}
 use Rattle.summary_form.specs.declared.summary.Summary.{Summary}
@@ -21,6 +21,13 @@ abbrev pub AreOf : Shown → Distances → Type 0
 AreOf p d =
     AreAtLeast (length p.regions) p.edges d.shut d.target d.reach.far.items d.reach.way.items
 
+-- of each region an edge that leaves it and is live, where one is noted
+abbrev pub AreNoted : Shown → List (Option RegionEdge) → Type 0
+AreNoted p noted =
+    (r : ℕ) (e : RegionEdge) → slice_get noted r ≡ Some (Some e) →
+    (e.from ≡ r) × (e.from < length p.regions) × (e.to < length p.regions)
+    × IsTrue (is_live p.edges e)
+
 -- the same of all but the distances
 pub record KeepsRest (old new : Distances) : Type 0 where
   pub target : new.target ≡ old.target
@@ -34,6 +41,7 @@ pub record IsFollowed (s : Seen) (d : Distances) : Type 0 where
   pub marked : (r : ℕ) → is_at d.marked.items r ≡ is_marked s.marks r
   pub target : d.target < length s.partition.regions
   pub far : AreOf s.partition d
+  pub noted : AreNoted s.partition d.noted.items
 
 -- one legal step behind a state that the distances follow
 pub record IsBehind (s : Seen) (d : Distances) : Type 0 where
@@ -55,6 +63,9 @@ pub record IsSplitFrom (from : ℕ) (s : Seen) (d : Distances) : Type 0 where
   pub marks : AreMarksWithin (length s.partition.regions) s.marks
   pub old : Shown
   pub far : AreOf old d
+  pub noted : AreNoted old d.noted.items
   pub more : length old.regions ≤ length s.partition.regions
   pub live : (e : RegionEdge) → IsTrue (is_live s.partition.edges e) →
       IsTrue (is_live old.edges (parents (length old.regions) from e))
+  pub stays : (e : RegionEdge) → e.from < length old.regions → e.to < length old.regions →
+      IsTrue (is_live old.edges e) → IsTrue (is_live s.partition.edges e)

@@ -7,6 +7,7 @@ use Rattle.punch_step.proofs.distances.Distances.copy_far.Given as goal
 abbrev pub invariant-loop-piece : goal.invariant-loop-piece
 invariant-loop-piece l = record {
   rest : KeepsRest l.fn.self l.self;
+  noted : l.self.noted ≡ l.fn.self.noted;
   fars : length l.self.reach.far.items ≡ l.piece;
   ways : length l.self.reach.way.items ≡ l.piece;
   far : (r : ℕ) → r < l.piece → slice_index l.self.reach.far.items r

@@ -1,12 +1,17 @@
-use Rattle.std.proofs.Common.{◌≡◌, ◌∙◌, ◌||◌, ◌==◌, length, arith, refl, sym, subst, ap}
-use Rattle.std.specs.Prelude.{IsTrue, slice_index}
+use Rattle.std.proofs.Common.{◌≡◌, ◌∙◌, ◌<◌, ◌||◌, ◌==◌, length, arith, refl, sym, subst, ap}
+use Rattle.std.specs.Prelude.{IsTrue, Some, slice_get, slice_index}
 use Rattle.std.specs.List.{list_any}
-use Rattle.may_partition.specs.Shown.{Shown, have_regions}
+use Rattle.abstract_path.specs.Routes.{is_at}
+use Rattle.may_partition.specs.Shown.{Shown, have_regions, is_live}
 use Rattle.may_partition.specs.declared.region.RegionEdge.{RegionEdge}
 use Rattle.may_partition.specs.Parted.{parent}
+use Rattle.query_rules.specs.Paths.{is_marked}
 use Rattle.punch_step.specs.steps.Far.{AreAtLeast}
+use Rattle.punch_step.specs.steps.Following.{AreOf}
 use Rattle.punch_step.proofs.FarAway.{all_divided}
+use Rattle.punch_step.proofs.Followed.{on_ok}
 use Rattle.punch_step.proofs.Near.{kept_far}
+use Rattle.punch_step.proofs.Noting.{noted_split}
 use Rattle.punch_step.proofs.Standing.{live_within}
 use Rattle.punch_step.proofs.distances.Distances.divide.Goals as goal
 
@@ -31,3 +36,20 @@ settle-requires c =
           (λ r l. copied.far r (omega (arith, l, m)) ∙ ap (λ k. slice_index d.reach.far.items (parent k c.args.from r)) n)
           (copied.fars ∙ m) (copied.ways ∙ m)));
     }
+
+pub returns-clause-followed : goal.returns-clause-followed
+returns-clause-followed c =
+    let s = c.args.state.now in let d = c.args.self.now in let split = c.requires.split in
+    let now = c.settle.new.self in let rest = c.settle.ensures.rest in let copied = c.in_ok-copy_far.ensures in
+    let m : length c.regions-regions.result.now ≡ length s.partition.regions =
+    ap length (c.regions-regions.ensures ∙ ap (λ (p : Shown). p.regions) c.partition-2.ensures) in
+    on_ok c.settle.result (record {
+      shut = λ e. ap (λ l. is_live l e) (rest.shut ∙ copied.rest.shut) ∙ split.shut e;
+      many = ap length rest.marked ∙ c.in_ok-self-2.ensures.length ∙ m;
+      marked = λ r. ap (λ bits. is_at bits r) rest.marked ∙ c.in_ok-self-2.ensures.marked r ∙ ap (λ ks. is_marked ks r) c.marks.ensures;
+      target = subst (λ t. t < length s.partition.regions) (sym (rest.target ∙ copied.rest.target)) split.target;
+      far = subst (λ (p : Shown). AreOf p now) c.partition-3.ensures c.settle.ensures.far;
+      noted = noted_split c.args.from s d split now.noted.items (λ r e h.
+          subst (λ v. slice_get v.items r ≡ Some (Some e)) copied.noted
+          (c.in_ok-make_room.ensures r e (subst (λ v. slice_get v.items r ≡ Some (Some e)) c.settle.ensures.noted h)));
+    })

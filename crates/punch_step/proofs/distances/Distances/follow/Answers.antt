@@ -6,7 +6,7 @@ use Rattle.query_rules.specs.Steps.{stepped}
 use Rattle.query_rules.specs.declared.step.Step.TheVariants as step
 use Rattle.may_partition.specs.Shown.{Shown}
 use Rattle.punch_step.specs.steps.Following.{AreOf}
-use Rattle.punch_step.proofs.Followed.{is_last, mark_followed, mark_within, on_ok, split_from, stuck_followed}
+use Rattle.punch_step.proofs.Followed.{is_last, kill_followed, noted_kill, mark_followed, mark_within, on_ok, split_from, stuck_followed}
 use Rattle.punch_step.proofs.distances.Distances.follow.Goals as goal
 
 pub index_mut-requires : goal.index_mut-requires
@@ -33,7 +33,7 @@ returns-in-Some-Extend-clause-followed c =
     (ap (λ x. (stepped b.graph b.table x b.model).parted.regions) is)
     (λ e. ap (λ x. (stepped b.graph b.table x b.model).parted.live e) is)
     (ap (λ x. (stepped b.graph b.table x b.model).marks) is) (λ e. ap (gives_up e) is)
-    _ refl refl refl refl
+    _ refl refl refl refl refl
 
 pub index_mut-requires-in-Some-CallExtend : goal.index_mut-requires-in-Some-CallExtend
 index_mut-requires-in-Some-CallExtend c =
@@ -61,7 +61,7 @@ returns-in-Some-CallExtend-clause-followed c =
     (ap (λ x. (stepped b.graph b.table x b.model).parted.regions) is)
     (λ e. ap (λ x. (stepped b.graph b.table x b.model).parted.live e) is)
     (ap (λ x. (stepped b.graph b.table x b.model).marks) is) (λ e. ap (gives_up e) is)
-    _ refl refl refl refl
+    _ refl refl refl refl refl
 
 pub divide-requires : goal.divide-requires
 divide-requires c =
@@ -101,4 +101,18 @@ returns-in_ok-add-in-Some-Stuck-clause-followed c =
     (stuck_followed c.args.state.now c.args.self.now b c.in-Some-Stuck.edge c.in-Some-Stuck.field-0-1 c.in-Some-Stuck.field-0-2 is
     c.add.new.self
     c.in_ok-add-in-Some-Stuck.ensures.live c.leave-in-Some-Stuck.new.self rest.target rest.shut rest.marked
+    c.leave-in-Some-Stuck.ensures.noted
     (subst (λ (p : Shown). AreOf p c.leave-in-Some-Stuck.new.self) c.partition-in-Some-Stuck.ensures c.leave-in-Some-Stuck.ensures.far))
+
+pub returns-in-Some-Kill-clause-followed : goal.returns-in-Some-Kill-clause-followed
+returns-in-Some-Kill-clause-followed c =
+    let s = c.args.state.now in let d = c.args.self.now in let b = c.requires in let k = c.in-Some-Kill.edge in
+    let is : b.step ≡ step.Kill k c.in-Some-Kill.field-0-1 = is_last s d c.requires (step.Kill k c.in-Some-Kill.field-0-1)
+    (ap (λ xs. slice_get xs (length xs - 1)) (sym c.steps.ensures) ∙ sym c.last.ensures.value
+    ∙ ap option_copied c.in-Some-Kill.is ∙ ap Some c.in-Some-Kill.field-0-is) in
+    let new = c.leave.new.self in let rest = c.leave.ensures.rest in
+    on_ok c.leave.result
+    (kill_followed s d b k c.in-Some-Kill.field-0-1 is new (record { target = rest.target; shut = rest.shut; marked = rest.marked })
+    (subst (λ (p : Shown). AreOf p new) c.partition.ensures c.leave.ensures.far)
+    (noted_kill s d b k c.in-Some-Kill.field-0-1 is new.noted.items
+    (λ r e h. c.forget.ensures r e (subst (λ v. slice_get v.items r ≡ Some (Some e)) c.leave.ensures.noted h))))

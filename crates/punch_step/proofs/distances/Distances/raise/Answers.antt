@@ -11,13 +11,7 @@ tell-requires-clause-far c =
     let p = c.args.partition.now in let d = c.args.self.now in let r = c.args.region in let far = d.reach.far.items in
     let low : r < length far = omega (arith, c.requires.region, c.requires.far.fars) in
     let is : c.index-old.result.now ≡ slice_index far r = c.index-old.ensures ∙ get_or_default far r c.index-old.result.now 0 low in
-    let raised = one_raised (length p.regions) p.edges d.shut d.target far d.reach.way.items r c.nearest-near.result.0 c.one_more-far.result
+    one_raised (length p.regions) p.edges d.shut d.target far d.reach.way.items r c.nearest-near.result.0 c.one_more-far.result
     c.nearest-near.result.1 c.requires.far c.if-region-self.false c.requires.region (λ z. c.if-old-eq0.false (is ∙ z))
     c.nearest-near.ensures c.one_more-far.ensures.none c.one_more-far.ensures.some c.one_more-far.ensures.high
-    (λ z k. c.one_more-far.ensures.greatest (slice_index far r) (subst (λ n. n < 2 ^ 64) is c.type_inv.old.fits) z k) in
-    let n = c.note_spot.new.self in let rest = c.note_spot.ensures.rest in
-    let fars = slice_set far r c.one_more-far.result in let ways = slice_set d.reach.way.items r c.nearest-near.result.1 in
-    subst (λ (x : Reach). AreAtLeast (length p.regions) p.edges n.shut n.target (slice_set x.far.items r c.one_more-far.result) x.way.items)
-    (sym c.note_spot.ensures.reach)
-    (subst (λ t. AreAtLeast (length p.regions) p.edges n.shut t fars ways) (sym rest.target)
-    (subst (λ xs. AreAtLeast (length p.regions) p.edges xs d.target fars ways) (sym rest.shut) raised))
+    (λ z k. c.one_more-far.ensures.greatest (slice_index far r) (subst (λ n. n < 2 ^ 64) is c.type_inv.old.fits) z k)
