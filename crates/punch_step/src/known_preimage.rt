@@ -21,14 +21,19 @@ pub enum Computed {
     Limit(Kept),
 }
 
-/// What a preimage came to, with the must, the call's slots and the target that it is of. A
-/// contract sees what it came to.
+/// The must, the call's slots and the target that a preimage is of.
 #[derive(Drop)]
-pub struct KnownPreimage {
+struct Subject {
     must: Path,
     args: Slots,
     results: Slots,
     target: Cube,
+}
+
+/// What a preimage came to, with what it is of. A contract sees what it came to.
+#[derive(Drop)]
+pub struct KnownPreimage {
+    subject: Subject,
     computed: Computed,
 }
 
@@ -40,11 +45,11 @@ impl Model for KnownPreimage {
 
     ghost view = { λ k. k.computed };
 
-    ghost invariant = { λ k. IsComputed k.must (record {
-      procedure = k.must.proc;
-      arguments = k.args;
-      results = k.results;
-    }) k.target.atoms k.computed };
+    ghost invariant = { λ k. IsComputed k.subject.must (record {
+      procedure = k.subject.must.proc;
+      arguments = k.subject.args;
+      results = k.subject.results;
+    }) k.subject.target.atoms k.computed };
 }
 
 /// Whether the musts differ in nothing that a preimage reads.
@@ -63,10 +68,10 @@ impl KnownPreimage {
         ensures { IsTrue result →
             IsComputed must.now site.now target.now.atoms self.now }
     {
-        self.results.as_slice() == site.results()
-            && self.args.as_slice() == site.arguments()
-            && self.target == *target
-            && are_alike(&self.must, must)
+        self.subject.results.as_slice() == site.results()
+            && self.subject.args.as_slice() == site.arguments()
+            && self.subject.target == *target
+            && are_alike(&self.subject.must, must)
     }
 
     pub(crate) fn computed(&self) -> &Computed
@@ -84,6 +89,30 @@ fn copied(alloc: Global, slots: &[Slot]) -> Result<Slots, OutOfMemory>
     Ok(Slots::from_vec(items))
 }
 
+/// Copies of what a preimage is of.
+fn subject_of(
+    alloc: Global,
+    must: &Path,
+    site: &CallSite,
+    target: &Cube,
+) -> Result<Subject, OutOfMemory>
+    ensures must { IfOk result (λ s. s.must ≡ must.now) }
+    ensures arguments { IfOk result (λ s. s.args ≡ site.now.arguments) }
+    ensures results { IfOk result (λ s. s.results ≡ site.now.results) }
+    ensures target { IfOk result (λ s. s.target ≡ target.now) }
+{
+    let args = copied(alloc, site.arguments())?;
+    let results = copied(alloc, site.results())?;
+    let target = target.copy(alloc)?;
+    let must = must.copy(alloc)?;
+    Ok(Subject {
+        must,
+        args,
+        results,
+        target,
+    })
+}
+
 /// What was computed, with copies of what it is of.
 pub(crate) fn known_of(
     alloc: Global,
@@ -95,15 +124,6 @@ pub(crate) fn known_of(
     requires { IsComputed must.now site.now target.now.atoms computed }
     ensures { IfOk result (λ known. known ≡ computed) }
 {
-    let must = must.copy(alloc)?;
-    let target = target.copy(alloc)?;
-    let args = copied(alloc, site.arguments())?;
-    let results = copied(alloc, site.results())?;
-    Ok(KnownPreimage {
-        must,
-        args,
-        results,
-        target,
-        computed,
-    })
+    let subject = subject_of(alloc, must, site, target)?;
+    Ok(KnownPreimage { subject, computed })
 }
