@@ -17,6 +17,7 @@ use Rattle.bolt_core.specs.Groups.{Node}
 use Rattle.bolt_core.specs.Machine.{AllOf, Core, HoldsBy, first_board, node_of_root, opening}
 use Rattle.bolt_core.specs.Origins.{HasTraced}
 use Rattle.bolt_core.specs.States.{reads}
+use Rattle.bolt_core.specs.steps.Begun.{AreBegun}
 
 roots_push : (gs : List Graph) (main k : ℕ) (ss : List Seen) (s : Seen) → AreRootsOf gs main k ss → IsRootOf gs main (k + length ss) s →
     AreRootsOf gs main k (ss ++ s ∷ [])
@@ -36,17 +37,6 @@ opening_push : (gs : List Graph) (budget : ℕ) (ss : List Seen) (s : Seen) (c :
     opening (reads gs) budget (ss ++ s ∷ []) c ≡ with_root gs budget (opening (reads gs) budget ss c) s
 opening_push gs budget [] s c = refl
 opening_push gs budget (x ∷ ss) s c = opening_push gs budget ss s (with_root gs budget c x)
-
--- so many roots were added
-pub record AreBegun (gs : List Graph) (main budget n : ℕ) (ks : List Summary) (es : List (Entry Seen))
-    (slots : List Slot) : Type 0 where
-  pub roots : List Seen
-  pub count : length roots ≡ n
-  pub are_roots : AreRootsOf gs main 0 roots
-  pub is : core_of ks es slots ks [] false ≡ opening (reads gs) budget roots (first_board (reads gs) ks)
-  pub entries_are : length es ≡ n
-  pub slots_are : length slots ≡ n
-  pub open_slots : (i : ℕ) (s : Slot) → slice_get slots i ≡ Some s → (s.closed ≡ None) × (s.published ≡ None) × (s.said ≡ false)
 
 pub none_begun : (gs : List Graph) (main budget : ℕ) (ks : List Summary) → AreBegun gs main budget 0 ks [] []
 none_begun gs main budget ks = record {

@@ -1,12 +1,14 @@
 //! The board.
 
-ghost use Rattle.std.specs.Prelude.{◌≡◌, ◌≤◌, IfOk, OnOk, Some, length, map, slice_get};
+ghost use Rattle.std.specs.Prelude.{◌≡◌, ◌≤◌, ◌<◌, ◌+◌, ◌*◌, ℕ, List, IfOk, OnOk, Some, length, map, slice_get, vec_capacity};
 ghost use Rattle.flow_graph.specs.declared.graph.Graph.{Graph as AGraph};
 ghost use Rattle.bolt_core.specs.Boards.{IsBegun, IsBegunWith, IsOneOf, IsRootOf, SameProgram, Stops, root_query};
 ghost use Rattle.bolt_core.specs.States.{reads};
-ghost use Rattle.summary_table.specs.Tables.{StartsWith};
+ghost use Rattle.summary_form.specs.declared.summary.Summary.{Summary as ASummary};
+ghost use Rattle.summary_table.specs.Tables.{IsNumbered, StartsWith, exit_of, proc_of};
 ghost use Rattle.summary_table.specs.declared.keys.TheConstants.{MAX_PROCEDURES};
 ghost use Rattle.bolt_core.specs.Machine.{AllOf, HoldsBy, is_over};
+ghost use Rattle.bolt_core.specs.steps.Begun.{AreBegun};
 
 use crate::event::Event;
 use crate::slot::Slot;
@@ -125,6 +127,64 @@ fn root_of(
     Ok((own, state))
 }
 
+/// The roots of a board, and what is kept of their queries.
+#[derive(Drop)]
+struct Roots {
+    forest: Forest<QueryState>,
+    slots: Vec<Slot>,
+}
+
+/// A root for each assertion, with room for all queries that may come.
+fn roots_of(
+    alloc: Global,
+    graphs: &Graphs,
+    main: ProcId,
+    asserts: u32,
+    budget: u32,
+) -> Result<Roots, OutOfMemory>
+    requires main { (g : AGraph) × (slice_get graphs.now.graphs main ≡ Some g) }
+    requires asserts { asserts ≤ 64 }
+    requires some { 1 ≤ budget }
+    requires most { budget ≤ 20000 }
+    ensures begun { IfOk result (λ r. (known : List ASummary) →
+        AreBegun graphs.now.graphs main budget asserts known r.forest.entries r.slots.items) }
+    ensures room { IfOk result (λ r. r.forest.room ≡ asserts * budget + asserts) }
+    ensures slots { IfOk result (λ r. asserts * budget + asserts ≤ vec_capacity r.slots) }
+{
+    let room = asserts * budget + asserts;
+    let mut forest = Forest::with_room(alloc, room)?;
+    let mut slots = Vec::with_capacity(alloc, room as usize)?;
+    for id in 0..asserts {
+        let (query, state) = root_of(alloc, graphs, main, id)?;
+        forest.add_root(budget, state);
+        slots.push_reserved(Slot {
+            parent: None,
+            level: 0,
+            query,
+            closed: None,
+            summary: None,
+            published: None,
+            said: false,
+        });
+    }
+    Ok(Roots { forest, slots })
+}
+
+/// A table that opens with the summaries, and has so much room besides.
+fn opened(alloc: Global, room: u32, kept: &[Arc<Summary>]) -> Result<Table, OutOfMemory>
+    requires room { room + length kept.now < 4294967296 }
+    requires numbers { (i : ℕ) (s : ASummary) →
+        slice_get (map (λ a. a.value) kept.now) i ≡ Some s → IsNumbered (proc_of s) (exit_of s) }
+    ensures summaries { IfOk result (λ t. t.summaries ≡ map (λ a. a.value) kept.now) }
+    ensures room { IfOk result (λ t. t.room ≡ length kept.now + room) }
+{
+    let mut table = Table::with_room(alloc, room + kept.len() as u32)?;
+    for place in 0..kept.len() {
+        table.push(kept[place].clone()?);
+    }
+    Ok(table)
+}
+
 impl Board {
     /// A board with one root for each assertion, on `main` with no condition and this budget, and
     /// with all the room that it ever needs. There are at most 64 graphs and 64 assertions, and the
@@ -173,34 +233,17 @@ impl Board {
             b) }
     {
         let room = asserts * budget + asserts;
-        let mut forest = Forest::with_room(alloc, room)?;
-        let mut slots = Vec::with_capacity(alloc, room as usize)?;
-        let mut table = Table::with_room(alloc, room + kept.len() as u32)?;
-        for place in 0..kept.len() {
-            table.push(kept[place].clone()?);
-        }
         let origins = Vec::with_capacity(alloc, room as usize)?;
         let events = Vec::with_capacity(alloc, 16 * (room as usize))?;
-        for id in 0..asserts {
-            let (query, state) = root_of(alloc, &graphs, main, id)?;
-            forest.add_root(budget, state);
-            slots.push_reserved(Slot {
-                parent: None,
-                level: 0,
-                query,
-                closed: None,
-                summary: None,
-                published: None,
-                said: false,
-            });
-        }
+        let table = opened(alloc, room, &kept)?;
+        let roots = roots_of(alloc, &graphs, main, asserts, budget)?;
         Ok(Board {
             graphs,
             main,
             asserts,
             budget,
-            forest,
-            slots,
+            forest: roots.forest,
+            slots: roots.slots,
             table,
             kept,
             origins,
