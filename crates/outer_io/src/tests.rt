@@ -11,25 +11,25 @@ const TEXT: &[u8] = b"abcdefghij";
 
 #[test]
 fn reads_all_or_says_why(rt: HostRuntime) -> Result<(), Fail> {
-    let fault = ReadError::ReadFault;
-    let long = ReadError::TooLong;
+    const FAULT: ReadError = ReadError::ReadFault;
+    const LONG: ReadError = ReadError::TooLong;
     // the piece, the call that fails, the limit, whether the text came, and how much a second try
     // gets
-    let cases = [
+    let cases = &[
         (4, 99, 10, Ok(true), Ok(0)),
-        (1, 11, 10, Ok(true), Err(fault)),
-        (4, 4, 10, Ok(true), Err(fault)),
+        (1, 11, 10, Ok(true), Err(FAULT)),
+        (4, 4, 10, Ok(true), Err(FAULT)),
         (usize::MAX, 99, usize::MAX, Ok(true), Ok(0)),
-        (4, 0, 10, Err(fault), Ok(10)),
-        (4, 2, 10, Err(fault), Ok(2)),
-        (4, 3, 10, Err(fault), Ok(0)),
-        (4, 99, 9, Err(long), Ok(0)),
-        (4, 99, 5, Err(long), Ok(4)),
-        (4, 2, 5, Err(long), Err(fault)),
-        (4, 1, 5, Err(fault), Ok(6)),
-        (4, 99, 0, Err(long), Ok(9)),
+        (4, 0, 10, Err(FAULT), Ok(10)),
+        (4, 2, 10, Err(FAULT), Ok(2)),
+        (4, 3, 10, Err(FAULT), Ok(0)),
+        (4, 99, 9, Err(LONG), Ok(0)),
+        (4, 99, 5, Err(LONG), Ok(4)),
+        (4, 2, 5, Err(LONG), Err(FAULT)),
+        (4, 1, 5, Err(FAULT), Ok(6)),
+        (4, 99, 0, Err(LONG), Ok(9)),
     ];
-    for (piece, failing, limit, want, rest) in cases {
+    for &(piece, failing, limit, want, rest) in cases {
         let bytes = TEXT.to_vec(rt.alloc())?;
         let failing = vec![in rt.alloc(); failing]?;
         assert!(rt; piece > 0);
@@ -45,7 +45,7 @@ fn reads_all_or_says_why(rt: HostRuntime) -> Result<(), Fail> {
 #[test]
 fn asks_for_what_it_may_take(rt: HostRuntime) -> Result<(), Fail> {
     // how many bytes there are, the call that fails, the limit, and how many bytes came
-    let cases = [
+    let cases = &[
         (0, 1, 0, Ok(0)),
         (0, 0, 0, Err(ReadError::ReadFault)),
         (4097, 1, 4095, Err(ReadError::TooLong)),
@@ -53,7 +53,7 @@ fn asks_for_what_it_may_take(rt: HostRuntime) -> Result<(), Fail> {
         (4097, 2, 4096, Err(ReadError::TooLong)),
         (5000, 3, 5000, Ok(5000)),
     ];
-    for (len, failing, limit, want) in cases {
+    for &(len, failing, limit, want) in cases {
         let bytes = vec![in rt.alloc(); 7; len]?;
         let failing = vec![in rt.alloc(); failing]?;
         let mut source = MemSource::new(bytes, failing, usize::MAX);
@@ -66,7 +66,7 @@ fn asks_for_what_it_may_take(rt: HostRuntime) -> Result<(), Fail> {
 #[test]
 fn writes_all_or_a_front(rt: HostRuntime) -> Result<(), Fail> {
     // the piece, the call that fails, the room, the answer, and how much was written
-    let cases = [
+    let cases = &[
         (4, 99, 10, Ok(()), 10),
         (4, 3, 10, Ok(()), 10),
         (1, 10, 20, Ok(()), 10),
@@ -77,7 +77,7 @@ fn writes_all_or_a_front(rt: HostRuntime) -> Result<(), Fail> {
         (4, 2, 10, Err(Failed), 8),
         (4, 99, 0, Err(Failed), 0),
     ];
-    for (piece, failing, room, want, len) in cases {
+    for &(piece, failing, room, want, len) in cases {
         let failing = vec![in rt.alloc(); failing]?;
         assert!(rt; piece > 0);
         let mut sink = MemSink::new(rt.alloc(), room, failing, piece)?;
@@ -135,13 +135,13 @@ fn reads_through_a_reader(rt: HostRuntime) -> Result<(), Fail> {
     let bytes = read_all(rt.alloc(), &mut source, 10);
     assert_eq!(rt; bytes.map(|bytes| bytes.as_slice() == TEXT), Ok(true));
 
-    let cases = [
+    let cases = &[
         (9, 1, ReadError::ReadFault),
         (9, 4, ReadError::TooLong),
         (1, 2, ReadError::ReadFault),
         (1, 5, ReadError::TooLong),
     ];
-    for (interrupted, failing, want) in cases {
+    for &(interrupted, failing, want) in cases {
         let mut source = FromReader::new(Choppy {
             calls: 0,
             interrupted,

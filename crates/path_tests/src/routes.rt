@@ -78,7 +78,7 @@ fn is_answered(
 
 #[test]
 fn finds_frontiers(rt: HostRuntime) -> Result<(), Fail> {
-    for (shut, marked, wanted) in CASES {
+    for &(shut, marked, wanted) in &CASES {
         assert!(rt; is_answered(rt.alloc(), &shut, &marked, wanted)?);
     }
     Ok(())
@@ -121,7 +121,7 @@ const CROSSINGS: [([bool; 3], Option<usize>); 4] = [
 
 #[test]
 fn finds_last_crossings(rt: HostRuntime) -> Result<(), Fail> {
-    for (marked, wanted) in CROSSINGS {
+    for &(marked, wanted) in &CROSSINGS {
         assert!(rt; last_crossing(&LINE, &marked, &[0, 1]) == wanted);
     }
     Ok(())
