@@ -51,9 +51,7 @@ impl Model for Blocks {
 
     ghost Value = { List Atom };
 
-    ghost view = {
-        λ b. unwrap_or (option_map (λ a. flat_map (λ x. x) a.value.items) b.shared) []
-    };
+    ghost view = { λ b. unwrap_or (option_map (λ a. flat_map (λ x. x) a.value.items) b.shared) [] };
 }
 
 /// All of the atoms, as a `Cube` has them. A copy takes one pointer for all full blocks and one for

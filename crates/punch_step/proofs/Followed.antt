@@ -1,7 +1,7 @@
 -- Distances that follow a state over one step.
 use Rattle.std.proofs.Common.{◌≡◌, ◌≢◌, ℕ, ◌-◌, ◌<◌, ◌≤◌, ◌==◌, Bool, true, false, not, ◌&&◌, ◌||◌, List, [], ◌∷◌, ◌++◌, Option, Some, None, length, arith, refl, sym, subst, ap, ◌∙◌}
 use Rattle.std.specs.Result.{OnOk}
-use Rattle.std.specs.Prelude.{Err, IsTrue, Ok, Result, nat_le, nat_lt, slice_get, slice_set}
+use Rattle.std.specs.Prelude.{Err, IsTrue, Ok, Result, nat_lt, slice_get, slice_set}
 use borrow.Author.Tests.{eqb-true, eqb-false, lt-ltb, lt-leb}
 use Rattle.std.proofs.Math.ListN.{length-set, length-append}
 use Rattle.std.proofs.Math.Bool.{or-false}
@@ -150,7 +150,8 @@ module _ (s : Seen) (d : Distances) (b : IsBehind s d) where
     }
 
     noted_of : (noted : List (Option RegionEdge)) → Keeps d.noted.items noted →
-        ((r : ℕ) (e : RegionEdge) → slice_get noted r ≡ Some (Some e) → e.from ≡ r → IsTrue (m.parted.live e) → IsTrue (made.parted.live e)) →
+        ((r : ℕ) (e : RegionEdge) → slice_get noted r ≡ Some (Some e) → e.from ≡ r → IsTrue (m.parted.live e) →
+        IsTrue (made.parted.live e)) →
         AreNoted s.partition noted
     noted_of noted keeps live r e at =
         let h = b.followed.noted r e (keeps r e at) in (

@@ -1,5 +1,5 @@
 -- Live edges that are noted.
-use Rattle.std.proofs.Common.{◌≡◌, ◌≢◌, ◌⊎◌, inl, inr, ⊎_elim, ℕ, zero, suc, ◌<◌, ◌≤◌, ◌==◌, Bool, true, false, not, ◌&&◌, List, [], ◌∷◌, Option, Some, None, length, arith, refl, sym, subst, ap, ◌∙◌}
+use Rattle.std.proofs.Common.{◌≡◌, ◌≢◌, ⊎_elim, ℕ, zero, suc, ◌<◌, ◌≤◌, Bool, true, false, not, List, [], ◌∷◌, Option, Some, None, length, arith, refl, sym, subst, ap}
 use Rattle.std.specs.Prelude.{IsTrue, slice_get, slice_set}
 use Rattle.std.proofs.lemmas.Option.{same_Some, slice_get_within}
 use Rattle.may_partition.specs.declared.region.RegionEdge.{RegionEdge}
@@ -21,17 +21,17 @@ Keeps old new = (r : ℕ) (e : RegionEdge) → slice_get new r ≡ Some (Some e)
 pub noted_in_none : (p : Shown) (old noted : List (Option RegionEdge)) → old ≡ [] → Keeps old noted → AreNoted p noted
 noted_in_none p old noted none keeps r e h =
     absurd (nothing (subst (λ (xs : List (Option RegionEdge)). slice_get xs r ≡ Some (Some e)) none (keeps r e h))) where
-  nothing : slice_get [] r ≡ Some (Some e) → ⊥
-  nothing h = cc
+      nothing : slice_get [] r ≡ Some (Some e) → ⊥
+      nothing h = cc
 
 pub noted_more : (p : Shown) (noted : List (Option RegionEdge)) (e : RegionEdge) → AreNoted p noted → e.from < length p.regions →
     e.to < length p.regions → IsTrue (is_live p.edges e) → AreNoted p (slice_set noted e.from (Some e))
 noted_more p noted e h from to live r x is =
     ⊎_elim (λ k. here k.0 (same_Some x e k.1)) (λ k. h r x k) (lookup_set noted e.from r (Some e) (Some x) is) where
-  here : r ≡ e.from → x ≡ e → (x.from ≡ r) × (x.from < length p.regions) × (x.to < length p.regions) × IsTrue (is_live p.edges x)
-  here at same =
-      subst (λ (y : RegionEdge). (y.from ≡ r) × (y.from < length p.regions) × (y.to < length p.regions) × IsTrue (is_live p.edges y))
-      (sym same) (sym at, from, to, live)
+      here : r ≡ e.from → x ≡ e → (x.from ≡ r) × (x.from < length p.regions) × (x.to < length p.regions) × IsTrue (is_live p.edges x)
+      here at same =
+          subst (λ (y : RegionEdge). (y.from ≡ r) × (y.from < length p.regions) × (y.to < length p.regions) × IsTrue (is_live p.edges y))
+          (sym same) (sym at, from, to, live)
 
 set_here : (noted : List (Option RegionEdge)) (f : ℕ) (e : RegionEdge) → slice_get (slice_set noted f None) f ≡ Some (Some e) → ⊥
 set_here [] f e h = cc

@@ -68,10 +68,7 @@ pub fn forget(noted: &mut Vec<Option<RegionEdge>>, edge: &RegionEdge)
 }
 
 /// Room for so many regions. Nothing is noted for the new ones.
-pub fn make_room(
-    noted: &mut Vec<Option<RegionEdge>>,
-    regions: usize,
-) -> Result<(), OutOfMemory>
+pub fn make_room(noted: &mut Vec<Option<RegionEdge>>, regions: usize) -> Result<(), OutOfMemory>
     ensures { OnOk result ((r : ℕ) (e : AnEdge) → slice_get noted.new.items r ≡ Some (Some e) →
         slice_get noted.old.items r ≡ Some (Some e)) }
 {

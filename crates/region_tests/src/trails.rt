@@ -16,7 +16,7 @@ use test_forms::edges::{Does, Step, call_of, edge_of};
 use test_forms::graphs::{Shape, graph_of};
 use test_forms::kept::{Counts, has_slots, names_below};
 use test_forms::queries::query_of;
-use test_forms::rows::{Plain, Row, are_rows, are_terms, cube_of, is_term};
+use test_forms::rows::{Plain, Row, are_rows, are_terms, cube_of};
 
 /// What a trail is wanted to hold.
 #[derive(Clone, Copy)]
@@ -57,13 +57,15 @@ fn has_rows(alloc: Global, guard: &SharedCube, wanted: &[Plain]) -> Result<bool,
 /// Whether the trail is the wanted one, with the first symbol as its entry value.
 fn is_trail(alloc: Global, trail: &Trail, wanted: &Wanted) -> Result<bool, Fail> {
     let guarded = has_rows(alloc, &trail.guard, wanted.guard)?;
-    Ok(guarded
-        && trail.node == wanted.node
-        && trail.symbols == wanted.symbols
-        && trail.failed == wanted.failed
-        && are_terms(trail.entry.as_slice(), &[SYMBOL])
-        && are_terms(trail.inputs.as_slice(), wanted.inputs)
-        && are_terms(trail.slots.as_slice(), wanted.slots))
+    Ok(
+        guarded
+            && trail.node == wanted.node
+            && trail.symbols == wanted.symbols
+            && trail.failed == wanted.failed
+            && are_terms(trail.entry.as_slice(), &[SYMBOL])
+            && are_terms(trail.inputs.as_slice(), wanted.inputs)
+            && are_terms(trail.slots.as_slice(), wanted.slots),
+    )
 }
 
 /// The trail over an edge that leaves its node.

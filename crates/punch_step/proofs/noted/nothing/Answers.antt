@@ -1,6 +1,3 @@
-use Rattle.std.proofs.Common.{◌≡◌, List, [], Option, Some, subst}
-use Rattle.std.specs.Prelude.{slice_get}
-use Rattle.may_partition.specs.declared.region.RegionEdge.{RegionEdge}
 use Rattle.punch_step.proofs.Noting.{noted_in_none}
 use Rattle.punch_step.proofs.noted.nothing.Goals as goal
 

@@ -1,8 +1,6 @@
-use Rattle.std.proofs.Common.{◌≡◌, ◌<◌, ◌^◌, ◌∙◌, length, arith, subst, sym}
-use Rattle.std.specs.Prelude.{slice_index, slice_set}
+use Rattle.std.proofs.Common.{◌≡◌, ◌<◌, ◌^◌, ◌∙◌, length, arith, subst}
+use Rattle.std.specs.Prelude.{slice_index}
 use Rattle.std.proofs.lemmas.List.{get_or_default}
-use Rattle.punch_step.specs.declared.measure.Reach.{Reach}
-use Rattle.punch_step.specs.steps.Far.{AreAtLeast}
 use Rattle.punch_step.proofs.FarAway.{one_raised}
 use Rattle.punch_step.proofs.distances.Distances.raise.Goals as goal
 

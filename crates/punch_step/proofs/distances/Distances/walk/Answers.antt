@@ -17,8 +17,8 @@ loop-here-preserved-then-crosses c =
     let d = c.args.self.now in let p = c.args.partition.now in let e = c.index-in-loop-here.result.now in
     record {
       walked = walked_over p.edges d.shut d.marked.items d.reach.far.items c.loop-here.here c.loop-here.last e c.loop-here.invariant.walked
-      (c.leads_on.ensures.leads c.if-not-leads_on.false)
-      (ap (λ (bits : List Bool). crosses bits e) (sym c.deref.ensures.value) ∙ sym c.crosses.ensures ∙ c.if-crosses.true);
+          (c.leads_on.ensures.leads c.if-not-leads_on.false)
+          (ap (λ (bits : List Bool). crosses bits e) (sym c.deref.ensures.value) ∙ sym c.crosses.ensures ∙ c.if-crosses.true);
       noted = c.leads_on.ensures.noted;
     }
 
@@ -27,8 +27,8 @@ loop-here-preserved c =
     let d = c.args.self.now in let p = c.args.partition.now in let e = c.index-in-loop-here.result.now in
     record {
       walked = walked_on p.edges d.shut d.marked.items d.reach.far.items c.loop-here.here c.loop-here.last e c.loop-here.invariant.walked
-      (c.leads_on.ensures.leads c.if-not-leads_on.false)
-      (ap (λ (bits : List Bool). crosses bits e) (sym c.deref.ensures.value) ∙ sym c.crosses.ensures ∙ c.if-crosses.false);
+          (c.leads_on.ensures.leads c.if-not-leads_on.false)
+          (ap (λ (bits : List Bool). crosses bits e) (sym c.deref.ensures.value) ∙ sym c.crosses.ensures ∙ c.if-crosses.false);
       noted = c.leads_on.ensures.noted;
     }
 
