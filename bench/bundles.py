@@ -191,9 +191,9 @@ def of_derived(program):
 
 
 def splits(program):
-    """A right text whose memory grows with the square of its moves, since a split region keeps all rows: told, and not held."""
+    """A right text of many splits of one region, whose pieces share their rows: told, and not held."""
     wrong = 0
-    for many in (1000, 2000, 4000):
+    for many in (1000, 20_000, 100_000):
         moves = f"moves {many}\n" + "split 0 3 3\ncube 1\nrow 0 0\n" * many
         text = text_of(f"claim 0 fail 0\n{NO_ROWS}{NO_ROWS}{moves}", CALLED, 0)
         said = ran([program, "recheck"], text, 120)
