@@ -74,7 +74,8 @@ impl Model for SharedCube {
     ghost invariant = { λ c. IsTrue (are_terms (c.blocks ++ c.last.items)) };
 }
 
-/// How many atoms a block has. With it a cube of some thousand atoms takes the fewest pointers.
+/// How many atoms a block has. A copy takes fewer pointers for the atoms behind the blocks where it
+/// is smaller, and the list of the blocks is copied more often.
 const BLOCK: usize = 64;
 
 impl SharedAtom {
