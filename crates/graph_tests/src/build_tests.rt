@@ -2,6 +2,7 @@
 
 use crate::programs::program_of;
 use flow_build::build::build;
+use flow_graph::calls::CallSite;
 use flow_graph::graph::{Edge, Graph};
 use flow_graph::graphs::Graphs;
 use linear_formula::formula::Cube;
@@ -45,56 +46,49 @@ fn write_rows(text: &mut String, rows: &Cube) -> Result<(), AllocError> {
     Ok(())
 }
 
-/// The text of an edge: its nodes, its kind, slots and coefficients.
+/// Writes what an edge does: its kind, slots and coefficients.
+fn write_kind(text: &mut String, edge: &Edge) -> Result<(), AllocError> {
+    match edge {
+        Edge::Entry { params, .. } => write!(text, "entry of {params}")?,
+        Edge::Assign { slot, value, .. } => {
+            let parts = value.parts.as_slice();
+            write!(text, "{slot} = {parts:?} + {}", value.constant)?;
+        }
+        Edge::Guard { rows, .. } => {
+            write!(text, "guard")?;
+            write_rows(text, rows)?;
+        }
+        Edge::Assert { id, rows, .. } => {
+            write!(text, "failure of {id}")?;
+            write_rows(text, rows)?;
+        }
+        Edge::Return { slots, .. } => write!(text, "return of {:?}", slots.as_slice())?,
+        Edge::Input { slot, .. } => write!(text, "input to {slot}")?,
+        Edge::Pick { slot, rows, .. } => {
+            write!(text, "pick of {slot}")?;
+            write_rows(text, rows)?;
+        }
+        Edge::Call { .. } => {
+            let site = CallSite::of(edge);
+            let (results, arguments) = (site.results(), site.arguments());
+            write!(
+                text,
+                "{results:?} = call of {} with {arguments:?}",
+                site.procedure()
+            )?;
+        }
+    }
+    Ok(())
+}
+
+/// The text of an edge: its nodes, and what it does.
 fn edge_text(alloc: Global, edge: &Edge) -> Result<String, AllocError> {
     let mut text = String::new(alloc);
-    match edge {
-        Edge::Entry { to, params } => write!(text, "to {to}: entry of {params}")?,
-        Edge::Assign {
-            from,
-            to,
-            slot,
-            value,
-        } => write!(
-            text,
-            "{from} to {to}: {slot} = {:?} + {}",
-            value.parts.as_slice(),
-            value.constant
-        )?,
-        Edge::Guard { from, to, rows } => {
-            write!(text, "{from} to {to}: guard")?;
-            write_rows(&mut text, rows)?;
-        }
-        Edge::Assert { from, to, id, rows } => {
-            write!(text, "{from} to {to}: failure of {id}")?;
-            write_rows(&mut text, rows)?;
-        }
-        Edge::Return { from, to, slots } => {
-            write!(text, "{from} to {to}: return of {:?}", slots.as_slice())?;
-        }
-        Edge::Input { from, to, slot } => write!(text, "{from} to {to}: input to {slot}")?,
-        Edge::Pick {
-            from,
-            to,
-            slot,
-            rows,
-        } => {
-            write!(text, "{from} to {to}: pick of {slot}")?;
-            write_rows(&mut text, rows)?;
-        }
-        Edge::Call {
-            from,
-            to,
-            proc,
-            args,
-            results,
-        } => write!(
-            text,
-            "{from} to {to}: {:?} = call of {proc} with {:?}",
-            results.as_slice(),
-            args.as_slice()
-        )?,
+    if let Some(from) = edge.source() {
+        write!(text, "{from} ")?;
     }
+    write!(text, "to {}: ", edge.target())?;
+    write_kind(&mut text, edge)?;
     Ok(text)
 }
 

@@ -7,6 +7,7 @@ use crate::quotients::{DIVIDENDS, DIVIDING, DIVISIONS};
 use crate::sources::{CONTEXTS, EXPRESSIONS, HEAD, PROGRAMS, SHARED};
 use c_tree::tree::{ProcId, Program, Slot};
 use flow_build::build::build;
+use flow_graph::calls::CallSite;
 use flow_graph::graph::{Edge, Graph};
 use flow_graph::graphs::Graphs;
 use linear_formula::formula::Cube;
@@ -140,16 +141,14 @@ impl<'a> Walk<'a> {
         alloc: Global,
         frame: Frame<'a>,
         node: u32,
-        procedure: ProcId,
-        arguments: &[Slot],
-        takes: &'a [Slot],
+        site: &CallSite<'a>,
     ) -> Result<Option<Outcome>, Fail> {
         let mut frame = frame;
-        let values = values_of(alloc, &frame.slots, arguments)?;
+        let values = values_of(alloc, &frame.slots, site.arguments())?;
         frame.node = node;
-        frame.takes = takes;
+        frame.takes = site.results();
         self.frames.push(frame)?;
-        self.enter(procedure, values)?;
+        self.enter(site.procedure(), values)?;
         Ok(None)
     }
 
@@ -182,22 +181,7 @@ impl<'a> Walk<'a> {
                 self.used += 1;
                 self.resume(frame, *to, *slot, *value)?;
             }
-            Edge::Call {
-                to,
-                proc,
-                args,
-                results,
-                ..
-            } => {
-                return self.call(
-                    alloc,
-                    frame,
-                    *to,
-                    *proc,
-                    args.as_slice(),
-                    results.as_slice(),
-                );
-            }
+            Edge::Call { to, .. } => return self.call(alloc, frame, *to, &CallSite::of(edge)),
             Edge::Assert { id, .. } => return Ok(Some(Outcome::Failed(*id))),
             Edge::Return { slots, .. } => {
                 let values = values_of(alloc, &frame.slots, slots.as_slice())?;
