@@ -21,69 +21,71 @@ fn spelled(alloc: Global, text: &[u8]) -> Result<String, Fail>
     Ok(out)
 }
 
+/// Texts and their tokens.
+const TOKENS: &[(&[u8], &str)] = &[
+    (b"", ""),
+    (b" \t\x0b\x0c\r\n", ""),
+    (
+        b"x+++0x1F;",
+        "1:1 0-1 Name; 1:2 1-3 Mark(Increment); 1:4 3-4 Mark(Plus); 1:5 4-8 Literal(31); 1:9 8-9 Mark(Semicolon); ",
+    ),
+    (
+        b"\na\n\n  b\tc",
+        "2:1 1-2 Name; 4:3 6-7 Name; 4:5 8-9 Name; ",
+    ),
+    (
+        b"int\r\nIf _z9 if0",
+        "1:1 0-3 Word(Int); 2:1 5-7 Name; 2:4 8-11 Name; 2:8 12-15 Name; ",
+    ),
+    (
+        b"a---b",
+        "1:1 0-1 Name; 1:2 1-3 Mark(Decrement); 1:4 3-4 Mark(Minus); 1:5 4-5 Name; ",
+    ),
+    (
+        b"= ===",
+        "1:1 0-1 Mark(Assign); 1:3 2-4 Mark(Equal); 1:5 4-5 Mark(Assign); ",
+    ),
+    (b"a/* c */b", "1:1 0-1 Name; 1:9 8-9 Name; "),
+    (b"a// \x00\xff */\nb//", "1:1 0-1 Name; 2:1 10-11 Name; "),
+    (b"/**//***/ /* * / */x", "1:20 19-20 Name; "),
+    (b"/* \n */ y", "2:5 8-9 Name; "),
+    (b"#include <a>", ""),
+    (b" \t#\tinclude", ""),
+    (b"#include", ""),
+    (b"#include <a> /* not a comment\nx", "2:1 30-31 Name; "),
+    (
+        b"int\n  # include\"a\" //\n#include<b>\n;",
+        "1:1 0-3 Word(Int); 4:1 34-35 Mark(Semicolon); ",
+    ),
+    (b"a //b", "1:1 0-1 Name; "),
+    (
+        b"a /*b*/ / c",
+        "1:1 0-1 Name; 1:9 8-9 Mark(Slash); 1:11 10-11 Name; ",
+    ),
+    (
+        b"/* /* */ */",
+        "1:10 9-10 Mark(Star); 1:11 10-11 Mark(Slash); ",
+    ),
+    (
+        b"x /=2",
+        "1:1 0-1 Name; 1:3 2-4 Mark(SlashAssign); 1:5 4-5 Literal(2); ",
+    ),
+    (b"a//=b\n%=", "1:1 0-1 Name; 2:1 6-8 Mark(PercentAssign); "),
+    (b"/**/=", "1:5 4-5 Mark(Assign); "),
+    (
+        b"7/ /2",
+        "1:1 0-1 Literal(7); 1:2 1-2 Mark(Slash); 1:4 3-4 Mark(Slash); 1:5 4-5 Literal(2); ",
+    ),
+    (
+        b"a%%=b",
+        "1:1 0-1 Name; 1:2 1-2 Mark(Percent); 1:3 2-4 Mark(PercentAssign); 1:5 4-5 Name; ",
+    ),
+];
+
 #[test]
 fn tokens_of_texts(rt: HostRuntime) -> Result<(), Fail> {
     one_answer();
-    let table: [(&[u8], &str); 24] = [
-        (b"", ""),
-        (b" \t\x0b\x0c\r\n", ""),
-        (
-            b"x+++0x1F;",
-            "1:1 0-1 Name; 1:2 1-3 Mark(Increment); 1:4 3-4 Mark(Plus); 1:5 4-8 Literal(31); 1:9 8-9 Mark(Semicolon); ",
-        ),
-        (
-            b"\na\n\n  b\tc",
-            "2:1 1-2 Name; 4:3 6-7 Name; 4:5 8-9 Name; ",
-        ),
-        (
-            b"int\r\nIf _z9 if0",
-            "1:1 0-3 Word(Int); 2:1 5-7 Name; 2:4 8-11 Name; 2:8 12-15 Name; ",
-        ),
-        (
-            b"a---b",
-            "1:1 0-1 Name; 1:2 1-3 Mark(Decrement); 1:4 3-4 Mark(Minus); 1:5 4-5 Name; ",
-        ),
-        (
-            b"= ===",
-            "1:1 0-1 Mark(Assign); 1:3 2-4 Mark(Equal); 1:5 4-5 Mark(Assign); ",
-        ),
-        (b"a/* c */b", "1:1 0-1 Name; 1:9 8-9 Name; "),
-        (b"a// \x00\xff */\nb//", "1:1 0-1 Name; 2:1 10-11 Name; "),
-        (b"/**//***/ /* * / */x", "1:20 19-20 Name; "),
-        (b"/* \n */ y", "2:5 8-9 Name; "),
-        (b"#include <a>", ""),
-        (b" \t#\tinclude", ""),
-        (b"#include", ""),
-        (b"#include <a> /* not a comment\nx", "2:1 30-31 Name; "),
-        (
-            b"int\n  # include\"a\" //\n#include<b>\n;",
-            "1:1 0-3 Word(Int); 4:1 34-35 Mark(Semicolon); ",
-        ),
-        (b"a //b", "1:1 0-1 Name; "),
-        (
-            b"a /*b*/ / c",
-            "1:1 0-1 Name; 1:9 8-9 Mark(Slash); 1:11 10-11 Name; ",
-        ),
-        (
-            b"/* /* */ */",
-            "1:10 9-10 Mark(Star); 1:11 10-11 Mark(Slash); ",
-        ),
-        (
-            b"x /=2",
-            "1:1 0-1 Name; 1:3 2-4 Mark(SlashAssign); 1:5 4-5 Literal(2); ",
-        ),
-        (b"a//=b\n%=", "1:1 0-1 Name; 2:1 6-8 Mark(PercentAssign); "),
-        (b"/**/=", "1:5 4-5 Mark(Assign); "),
-        (
-            b"7/ /2",
-            "1:1 0-1 Literal(7); 1:2 1-2 Mark(Slash); 1:4 3-4 Mark(Slash); 1:5 4-5 Literal(2); ",
-        ),
-        (
-            b"a%%=b",
-            "1:1 0-1 Name; 1:2 1-2 Mark(Percent); 1:3 2-4 Mark(PercentAssign); 1:5 4-5 Name; ",
-        ),
-    ];
-    for (text, wanted) in table {
+    for &(text, wanted) in TOKENS {
         assert!(rt; text.len() <= 65536);
         let told = spelled(rt.alloc(), text)?;
         assert_eq!(rt; told.as_str(), wanted);
@@ -102,55 +104,57 @@ fn kind_of(alloc: Global, text: &[u8]) -> Option<TokenKind>
     }
 }
 
+/// The words that are no names.
+const WORDS: &[(&[u8], Keyword)] = &[
+    (b"int", Keyword::Int),
+    (b"long", Keyword::Long),
+    (b"void", Keyword::Void),
+    (b"extern", Keyword::Extern),
+    (b"if", Keyword::If),
+    (b"else", Keyword::Else),
+    (b"while", Keyword::While),
+    (b"do", Keyword::Do),
+    (b"for", Keyword::For),
+    (b"break", Keyword::Break),
+    (b"continue", Keyword::Continue),
+    (b"return", Keyword::Return),
+    (b"auto", Keyword::Auto),
+    (b"case", Keyword::Case),
+    (b"char", Keyword::Char),
+    (b"const", Keyword::Const),
+    (b"default", Keyword::Default),
+    (b"double", Keyword::Double),
+    (b"enum", Keyword::Enum),
+    (b"float", Keyword::Float),
+    (b"goto", Keyword::Goto),
+    (b"inline", Keyword::Inline),
+    (b"register", Keyword::Register),
+    (b"restrict", Keyword::Restrict),
+    (b"short", Keyword::Short),
+    (b"signed", Keyword::Signed),
+    (b"sizeof", Keyword::Sizeof),
+    (b"static", Keyword::Static),
+    (b"struct", Keyword::Struct),
+    (b"switch", Keyword::Switch),
+    (b"typedef", Keyword::Typedef),
+    (b"union", Keyword::Union),
+    (b"unsigned", Keyword::Unsigned),
+    (b"volatile", Keyword::Volatile),
+    (b"_Alignas", Keyword::Alignas),
+    (b"_Alignof", Keyword::Alignof),
+    (b"_Atomic", Keyword::Atomic),
+    (b"_Bool", Keyword::Bool),
+    (b"_Complex", Keyword::Complex),
+    (b"_Generic", Keyword::Generic),
+    (b"_Imaginary", Keyword::Imaginary),
+    (b"_Noreturn", Keyword::Noreturn),
+    (b"_Static_assert", Keyword::StaticAssert),
+    (b"_Thread_local", Keyword::ThreadLocal),
+];
+
 #[test]
 fn words(rt: HostRuntime) -> Result<(), Fail> {
-    let table: [(&[u8], Keyword); 44] = [
-        (b"int", Keyword::Int),
-        (b"long", Keyword::Long),
-        (b"void", Keyword::Void),
-        (b"extern", Keyword::Extern),
-        (b"if", Keyword::If),
-        (b"else", Keyword::Else),
-        (b"while", Keyword::While),
-        (b"do", Keyword::Do),
-        (b"for", Keyword::For),
-        (b"break", Keyword::Break),
-        (b"continue", Keyword::Continue),
-        (b"return", Keyword::Return),
-        (b"auto", Keyword::Auto),
-        (b"case", Keyword::Case),
-        (b"char", Keyword::Char),
-        (b"const", Keyword::Const),
-        (b"default", Keyword::Default),
-        (b"double", Keyword::Double),
-        (b"enum", Keyword::Enum),
-        (b"float", Keyword::Float),
-        (b"goto", Keyword::Goto),
-        (b"inline", Keyword::Inline),
-        (b"register", Keyword::Register),
-        (b"restrict", Keyword::Restrict),
-        (b"short", Keyword::Short),
-        (b"signed", Keyword::Signed),
-        (b"sizeof", Keyword::Sizeof),
-        (b"static", Keyword::Static),
-        (b"struct", Keyword::Struct),
-        (b"switch", Keyword::Switch),
-        (b"typedef", Keyword::Typedef),
-        (b"union", Keyword::Union),
-        (b"unsigned", Keyword::Unsigned),
-        (b"volatile", Keyword::Volatile),
-        (b"_Alignas", Keyword::Alignas),
-        (b"_Alignof", Keyword::Alignof),
-        (b"_Atomic", Keyword::Atomic),
-        (b"_Bool", Keyword::Bool),
-        (b"_Complex", Keyword::Complex),
-        (b"_Generic", Keyword::Generic),
-        (b"_Imaginary", Keyword::Imaginary),
-        (b"_Noreturn", Keyword::Noreturn),
-        (b"_Static_assert", Keyword::StaticAssert),
-        (b"_Thread_local", Keyword::ThreadLocal),
-    ];
-    for (text, word) in table {
+    for &(text, word) in WORDS {
         assert!(rt; text.len() <= 65536);
         assert_eq!(rt; kind_of(rt.alloc(), text), Some(TokenKind::Word(word)));
     }
@@ -159,7 +163,7 @@ fn words(rt: HostRuntime) -> Result<(), Fail> {
 
 #[test]
 fn marks(rt: HostRuntime) -> Result<(), Fail> {
-    let table: [(&[u8], Punct); 28] = [
+    let table: &[(&[u8], Punct)] = &[
         (b"(", Punct::OpenParenthesis),
         (b")", Punct::CloseParenthesis),
         (b"{", Punct::OpenBrace),
@@ -189,7 +193,7 @@ fn marks(rt: HostRuntime) -> Result<(), Fail> {
         (b"++", Punct::Increment),
         (b"--", Punct::Decrement),
     ];
-    for (text, mark) in table {
+    for &(text, mark) in table {
         assert!(rt; text.len() <= 65536);
         assert_eq!(rt; kind_of(rt.alloc(), text), Some(TokenKind::Mark(mark)));
     }
@@ -198,7 +202,7 @@ fn marks(rt: HostRuntime) -> Result<(), Fail> {
 
 #[test]
 fn literals(rt: HostRuntime) -> Result<(), Fail> {
-    let table: [(&[u8], i64); 18] = [
+    let table: &[(&[u8], i64)] = &[
         (b"0", 0),
         (b"00", 0),
         (b"9", 9),
@@ -218,7 +222,7 @@ fn literals(rt: HostRuntime) -> Result<(), Fail> {
         (b"0777777777777777777777", 9223372036854775807),
         (b"00000000000000000000000001L", 1),
     ];
-    for (text, value) in table {
+    for &(text, value) in table {
         assert!(rt; text.len() <= 65536);
         assert_eq!(rt; kind_of(rt.alloc(), text), Some(TokenKind::Literal(value)));
     }
@@ -234,7 +238,7 @@ fn fault_of(alloc: Global, text: &[u8]) -> Option<LexError>
 
 #[test]
 fn bad_bytes(rt: HostRuntime) -> Result<(), Fail> {
-    let table: [(&[u8], u32, u32); 25] = [
+    let table: &[(&[u8], u32, u32)] = &[
         (b"x=08;", 1, 4),
         (b"019", 1, 3),
         (b"0x;", 1, 2),
@@ -261,7 +265,7 @@ fn bad_bytes(rt: HostRuntime) -> Result<(), Fail> {
         (b"#\ninclude", 1, 1),
         (b"x\xc3\xa9", 1, 2),
     ];
-    for (text, line, column) in table {
+    for &(text, line, column) in table {
         assert!(rt; text.len() <= 65536);
         let at = Pos { line, column };
         assert_eq!(rt; fault_of(rt.alloc(), text), Some(LexError::BadByte(at)));
@@ -273,7 +277,7 @@ fn bad_bytes(rt: HostRuntime) -> Result<(), Fail> {
 fn other_faults(rt: HostRuntime) -> Result<(), Fail> {
     let first = Pos { line: 1, column: 1 };
     let third = Pos { line: 1, column: 3 };
-    let table: [(&[u8], LexError); 9] = [
+    let table: &[(&[u8], LexError)] = &[
         (b"9223372036854775808", LexError::TooWide(first)),
         (b"0x8000000000000000", LexError::TooWide(first)),
         (b"01000000000000000000000", LexError::TooWide(first)),
@@ -284,7 +288,7 @@ fn other_faults(rt: HostRuntime) -> Result<(), Fail> {
         (b"+ /* %", LexError::OpenComment(third)),
         (b"a /*= 2", LexError::OpenComment(third)),
     ];
-    for (text, fault) in table {
+    for &(text, fault) in table {
         assert!(rt; text.len() <= 65536);
         assert_eq!(rt; fault_of(rt.alloc(), text), Some(fault));
     }
@@ -309,13 +313,13 @@ fn single_bytes(rt: HostRuntime) -> Result<(), Fail> {
 
 #[test]
 fn ends(rt: HostRuntime) -> Result<(), Fail> {
-    let table: [(&[u8], u32, u32); 4] = [
+    let table: &[(&[u8], u32, u32)] = &[
         (b"", 1, 1),
         (b"ab", 1, 3),
         (b"ab\n", 2, 1),
         (b"\n\n /* %", 3, 6),
     ];
-    for (text, line, column) in table {
+    for &(text, line, column) in table {
         assert!(rt; text.len() <= 65536);
         assert_eq!(rt; end_of(text), Pos { line, column });
     }
@@ -335,13 +339,13 @@ fn shown(alloc: Global, text: &[u8]) -> Result<String, Fail>
 
 #[test]
 fn texts_of_faults(rt: HostRuntime) -> Result<(), Fail> {
-    let table: [(&[u8], &str); 4] = [
+    let table: &[(&[u8], &str)] = &[
         (b"x\n @", "2:2: bad byte"),
         (b"x /*", "1:3: comment not closed"),
         (b"9223372036854775808", "1:1: literal too wide"),
         (b"x", ""),
     ];
-    for (text, wanted) in table {
+    for &(text, wanted) in table {
         assert!(rt; text.len() <= 65536);
         let told = shown(rt.alloc(), text)?;
         assert_eq!(rt; told.as_str(), wanted);

@@ -53,7 +53,7 @@ fn told_of(
 #[test]
 fn texts(rt: HostRuntime) -> Result<(), Fail> {
     one_tree();
-    let cases = [
+    let cases = &[
         ("", "items", 0usize),
         ("int main() { }", "items", 1),
         (
@@ -84,7 +84,7 @@ fn texts(rt: HostRuntime) -> Result<(), Fail> {
         ("int f() { else ; }", "unexpected", 11),
         ("int f() { static }", "unexpected", 11),
     ];
-    for (text, answer, number) in cases {
+    for &(text, answer, number) in cases {
         let got = told(rt.alloc(), text)?;
         assert_eq!(rt; got, (answer, number), "{text}");
     }
@@ -93,7 +93,7 @@ fn texts(rt: HostRuntime) -> Result<(), Fail> {
 
 #[test]
 fn divisions(rt: HostRuntime) -> Result<(), Fail> {
-    let cases = [
+    let cases = &[
         ("int f() { x = a / b % 2 * c; }", "items", 1usize),
         ("int f() { x /= 2; x %= -y; }", "items", 1),
         ("int f() { x / 2; }", "unexpected", 13),
@@ -102,7 +102,7 @@ fn divisions(rt: HostRuntime) -> Result<(), Fail> {
         ("int f() { x = 1 /", "end", 18),
         ("int f() { x %=", "end", 15),
     ];
-    for (text, answer, number) in cases {
+    for &(text, answer, number) in cases {
         let got = told(rt.alloc(), text)?;
         assert_eq!(rt; got, (answer, number), "{text}");
     }
@@ -111,7 +111,7 @@ fn divisions(rt: HostRuntime) -> Result<(), Fail> {
 
 #[test]
 fn declarations_of_globals(rt: HostRuntime) -> Result<(), Fail> {
-    let cases = [
+    let cases = &[
         ("int g = -5, h, k = +0x10; long long m;", "items", 2usize),
         ("int g; int main() { g = 1; } long h = 3;", "items", 3),
         ("int g,", "end", 7),
@@ -137,7 +137,7 @@ fn declarations_of_globals(rt: HostRuntime) -> Result<(), Fail> {
         ("int f(), g;", "unexpected", 8),
         ("int g; { }", "unexpected", 8),
     ];
-    for (text, answer, number) in cases {
+    for &(text, answer, number) in cases {
         let got = told(rt.alloc(), text)?;
         assert_eq!(rt; got, (answer, number), "{text}");
     }
@@ -190,7 +190,7 @@ fn items_of(alloc: Global, text: &str) -> Result<String, Fail> {
 
 #[test]
 fn values_of_globals(rt: HostRuntime) -> Result<(), Fail> {
-    let cases = [
+    let cases = &[
         ("int g = -5, h, k = +0x10;", "g=-5 h k=16 ; "),
         ("int a = - 0, b = 017, c = 5LL;", "a=0 b=15 c=5 ; "),
         (
@@ -202,7 +202,7 @@ fn values_of_globals(rt: HostRuntime) -> Result<(), Fail> {
             "g ; f() ; h=7 i ; main{} ; k ; ",
         ),
     ];
-    for (text, wanted) in cases {
+    for &(text, wanted) in cases {
         let items = items_of(rt.alloc(), text)?;
         assert_eq!(rt; items.as_str(), wanted, "{text}");
     }
@@ -211,7 +211,7 @@ fn values_of_globals(rt: HostRuntime) -> Result<(), Fail> {
 
 #[test]
 fn limits(rt: HostRuntime) -> Result<(), Fail> {
-    let cases = [
+    let cases = &[
         ("int f() { return ", "!", 256u32, "0; }", "items", 1usize),
         ("int f() { return ", "!", 257, "0; }", "deep", 274),
         ("int f() { x = ", "(", 256, "", "end", 271),
@@ -224,7 +224,7 @@ fn limits(rt: HostRuntime) -> Result<(), Fail> {
         ("int f() { x = a", " % b", 257, "; }", "deep", 1041),
         ("int g = -1", ", h = -1", 300, ";", "items", 1),
     ];
-    for (head, part, count, tail, answer, number) in cases {
+    for &(head, part, count, tail, answer, number) in cases {
         let got = told_of(rt.alloc(), head, part, count, tail)?;
         assert_eq!(rt; got, (answer, number), "{head}{part}");
     }
@@ -241,13 +241,13 @@ fn shown(alloc: Global, fault: ParseError) -> Result<String, Fail> {
 #[test]
 fn texts_of_faults(rt: HostRuntime) -> Result<(), Fail> {
     let at = Pos { line: 3, column: 7 };
-    let table = [
+    let table = &[
         (ParseError::Unexpected(at), "3:7: unexpected token"),
         (ParseError::End(at), "3:7: unexpected end of file"),
         (ParseError::TooDeep(at), "3:7: nested too deep"),
         (ParseError::Memory, "out of memory"),
     ];
-    for (fault, wanted) in table {
+    for &(fault, wanted) in table {
         let told = shown(rt.alloc(), fault)?;
         assert_eq!(rt; told.as_str(), wanted);
     }

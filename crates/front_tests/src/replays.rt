@@ -40,7 +40,7 @@ fn run(alloc: Global, source: &str, inputs: &[i64], fuel: u64) -> Result<Replaye
 
 #[test]
 fn outcomes(rt: HostRuntime) -> Result<(), Fail> {
-    let rows: [(&[i64], u64, Outcome, usize); 26] = [
+    let rows: &[(&[i64], u64, Outcome, usize)] = &[
         (&[0, 5], 10, Outcome::Returned(5), 2),
         (&[0, 5], 9, Outcome::Fuel, 1),
         (&[0], 10, Outcome::Starved, 1),
@@ -68,7 +68,7 @@ fn outcomes(rt: HostRuntime) -> Result<(), Fail> {
         (&[14], 1000, Outcome::Returned(7), 1),
         (&[15], 1000, Outcome::Returned(4), 1),
     ];
-    for (inputs, fuel, outcome, used) in rows {
+    for &(inputs, fuel, outcome, used) in rows {
         let run = run(rt.alloc(), SOURCE, inputs, fuel)?;
         assert_eq!(rt; run, Replayed { outcome, used }, "on {inputs:?}");
     }
@@ -95,7 +95,7 @@ const GLOBALS: &str = "
 
 #[test]
 fn globals(rt: HostRuntime) -> Result<(), Fail> {
-    let rows: [(&[i64], u64, Outcome, usize); 11] = [
+    let rows: &[(&[i64], u64, Outcome, usize)] = &[
         (&[0], 1000, Outcome::Returned(50), 1),
         (&[1], 1000, Outcome::Returned(566), 1),
         (&[2], 1000, Outcome::Returned(19), 1),
@@ -108,7 +108,7 @@ fn globals(rt: HostRuntime) -> Result<(), Fail> {
         (&[8], 1000, Outcome::Returned(-9), 1),
         (&[8], 20, Outcome::Fuel, 1),
     ];
-    for (inputs, fuel, outcome, used) in rows {
+    for &(inputs, fuel, outcome, used) in rows {
         let run = run(rt.alloc(), GLOBALS, inputs, fuel)?;
         assert_eq!(rt; run, Replayed { outcome, used }, "on {inputs:?}");
     }
@@ -135,7 +135,7 @@ const DIVISIONS: &str = "
 
 #[test]
 fn divisions(rt: HostRuntime) -> Result<(), Fail> {
-    let rows = [
+    let rows = &[
         (7, 0, Outcome::Returned(2)),
         (-7, 0, Outcome::Returned(-2)),
         (-2, 0, Outcome::Returned(0)),
@@ -157,7 +157,7 @@ fn divisions(rt: HostRuntime) -> Result<(), Fail> {
         (i64::MAX, 10, Outcome::Returned(8388607)),
         (i64::MIN, 10, Outcome::Returned(-8388608)),
     ];
-    for (dividend, how, outcome) in rows {
+    for &(dividend, how, outcome) in rows {
         let run = run(rt.alloc(), DIVISIONS, &[dividend, how], 1000)?;
         assert_eq!(rt; run, Replayed { outcome, used: 2 }, "on {dividend}, {how}");
     }
