@@ -102,17 +102,17 @@ fn agree<R: Abort + Threads + Wait + Sync>(
 
 #[test]
 fn answers_checks(rt: HostRuntime) -> Result<(), Fail> {
-    agree(&rt, rt.alloc(), &CHECKS)
+    agree(&rt, rt.alloc(), CHECKS)
 }
 
 #[test]
 fn answers_analyses(rt: HostRuntime) -> Result<(), Fail> {
-    agree(&rt, rt.alloc(), &ANALYSES)
+    agree(&rt, rt.alloc(), ANALYSES)
 }
 
 #[test]
 fn answers_programs_with_calls(rt: HostRuntime) -> Result<(), Fail> {
-    agree(&rt, rt.alloc(), &CALLS)
+    agree(&rt, rt.alloc(), CALLS)
 }
 
 /// What may be written in place of a line that says `proved`.
@@ -171,17 +171,17 @@ fn agree_on_open<R: Abort + Threads + Wait + Sync>(
 
 #[test]
 fn answers_with_much_budget(rt: HostRuntime) -> Result<(), Fail> {
-    agree_on_open(&rt, rt.alloc(), &OPEN)
+    agree_on_open(&rt, rt.alloc(), OPEN)
 }
 
 #[test]
 fn answers_replays(rt: HostRuntime) -> Result<(), Fail> {
-    agree(&rt, rt.alloc(), &REPLAYS)
+    agree(&rt, rt.alloc(), REPLAYS)
 }
 
 #[test]
 fn answers_workloads(rt: HostRuntime) -> Result<(), Fail> {
-    agree(&rt, rt.alloc(), &WORKLOADS)
+    agree(&rt, rt.alloc(), WORKLOADS)
 }
 
 /// What the last lines of the largest one are.
@@ -196,14 +196,14 @@ fn answers_the_largest_workload(rt: HostRuntime) -> Result<(), Fail> {
 
 #[test]
 fn answers_programs_with_globals(rt: HostRuntime) -> Result<(), Fail> {
-    agree(&rt, rt.alloc(), &GLOBALS)?;
-    agree(&rt, rt.alloc(), &GLOBAL_CHECKS)
+    agree(&rt, rt.alloc(), GLOBALS)?;
+    agree(&rt, rt.alloc(), GLOBAL_CHECKS)
 }
 
 #[test]
 fn answers_quotients(rt: HostRuntime) -> Result<(), Fail> {
-    agree(&rt, rt.alloc(), &DIVISIONS)?;
-    agree(&rt, rt.alloc(), &DIVISION_CHECKS)
+    agree(&rt, rt.alloc(), DIVISIONS)?;
+    agree(&rt, rt.alloc(), DIVISION_CHECKS)
 }
 
 /// Each of two workers makes its first call before the other one is let on.
@@ -223,12 +223,12 @@ fn two_workers_meet(rt: HostRuntime) -> Result<(), Fail> {
 
 #[test]
 fn answers_worked_examples(rt: HostRuntime) -> Result<(), Fail> {
-    agree(&rt, rt.alloc(), &WORKED)
+    agree(&rt, rt.alloc(), WORKED)
 }
 
 #[test]
 fn answers_afterwards(rt: HostRuntime) -> Result<(), Fail> {
-    agree(&rt, rt.alloc(), &AFTERWARDS)
+    agree(&rt, rt.alloc(), AFTERWARDS)
 }
 
 /// What is written of the bundle that words make of a text.
@@ -254,7 +254,7 @@ fn rechecked<R: Threads + Wait + Sync>(
 /// The bundle of each row is answered so.
 #[test]
 fn accepts_what_it_bundles(rt: HostRuntime) -> Result<(), Fail> {
-    for (line, text, wanted) in BUNDLED {
+    for &(line, text, wanted) in BUNDLED {
         let got = rechecked(&rt, rt.alloc(), line, text)?;
         assert_eq!(&rt; got.as_str(), wanted, "{line} of {text}");
     }
@@ -263,12 +263,12 @@ fn accepts_what_it_bundles(rt: HostRuntime) -> Result<(), Fail> {
 
 #[test]
 fn refuses_the_first_fault(rt: HostRuntime) -> Result<(), Fail> {
-    agree(&rt, rt.alloc(), &REFUSALS)
+    agree(&rt, rt.alloc(), REFUSALS)
 }
 
 #[test]
 fn tells_the_usage(rt: HostRuntime) -> Result<(), Fail> {
-    agree(&rt, rt.alloc(), &NO_COMMANDS)
+    agree(&rt, rt.alloc(), NO_COMMANDS)
 }
 
 /// What is written of a source that gives 4 bytes a call, of which one fails.
@@ -296,7 +296,7 @@ fn agree_on_faults<R: Abort + Threads + Wait + Sync>(
 
 #[test]
 fn tells_of_faults(rt: HostRuntime) -> Result<(), Fail> {
-    agree_on_faults(&rt, rt.alloc(), &FAULTS)
+    agree_on_faults(&rt, rt.alloc(), FAULTS)
 }
 
 /// The 61 bytes take 16 calls, and one more sees the end.
@@ -349,7 +349,7 @@ fn of_nesting<R: Threads + Wait + Sync>(
 
 #[test]
 fn bounds_nesting(rt: HostRuntime) -> Result<(), Fail> {
-    for nesting in &NESTINGS {
+    for nesting in NESTINGS {
         let got = of_nesting(&rt, rt.alloc(), nesting)?;
         assert_eq!(rt; got.as_str(), nesting.4, "{}", nesting.3);
     }
@@ -382,7 +382,7 @@ fn agree_on_blanks<R: Abort + Threads + Wait + Sync>(
 
 #[test]
 fn bounds_a_source(rt: HostRuntime) -> Result<(), Fail> {
-    agree_on_blanks(&rt, rt.alloc(), &BLANKS)
+    agree_on_blanks(&rt, rt.alloc(), BLANKS)
 }
 
 /// What is written of a body.
@@ -408,12 +408,12 @@ fn agree_on_bodies<R: Abort + Threads + Wait + Sync>(
 
 #[test]
 fn values_of_bodies(rt: HostRuntime) -> Result<(), Fail> {
-    agree_on_bodies(&rt, rt.alloc(), &BODIES)
+    agree_on_bodies(&rt, rt.alloc(), BODIES)
 }
 
 #[test]
 fn values_of_quotients(rt: HostRuntime) -> Result<(), Fail> {
-    agree_on_bodies(&rt, rt.alloc(), &DIVIDED)
+    agree_on_bodies(&rt, rt.alloc(), DIVIDED)
 }
 
 /// What is written of a head, a repeated part with its number between its halves, and a tail.
@@ -448,7 +448,7 @@ fn agree_on_limits<R: Abort + Threads + Wait + Sync>(
 
 #[test]
 fn limits_of_the_language(rt: HostRuntime) -> Result<(), Fail> {
-    agree_on_limits(&rt, rt.alloc(), &LIMITS)
+    agree_on_limits(&rt, rt.alloc(), LIMITS)
 }
 
 /// The command that a line of words is.
@@ -494,22 +494,22 @@ fn agree_on_commands(rt: &impl Abort, alloc: Global, rows: &[(&str, &str)]) -> R
 #[test]
 fn checks_of_words(rt: HostRuntime) -> Result<(), Fail> {
     one_command();
-    agree_on_commands(&rt, rt.alloc(), &CHECK_WORDS)
+    agree_on_commands(&rt, rt.alloc(), CHECK_WORDS)
 }
 
 #[test]
 fn replays_of_words(rt: HostRuntime) -> Result<(), Fail> {
-    agree_on_commands(&rt, rt.alloc(), &REPLAY_WORDS)
+    agree_on_commands(&rt, rt.alloc(), REPLAY_WORDS)
 }
 
 #[test]
 fn workloads_of_words(rt: HostRuntime) -> Result<(), Fail> {
-    agree_on_commands(&rt, rt.alloc(), &WORKLOAD_WORDS)
+    agree_on_commands(&rt, rt.alloc(), WORKLOAD_WORDS)
 }
 
 #[test]
 fn bundles_sweeps_and_edits_of_words(rt: HostRuntime) -> Result<(), Fail> {
-    agree_on_commands(&rt, rt.alloc(), &AFTERWARDS_WORDS)
+    agree_on_commands(&rt, rt.alloc(), AFTERWARDS_WORDS)
 }
 
 /// Whether a replay may have a list of `count` values.

@@ -2,7 +2,7 @@
 
 use super::tables::{DEEP, Row, SUM};
 
-pub const AFTERWARDS: [Row; 22] = [
+pub const AFTERWARDS: &[Row] = &[
     // an assertion three calls deep
     (
         "sweep",
@@ -104,7 +104,7 @@ pub const AFTERWARDS: [Row; 22] = [
 ];
 
 /// The words that make a bundle, a source, and what is written of the bundle.
-pub const BUNDLED: [Row; 5] = [
+pub const BUNDLED: &[Row] = &[
     ("bundle|1", SUM, "0 accepted 1:35\n"),
     (
         "bundle|2",

@@ -8,7 +8,7 @@ use std::test::Fail;
 use std::thread::Threads;
 
 /// What becomes of the inputs x and y first.
-const HEADS: [&str; 6] = [
+const HEADS: &[&str] = &[
     "",
     "assume(x >= 0 && x <= 3);",
     "assume(x + y == 2);",
@@ -20,7 +20,7 @@ const HEADS: [&str; 6] = [
 /// What stands before the head, between it and the assertion, and after the assertion.
 type Shape = (&'static str, &'static str, &'static str);
 
-const BODIES: [Shape; 6] = [
+const BODIES: &[Shape] = &[
     ("int main() { int x = input(); int y = input();", "", "}"),
     (
         "int main() { int x = input(); int y = input();",
@@ -49,7 +49,7 @@ const BODIES: [Shape; 6] = [
     ),
 ];
 
-const CALLING: [Shape; 6] = [
+const CALLING: &[Shape] = &[
     // one parameter
     (
         "int f(int a) { if (a > 0) return a - 1; return a; } int main() { int x = input(); int y = input();",
@@ -89,7 +89,7 @@ const CALLING: [Shape; 6] = [
 ];
 
 /// What stands before `main` shares globals with it.
-const SHARING: [Shape; 3] = [
+const SHARING: &[Shape] = &[
     // a call changes what stands on both of its sides
     (
         "int g = 2; int f(int a) { g = a; return g + 1; } int main() { int x = input(); int y = input();",
@@ -110,7 +110,7 @@ const SHARING: [Shape; 3] = [
     ),
 ];
 
-const DIVIDING: [Shape; 3] = [
+const DIVIDING: &[Shape] = &[
     (
         "int main() { int x = input(); int y = input();",
         "y = x / 2;",
@@ -129,7 +129,7 @@ const DIVIDING: [Shape; 3] = [
     ),
 ];
 
-const TESTS: [&str; 6] = [
+const TESTS: &[&str] = &[
     "x == y",
     "x <= 0",
     "x + y != 3",
@@ -139,7 +139,7 @@ const TESTS: [&str; 6] = [
 ];
 
 /// Lists on which a proved assertion mustn't fail.
-const LISTS: [&str; 16] = [
+const LISTS: &[&str] = &[
     "[-1, -1]", "[-1, 0]", "[-1, 1]", "[-1, 3]", "[0, -1]", "[0, 0]", "[0, 1]", "[0, 3]",
     "[1, -1]", "[1, 0]", "[1, 1]", "[1, 3]", "[3, -1]", "[3, 0]", "[3, 1]", "[3, 3]",
 ];
@@ -173,7 +173,7 @@ fn fails_on<R: Threads + Wait + Sync>(
 
 /// Whether it fails there on one of the lists.
 fn fails_on_any<R: Threads + Wait + Sync>(rt: &R, alloc: Global, text: &str) -> Result<bool, Fail> {
-    for list in LISTS {
+    for &list in LISTS {
         if fails_on(rt, alloc, text, list)? {
             return Ok(true);
         }
@@ -223,7 +223,7 @@ fn count_tests<R: Threads + Wait + Sync>(
     head: &str,
     shape: Shape,
 ) -> Result<(), Fail> {
-    for test in TESTS {
+    for &test in TESTS {
         let text = program(alloc, shape, head, test)?;
         count(rt, alloc, tally, text.as_str())?;
     }
@@ -264,20 +264,20 @@ fn count_shapes<R: Threads + Wait + Sync>(
 
 /// 216 programs without calls.
 pub fn tally_alone<R: Threads + Wait + Sync>(rt: &R, alloc: Global) -> Result<Tally, Fail> {
-    tally_of(rt, alloc, 6, &BODIES)
+    tally_of(rt, alloc, 6, BODIES)
 }
 
 /// 108 programs with calls.
 pub fn tally_calling<R: Threads + Wait + Sync>(rt: &R, alloc: Global) -> Result<Tally, Fail> {
-    tally_of(rt, alloc, 3, &CALLING)
+    tally_of(rt, alloc, 3, CALLING)
 }
 
 /// 54 programs with globals.
 pub fn tally_sharing<R: Threads + Wait + Sync>(rt: &R, alloc: Global) -> Result<Tally, Fail> {
-    tally_of(rt, alloc, 3, &SHARING)
+    tally_of(rt, alloc, 3, SHARING)
 }
 
 /// 54 programs with quotients and remainders.
 pub fn tally_dividing<R: Threads + Wait + Sync>(rt: &R, alloc: Global) -> Result<Tally, Fail> {
-    tally_of(rt, alloc, 3, &DIVIDING)
+    tally_of(rt, alloc, 3, DIVIDING)
 }

@@ -17,7 +17,7 @@ int main() {
 }
 ";
 
-pub const ANALYSES: [Row; 17] = [
+pub const ANALYSES: &[Row] = &[
     // one value of an input
     (
         "check",
@@ -175,7 +175,7 @@ int main(void) {
 }
 ";
 
-pub const CALLS: [Row; 10] = [
+pub const CALLS: &[Row] = &[
     // a procedure without a condition
     (
         "check",
@@ -241,7 +241,7 @@ pub const CALLS: [Row; 10] = [
 /// `proved` may say instead that the budget was spent.
 pub type Open = (&'static str, &'static str, &'static [&'static str]);
 
-pub const OPEN: [Open; 2] = [
+pub const OPEN: &[Open] = &[
     ("check|--budget|20000", EVEN_ODD, &["4:37: proved"]),
     (
         "check|--workers|4|--budget|20000",

@@ -1,7 +1,7 @@
 //! Words, parted by `|`, and the command that they are: `check`, the budget and the workers, or
 //! `workload` with its number before them, or the fuel and the list of a replay.
 
-pub const CHECK_WORDS: [(&str, &str); 68] = [
+pub const CHECK_WORDS: &[(&str, &str)] = &[
     ("", "none"),
     ("check", "check 2000 4"),
     ("check|--", "check 2000 4"),
@@ -72,7 +72,7 @@ pub const CHECK_WORDS: [(&str, &str); 68] = [
     ("--budget|5|check", "none"),
 ];
 
-pub const WORKLOAD_WORDS: [(&str, &str); 38] = [
+pub const WORKLOAD_WORDS: &[(&str, &str)] = &[
     ("workload", "none"),
     ("workload|1", "workload 1 2000 4"),
     ("workload|60", "workload 60 2000 4"),
@@ -113,7 +113,7 @@ pub const WORKLOAD_WORDS: [(&str, &str); 38] = [
     ("workload|-7", "none"),
 ];
 
-pub const REPLAY_WORDS: [(&str, &str); 45] = [
+pub const REPLAY_WORDS: &[(&str, &str)] = &[
     ("replay", "none"),
     ("replay|[]", "1000000 []"),
     ("replay|[ ]", "1000000 []"),
@@ -167,7 +167,7 @@ pub const REPLAY_WORDS: [(&str, &str); 45] = [
     ("replay|--fuel|--|[1]", "none"),
 ];
 
-pub const AFTERWARDS_WORDS: [(&str, &str); 22] = [
+pub const AFTERWARDS_WORDS: &[(&str, &str)] = &[
     ("bundle|1", "bundle 1 2000"),
     ("bundle|--budget|7|64", "bundle 64 7"),
     ("bundle|64|--budget=20000", "bundle 64 20000"),

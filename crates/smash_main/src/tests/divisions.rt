@@ -3,7 +3,7 @@
 use super::tables::Row;
 
 /// Which divisors may stand, and where.
-pub const DIVISIONS: [Row; 18] = [
+pub const DIVISIONS: &[Row] = &[
     (
         "check",
         "int main(){ int x = input(); return x / (3 - 3); }",
@@ -98,7 +98,7 @@ pub const DIVISIONS: [Row; 18] = [
 ];
 
 /// What analyses say of quotients and remainders.
-pub const DIVISION_CHECKS: [Row; 6] = [
+pub const DIVISION_CHECKS: &[Row] = &[
     (
         "check",
         "int main(){ int x = input(); assert(x % 2 != 2); return 0; }",
@@ -132,7 +132,7 @@ pub const DIVISION_CHECKS: [Row; 6] = [
 ];
 
 /// A body of `main`, beside a procedure `f`, and what is written of it.
-pub const DIVIDED: [(&str, &str); 34] = [
+pub const DIVIDED: &[(&str, &str)] = &[
     ("return 7 / 2;", "0 returned 3, inputs used 0\n"),
     ("return -7 / 2;", "0 returned -3, inputs used 0\n"),
     ("return 7 / -2;", "0 returned -3, inputs used 0\n"),

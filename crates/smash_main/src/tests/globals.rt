@@ -2,7 +2,7 @@
 
 use super::tables::Row;
 
-pub const GLOBALS: [Row; 36] = [
+pub const GLOBALS: &[Row] = &[
     // opening values, with and without a sign
     (
         "replay|[]",
@@ -188,7 +188,7 @@ pub const GLOBALS: [Row; 36] = [
 ];
 
 /// What analyses say of programs with globals.
-pub const GLOBAL_CHECKS: [Row; 6] = [
+pub const GLOBAL_CHECKS: &[Row] = &[
     (
         "check",
         "int g; int main(){ assert(g == 0); return 0; }",

@@ -23,7 +23,7 @@ pub const USAGE: &str = "\
        smash edit n [--budget n] [--workers n]
 ";
 
-pub const CHECKS: [Row; 18] = [
+pub const CHECKS: &[Row] = &[
     (
         "check",
         SUM,
@@ -108,7 +108,7 @@ pub const CHECKS: [Row; 18] = [
     ("check", "int f(){}", "3 refused 1:1: no main\n"),
 ];
 
-pub const REPLAYS: [Row; 10] = [
+pub const REPLAYS: &[Row] = &[
     (
         "replay|[]",
         "int main(){ return 5; }",
@@ -162,7 +162,7 @@ pub const REPLAYS: [Row; 10] = [
 ];
 
 /// Workloads, whatever the source is.
-pub const WORKLOADS: [Row; 5] = [
+pub const WORKLOADS: &[Row] = &[
     (
         "workload|1",
         SUM,
@@ -190,7 +190,7 @@ pub const WORKLOADS: [Row; 5] = [
     ),
 ];
 
-pub const REFUSALS: [Row; 44] = [
+pub const REFUSALS: &[Row] = &[
     (
         "check",
         "int main(){ return 10u; }",
@@ -405,7 +405,7 @@ pub const REFUSALS: [Row; 44] = [
     ),
 ];
 
-pub const NO_COMMANDS: [Row; 17] = [
+pub const NO_COMMANDS: &[Row] = &[
     ("", SUM, USAGE),
     ("check|x", SUM, USAGE),
     ("Check", SUM, USAGE),
@@ -429,7 +429,7 @@ pub const NO_COMMANDS: [Row; 17] = [
 /// written.
 pub type Fault = (u32, usize, &'static str);
 
-pub const FAULTS: [Fault; 2] = [
+pub const FAULTS: &[Fault] = &[
     (
         17,
         51,
@@ -448,7 +448,7 @@ pub const SUM_REPORT: &str = "1:35: proved\nsummary: 1 proved, 0 found, 0 unknow
 /// A head, what is opened and closed, a tail between, how often, and what is written.
 pub type Nesting<'a> = (&'a str, (&'a str, &'a str), &'a str, usize, &'a str);
 
-pub const NESTINGS: [Nesting; 3] = [
+pub const NESTINGS: &[Nesting] = &[
     (
         "int main()",
         ("{", "}"),
@@ -473,7 +473,7 @@ pub const NESTINGS: [Nesting; 3] = [
 ];
 
 /// A body of `main`, beside a procedure `f`, and what is written of it.
-pub const BODIES: [(&str, &str); 25] = [
+pub const BODIES: &[(&str, &str)] = &[
     ("", "0 returned 0, inputs used 0\n"),
     ("return;", "0 returned 0, inputs used 0\n"),
     (
@@ -555,7 +555,7 @@ pub type Limit = (
     &'static str,
 );
 
-pub const LIMITS: [Limit; 23] = [
+pub const LIMITS: &[Limit] = &[
     (
         "int main(){\n",
         ("if (0 > ", ") ; else\n"),
@@ -720,7 +720,7 @@ pub const LIMITS: [Limit; 23] = [
 ];
 
 /// How many blanks a source has, and what is written of it.
-pub const BLANKS: [(usize, &str); 2] = [
+pub const BLANKS: &[(usize, &str)] = &[
     (65_536, "3 refused 1:1: no main\n"),
     (65_537, "3 refused: source longer than 65536 bytes\n"),
 ];

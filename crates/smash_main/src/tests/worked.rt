@@ -2,7 +2,7 @@
 
 use super::tables::{DEEP, Row};
 
-pub const WORKED: [Row; 19] = [
+pub const WORKED: &[Row] = &[
     // an empty source
     ("check", "", "3 refused 1:1: no main\n"),
     // one past the greatest value
