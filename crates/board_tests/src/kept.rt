@@ -129,7 +129,7 @@ fn twice(budget: u32) -> Budgets {
 
 /// What is kept answers each call of `main`, so that nothing is asked: musts three calls deep, and
 /// a not-may of a procedure that calls itself. Of a limit nothing is kept.
-const TEXTS: [&str; 3] = [THREE_DEEP, DESCENDS, WIDE];
+const TEXTS: &[&str] = &[THREE_DEEP, DESCENDS, WIDE];
 
 fn all_ends(alloc: Global) -> Result<[End; 3], Fail> {
     let mut ends = [(Says::Proved, 0, 0, 0); 3];

@@ -121,7 +121,7 @@ const LONGER: &str = "int g(int a) { return a; } int main() { int c = input(); i
 /// The parent closes, as event 4, while its child is out, and gets what is left of it.
 #[test]
 fn a_job_of_a_dropped_child_is_gone(rt: HostRuntime) -> Result<(), Fail> {
-    let rows = [
+    let rows = &[
         (Call::Take(0, MOST), job(0, 2000, 7, How::Ask)),
         (Call::HandIn(0), DONE),
         (Call::Take(1, 1), job(1, 996, 1, How::Ready)),
@@ -132,7 +132,7 @@ fn a_job_of_a_dropped_child_is_gone(rt: HostRuntime) -> Result<(), Fail> {
         (Call::Look(1), Seen::Query(Status::Dropped { stamp: 4 }, 0)),
         (Call::Take(0, 1), OVER),
     ];
-    let other = other_answer(rt.alloc(), TWO_WAYS, 2000, &rows)?;
+    let other = other_answer(rt.alloc(), TWO_WAYS, 2000, rows)?;
     assert!(rt; other.is_none(), "{other:?}");
     Ok(())
 }
@@ -140,7 +140,7 @@ fn a_job_of_a_dropped_child_is_gone(rt: HostRuntime) -> Result<(), Fail> {
 /// The dropped child had closed without a run, which is published once.
 #[test]
 fn what_a_gone_job_found_is_published_once(rt: HostRuntime) -> Result<(), Fail> {
-    let rows = [
+    let rows = &[
         (Call::Take(0, MOST), job(0, 2000, 7, How::Ask)),
         (Call::HandIn(0), DONE),
         (Call::Take(1, MOST), job(1, 996, 0, How::NotMay)),
@@ -153,7 +153,7 @@ fn what_a_gone_job_found_is_published_once(rt: HostRuntime) -> Result<(), Fail> 
         (Call::Look(1), Seen::Query(Status::Dropped { stamp: 4 }, 0)),
         (Call::Take(0, 1), OVER),
     ];
-    let other = other_answer(rt.alloc(), SHORTER, 2000, &rows)?;
+    let other = other_answer(rt.alloc(), SHORTER, 2000, rows)?;
     assert!(rt; other.is_none(), "{other:?}");
     Ok(())
 }
@@ -162,7 +162,7 @@ fn what_a_gone_job_found_is_published_once(rt: HostRuntime) -> Result<(), Fail> 
 /// the other way. Its must goes behind the parent's, once.
 #[test]
 fn a_path_of_a_gone_job_is_published_once(rt: HostRuntime) -> Result<(), Fail> {
-    let rows = [
+    let rows = &[
         (Call::Take(0, MOST), job(0, 2000, 7, How::Ask)),
         (Call::HandIn(0), DONE),
         (Call::Take(1, MOST), job(1, 996, 0, How::NotMay)),
@@ -180,7 +180,7 @@ fn a_path_of_a_gone_job_is_published_once(rt: HostRuntime) -> Result<(), Fail> {
         (Call::Look(2), Seen::Query(Status::Dropped { stamp: 8 }, 0)),
         (Call::Take(0, 1), OVER),
     ];
-    let other = other_answer(rt.alloc(), LONGER, 2000, &rows)?;
+    let other = other_answer(rt.alloc(), LONGER, 2000, rows)?;
     assert!(rt; other.is_none(), "{other:?}");
     Ok(())
 }
@@ -189,7 +189,7 @@ fn a_path_of_a_gone_job_is_published_once(rt: HostRuntime) -> Result<(), Fail> {
 /// job is still given back as what it is.
 #[test]
 fn a_job_that_was_given_back_is_gone(rt: HostRuntime) -> Result<(), Fail> {
-    let rows = [
+    let rows = &[
         (Call::Take(0, 1), job(0, 2000, 1, How::Ready)),
         (Call::Again(0), Seen::Again([Back::Done, Back::Gone(1)])),
         (Call::Look(0), Seen::Query(Status::Running, 1999)),
@@ -197,7 +197,7 @@ fn a_job_that_was_given_back_is_gone(rt: HostRuntime) -> Result<(), Fail> {
         (Call::Look(0), Seen::Query(Status::Ready, 1998)),
         (Call::Take(1, 1), job(0, 1998, 1, How::Ready)),
     ];
-    let other = other_answer(rt.alloc(), THREE_DEEP, 2000, &rows)?;
+    let other = other_answer(rt.alloc(), THREE_DEEP, 2000, rows)?;
     assert!(rt; other.is_none(), "{other:?}");
     Ok(())
 }
@@ -205,7 +205,7 @@ fn a_job_that_was_given_back_is_gone(rt: HostRuntime) -> Result<(), Fail> {
 /// The child is out, waits and is taken again while its parent is at work.
 #[test]
 fn a_parent_and_its_child_work_at_once(rt: HostRuntime) -> Result<(), Fail> {
-    let rows = [
+    let rows = &[
         (Call::Take(0, MOST), job(0, 2000, 7, How::Ask)),
         (Call::Take(1, MOST), Seen::Took(Took::Idle)),
         (Call::HandIn(0), DONE),
@@ -218,7 +218,7 @@ fn a_parent_and_its_child_work_at_once(rt: HostRuntime) -> Result<(), Fail> {
         (Call::Look(1), Seen::Query(Status::Ready, 995)),
         (Call::Look(2), Seen::NoQuery),
     ];
-    let other = other_answer(rt.alloc(), TWO_WAYS, 2000, &rows)?;
+    let other = other_answer(rt.alloc(), TWO_WAYS, 2000, rows)?;
     assert!(rt; other.is_none(), "{other:?}");
     Ok(())
 }
@@ -228,7 +228,7 @@ fn a_parent_and_its_child_work_at_once(rt: HostRuntime) -> Result<(), Fail> {
 /// Nothing is left of the child, and by the Feed nothing of its parent.
 #[test]
 fn a_starved_child_is_fed_nothing(rt: HostRuntime) -> Result<(), Fail> {
-    let rows = [
+    let rows = &[
         (Call::Take(0, MOST), job(0, 8, 7, How::Ask)),
         (Call::HandIn(0), DONE),
         (Call::Look(0), Seen::Query(Status::Ready, 1)),
@@ -239,7 +239,7 @@ fn a_starved_child_is_fed_nothing(rt: HostRuntime) -> Result<(), Fail> {
         (Call::Look(1), Seen::Query(Status::Starved, 0)),
         (Call::Take(0, MOST), OVER),
     ];
-    let other = other_answer(rt.alloc(), THREE_DEEP, 8, &rows)?;
+    let other = other_answer(rt.alloc(), THREE_DEEP, 8, rows)?;
     assert!(rt; other.is_none(), "{other:?}");
     Ok(())
 }
@@ -247,7 +247,7 @@ fn a_starved_child_is_fed_nothing(rt: HostRuntime) -> Result<(), Fail> {
 /// The child makes the steps that it was fed, and then its parent has none.
 #[test]
 fn a_starved_child_is_fed_a_step(rt: HostRuntime) -> Result<(), Fail> {
-    let rows = [
+    let rows = &[
         (Call::Take(0, MOST), job(0, 12, 7, How::Ask)),
         (Call::HandIn(0), DONE),
         (Call::Take(0, MOST), job(1, 2, 2, How::Starved)),
@@ -262,7 +262,7 @@ fn a_starved_child_is_fed_a_step(rt: HostRuntime) -> Result<(), Fail> {
         (Call::HandIn(0), DONE),
         (Call::Take(0, MOST), OVER),
     ];
-    let other = other_answer(rt.alloc(), THREE_DEEP, 12, &rows)?;
+    let other = other_answer(rt.alloc(), THREE_DEEP, 12, rows)?;
     assert!(rt; other.is_none(), "{other:?}");
     Ok(())
 }

@@ -51,7 +51,7 @@ const fn origin(id: u32, parent: Option<u32>, lowest: Option<u32>) -> Row {
 /// Each must was appended by the close of its own query, the innermost first.
 #[test]
 fn musts_are_of_the_queries_that_closed(rt: HostRuntime) -> Result<(), Fail> {
-    let wanted = [
+    let wanted = &[
         origin(3, Some(2), None),
         origin(2, Some(1), None),
         origin(1, Some(0), None),
@@ -70,7 +70,7 @@ const ALTERNATES: &str = "int f(int n) { if (n <= 0) return 0; return 0 - f(n - 
 /// of 3, behind it, and has its own number.
 #[test]
 fn a_member_of_a_group_has_its_own_number(rt: HostRuntime) -> Result<(), Fail> {
-    let wanted = [
+    let wanted = &[
         origin(1, Some(0), Some(1)),
         origin(2, Some(0), None),
         origin(4, Some(3), None),

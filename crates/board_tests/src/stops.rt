@@ -17,7 +17,7 @@ pub enum Crew {
 }
 
 /// The budgets of the boards.
-const BUDGETS: [u32; 13] = [1, 2, 3, 4, 5, 6, 7, 8, 9, 10, 11, 12, 2000];
+const BUDGETS: &[u32] = &[1, 2, 3, 4, 5, 6, 7, 8, 9, 10, 11, 12, 2000];
 
 /// No board of these budgets makes so many calls.
 const MOST: u32 = 200;
@@ -127,7 +127,7 @@ fn first_wrong(alloc: Global, crew: Crew, budget: u32) -> Result<Option<u32>, Fa
 
 /// Boards of each of the budgets, stopped after each number of calls.
 fn are_stopped(rt: &impl Abort, alloc: Global, crew: Crew) -> Result<(), Fail> {
-    for budget in BUDGETS {
+    for &budget in BUDGETS {
         let wrong = first_wrong(alloc, crew, budget)?;
         assert_eq!(rt; wrong, None, "so many calls, with the budget {budget}");
     }

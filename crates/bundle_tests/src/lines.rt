@@ -58,7 +58,7 @@ const GOOD: Answer = Answer::Same;
 
 const BAD: Answer = Answer::NotBundle;
 
-const TEXTS: [Text; 56] = [
+const TEXTS: &[Text] = &[
     ("each kind of line", ALL, b"", GOOD),
     ("no claims", HEAD, b"claims 0\n", GOOD),
     ("no moves", CLAIM, b"moves 0\n", GOOD),
@@ -331,7 +331,7 @@ fn joined(alloc: Global, head: &[u8], lines: &[u8]) -> Result<Vec<u8>, AllocErro
 /// Good texts are printed as they were, and bad ones aren't read.
 #[test]
 fn texts(rt: HostRuntime) -> Result<(), Fail> {
-    for (name, head, lines, want) in TEXTS {
+    for &(name, head, lines, want) in TEXTS {
         let text = joined(rt.alloc(), head, lines)?;
         let got = read_and_print(rt.alloc(), &text);
         assert_eq!(rt; got, want, "{name}");

@@ -15,7 +15,7 @@ enum Kind {
     Parts,
 }
 
-const SIZES: [(Kind, usize, Answer); 6] = [
+const SIZES: &[(Kind, usize, Answer)] = &[
     (Kind::Source, 65_536, Answer::Same),
     (Kind::Source, 65_537, Answer::NotBundle),
     (Kind::Branches, 512, Answer::Same),
@@ -69,7 +69,7 @@ fn text_of(alloc: Global, kind: Kind, size: usize) -> Result<String, AllocError>
 
 #[test]
 fn sizes(rt: HostRuntime) -> Result<(), Fail> {
-    for (kind, size, want) in SIZES {
+    for &(kind, size, want) in SIZES {
         let text = text_of(rt.alloc(), kind, size)?;
         let got = read_and_print(rt.alloc(), text.as_bytes());
         assert_eq!(rt; got, want, "{kind:?} {size}");

@@ -178,7 +178,7 @@ fn claims_may_name_themselves(rt: HostRuntime) -> Result<(), Fail> {
 
 #[test]
 fn the_named_claim_counts(rt: HostRuntime) -> Result<(), Fail> {
-    for (main_returns, main_fails) in [(2, 2), (1, 1), (0, 2), (3, 2), (u32::MAX, 2)] {
+    for &(main_returns, main_fails) in &[(2, 2), (1, 1), (0, 2), (3, 2), (u32::MAX, 2)] {
         let kills = Kills {
             main_returns,
             main_fails,

@@ -63,7 +63,7 @@ const RIGHT: Checked = Checked::Right;
 
 const FIRST: Checked = Checked::Wrong { claim: 0 };
 
-const TEXTS: [Text; 16] = [
+const TEXTS: &[Text] = &[
     (
         "a split over an edge and a kill",
         HOLDS,
@@ -223,7 +223,7 @@ fn said(alloc: Global, source: &str, claims: &[&str; 4]) -> Result<Checked, Fail
 /// What is right is accepted; with one thing wrong, its claim is named.
 #[test]
 fn claims_of_texts(rt: HostRuntime) -> Result<(), Fail> {
-    for (name, source, claims, want) in TEXTS {
+    for &(name, source, claims, want) in TEXTS {
         let got = said(rt.alloc(), source, &claims)?;
         assert_eq!(rt; got, want, "{name}");
     }

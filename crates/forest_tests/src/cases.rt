@@ -41,7 +41,7 @@ pub const BOTH_TAKEN: Case = Case {
 };
 
 /// Reports that come late: what a close or a child did before the job is given back.
-pub const LATE: [Case; 5] = [
+pub const LATE: &[Case] = &[
     Case {
         name: "a close of the parent before the child is given back",
         moves: &[
@@ -88,7 +88,7 @@ pub const LATE: [Case; 5] = [
 ];
 
 /// A job is given back.
-pub const GIVEN_BACK: [Case; 4] = [
+pub const GIVEN_BACK: &[Case] = &[
     Case {
         name: "as ready",
         moves: &[(Move::Park(0, 1, Rest::Ready), Answer::Done)],
@@ -115,7 +115,7 @@ pub const GIVEN_BACK: [Case; 4] = [
 ];
 
 /// A parent that is Blocked is woken.
-pub const WAKINGS: [Case; 5] = [
+pub const WAKINGS: &[Case] = &[
     Case {
         name: "by a close",
         moves: &[
@@ -163,7 +163,7 @@ pub const WAKINGS: [Case; 5] = [
 ];
 
 /// A take gives a job, or none.
-pub const TAKES: [Case; 3] = [
+pub const TAKES: &[Case] = &[
     Case {
         name: "none where both are out",
         moves: &[(Move::Take, Answer::Empty)],
@@ -198,7 +198,7 @@ pub const TAKES: [Case; 3] = [
 ];
 
 /// A child is asked.
-pub const ASKS: [Case; 5] = [
+pub const ASKS: &[Case] = &[
     Case {
         name: "behind one step",
         moves: &[(Move::Ask(0, 1), Answer::Added(2))],
@@ -250,7 +250,7 @@ pub const ASKS: [Case; 5] = [
 ];
 
 /// A child is fed.
-pub const FEEDS: [Case; 4] = [
+pub const FEEDS: &[Case] = &[
     Case {
         name: "with one step left",
         moves: &[
@@ -283,7 +283,7 @@ pub const FEEDS: [Case; 4] = [
 ];
 
 /// A child or a root is closed.
-pub const CLOSES: [Case; 3] = [
+pub const CLOSES: &[Case] = &[
     Case {
         name: "under a starved parent",
         moves: &[
@@ -315,7 +315,7 @@ pub const CLOSES: [Case; 3] = [
 ];
 
 /// What stands under a query that closes is dropped.
-pub const DROPS: [Case; 4] = [
+pub const DROPS: &[Case] = &[
     Case {
         name: "a child and its child",
         moves: &[
@@ -370,7 +370,7 @@ pub const DROPS: [Case; 4] = [
 ];
 
 /// A query was dropped whose job is given back.
-pub const GONE: [Case; 3] = [
+pub const GONE: &[Case] = &[
     Case {
         name: "a feed and an ask",
         moves: &[

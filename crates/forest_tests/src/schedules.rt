@@ -101,56 +101,56 @@ fn check_each(rt: &impl Abort, alloc: Global, cases: &[Case]) -> Result<(), Fail
 /// is Ready again.
 #[test]
 fn late_reports(rt: HostRuntime) -> Result<(), Fail> {
-    check_each(&rt, rt.alloc(), &LATE)
+    check_each(&rt, rt.alloc(), LATE)
 }
 
 /// A job is given back as Ready, as Blocked or as Starved.
 #[test]
 fn gives_back(rt: HostRuntime) -> Result<(), Fail> {
-    check_each(&rt, rt.alloc(), &GIVEN_BACK)
+    check_each(&rt, rt.alloc(), GIVEN_BACK)
 }
 
 /// A Blocked parent is Ready once a child closes or becomes Starved, by whichever call, and at once
 /// where that came before it was given back.
 #[test]
 fn wakes(rt: HostRuntime) -> Result<(), Fail> {
-    check_each(&rt, rt.alloc(), &WAKINGS)
+    check_each(&rt, rt.alloc(), WAKINGS)
 }
 
 /// A take gives a Ready query, and none where there is none.
 #[test]
 fn takes(rt: HostRuntime) -> Result<(), Fail> {
-    check_each(&rt, rt.alloc(), &TAKES)
+    check_each(&rt, rt.alloc(), TAKES)
 }
 
 /// A child gets half of what is left behind the last step, rounded down, and is Starved at 0.
 #[test]
 fn asks(rt: HostRuntime) -> Result<(), Fail> {
-    check_each(&rt, rt.alloc(), &ASKS)
+    check_each(&rt, rt.alloc(), ASKS)
 }
 
 /// A child that is fed gets half, and is Ready where it was Starved; one that closed gets nothing.
 #[test]
 fn feeds(rt: HostRuntime) -> Result<(), Fail> {
-    check_each(&rt, rt.alloc(), &FEEDS)
+    check_each(&rt, rt.alloc(), FEEDS)
 }
 
 /// What is left goes to the parent, which is Ready where it was Starved and now has something left.
 #[test]
 fn closes(rt: HostRuntime) -> Result<(), Fail> {
-    check_each(&rt, rt.alloc(), &CLOSES)
+    check_each(&rt, rt.alloc(), CLOSES)
 }
 
 /// Each open query under a query that closes is dropped with its stamp, and what closed before
 /// stays.
 #[test]
 fn drops(rt: HostRuntime) -> Result<(), Fail> {
-    check_each(&rt, rt.alloc(), &DROPS)
+    check_each(&rt, rt.alloc(), DROPS)
 }
 
 /// Each of the calls says that a query was dropped, by the stamp of that close, and changes
 /// nothing.
 #[test]
 fn are_gone(rt: HostRuntime) -> Result<(), Fail> {
-    check_each(&rt, rt.alloc(), &GONE)
+    check_each(&rt, rt.alloc(), GONE)
 }

@@ -27,7 +27,7 @@ const LOW: Plain = (&[(0, -1)], -9_223_372_036_854_775_809);
 /// The half of slot 0, rounded down from 0 on.
 const HALF: Does = Does::Pick(1, &[(&[(2, 1), (-1, 0)], 0), (&[(1, 0), (-2, 1)], -1)]);
 
-const CASES: [Case; 12] = [
+const CASES: &[Case] = &[
     // sums
     (NEXT, &[(&[(1, 1)], -5)], &[(&[(0, 1)], -4), HIGH, LOW]),
     (NEXT, &[(&[(1, 1), (-1, 0)], 0)], &[(&[], 1), HIGH, LOW]),

@@ -158,7 +158,7 @@ const COUNTS: Counts = Counts {
 };
 
 /// One edge, or two, that are no graph's.
-const NO_GRAPHS: [&[Step]; 8] = [
+const NO_GRAPHS: &[&[Step]] = &[
     // a node that isn't there
     &[(2, 4, Does::Input(0))],
     // from the exit, and back to the node behind the entry
@@ -206,7 +206,7 @@ fn other_edges_are_no_graph(rt: HostRuntime) -> Result<(), Fail> {
 }
 
 /// Calls of procedure 1 with other numbers of arguments or results than it has.
-const WRONG_CALLS: [[Shape; 2]; 3] = [
+const WRONG_CALLS: &[[Shape; 2]] = &[
     [
         Shape {
             counts: COUNTS,

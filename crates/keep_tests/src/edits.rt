@@ -48,7 +48,7 @@ const TWO: &str = "int f(int a) { assert(a != 1); return a; } \
      int g(int a) { assert(a != 2); assert(a != 3); return a; } \
      int main() { return f(4) + g(5); }";
 
-const EDITS: [Edit; 12] = [
+const EDITS: &[Edit] = &[
     Edit {
         name: "the same, with procedures that call each other",
         old: TURNS,
@@ -150,7 +150,7 @@ const EDITS: [Edit; 12] = [
 
 /// The rows that come out otherwise.
 fn wrong_row(alloc: Global) -> Result<&'static str, Fail> {
-    for edit in &EDITS {
+    for edit in EDITS {
         let wanted = (
             edit.procs.len(),
             edit.asserts.len(),

@@ -89,7 +89,7 @@ const OLD: [About; 4] = [
 ];
 
 /// A new source, and what is kept.
-const ROWS: [(&str, [Option<About>; 4]); 4] = [
+const ROWS: &[(&str, [Option<About>; 4])] = &[
     (
         SOURCE,
         [

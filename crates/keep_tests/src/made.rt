@@ -88,7 +88,7 @@ const F: [Option<u32>; 2] = [Some(0), None];
 const NONE: [Option<u32>; 2] = [None, None];
 
 /// The new shape, and what is the same.
-const ROWS: [(Shape, [Option<u32>; 2]); 8] = [
+const ROWS: &[(Shape, [Option<u32>; 2])] = &[
     (OLD, BOTH),
     (Shape { params: 1, ..OLD }, MAIN),
     (Shape { slots: 4, ..OLD }, MAIN),

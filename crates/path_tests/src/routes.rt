@@ -33,7 +33,7 @@ type Case = ([bool; 9], [bool; 6], Option<(&'static [u32], u32)>);
 
 const OPEN: [bool; 9] = [false; 9];
 
-const CASES: [Case; 5] = [
+const CASES: &[Case] = &[
     (
         OPEN,
         [true, false, false, false, false, false],
@@ -78,7 +78,7 @@ fn is_answered(
 
 #[test]
 fn finds_frontiers(rt: HostRuntime) -> Result<(), Fail> {
-    for &(shut, marked, wanted) in &CASES {
+    for &(shut, marked, wanted) in CASES {
         assert!(rt; is_answered(rt.alloc(), &shut, &marked, wanted)?);
     }
     Ok(())
@@ -112,7 +112,7 @@ fn walks_a_line(rt: HostRuntime) -> Result<(), Fail> {
 }
 
 /// Marked regions, and the place of the last edge of the line that leads out of them.
-const CROSSINGS: [([bool; 3], Option<usize>); 4] = [
+const CROSSINGS: &[([bool; 3], Option<usize>)] = &[
     ([true, false, false], Some(0)),
     ([true, true, false], Some(1)),
     ([true, false, true], Some(0)),
@@ -121,7 +121,7 @@ const CROSSINGS: [([bool; 3], Option<usize>); 4] = [
 
 #[test]
 fn finds_last_crossings(rt: HostRuntime) -> Result<(), Fail> {
-    for &(marked, wanted) in &CROSSINGS {
+    for &(marked, wanted) in CROSSINGS {
         assert!(rt; last_crossing(&LINE, &marked, &[0, 1]) == wanted);
     }
     Ok(())

@@ -69,7 +69,7 @@ fn is_right(alloc: Global, asks: &Asks) -> Result<bool, Fail> {
 /// Slot 1 exceeds slot 0 by at most 7.
 const BEHIND: Row = (&[(1, 1), (-1, 0)], -7);
 
-const QUERIES: [Asks; 7] = [
+const QUERIES: &[Asks] = &[
     // the caller's own slots are forgotten
     Asks {
         source: &[(&[(1, 3), (-1, 0)], 0), (&[(-1, 3)], 5)],
@@ -269,7 +269,7 @@ const AT_MOST_NEXT: Plain = (&[(0, -1), (1, 1)], -1);
 
 const AT_LEAST_NEXT: Plain = (&[(0, 1), (1, -1)], 1);
 
-const LEADS: [Leads; 5] = [
+const LEADS: &[Leads] = &[
     Leads {
         must: ANY,
         results: &[2],

@@ -80,7 +80,7 @@ fn comes_from(alloc: Global, behind: &[Row], rows: &[Row]) -> Result<bool, Fail>
 }
 
 /// Rows behind the call, and what they are before it.
-const CASES: [(&[Row], &[Row]); 3] = [
+const CASES: &[(&[Row], &[Row])] = &[
     // slot 2 is 5 where slot 1 was
     (
         &[(&[(1, 2)], -5), (&[(-1, 2)], 5)],

@@ -189,7 +189,7 @@ const ELEVEN: Row = (&[(1, 1)], -11);
 /// What a partition begins with: the graph, the exit, the regions and the live edges.
 type Beginning<'a> = (Shape<'a>, ExitKind, &'a [(u32, usize)], &'a [Live]);
 
-const BEFORE: [Live; 6] = [
+const BEFORE: &[Live] = &[
     (0, 0, 3),
     (1, 3, 4),
     (1, 3, 2),
@@ -198,12 +198,12 @@ const BEFORE: [Live; 6] = [
     (5, 4, 1),
 ];
 
-const BEGINNINGS: [Beginning; 3] = [
+const BEGINNINGS: &[Beginning] = &[
     (
         SMALL,
         ExitKind::Fail(0),
         &[(4, 0), (0, 0), (1, 2), (2, 1), (3, 0)],
-        &BEFORE,
+        BEFORE,
     ),
     (
         SMALL,
@@ -229,7 +229,7 @@ const BEGINNINGS: [Beginning; 3] = [
 
 #[test]
 fn begins(rt: HostRuntime) -> Result<(), Fail> {
-    for (shape, exit, regions, live) in BEGINNINGS {
+    for &(shape, exit, regions, live) in BEGINNINGS {
         let partition = begun(rt.alloc(), &shape, exit)?;
         let right = has_regions(rt.alloc(), &partition, regions)? && has_live(&partition, live);
         assert!(rt; right, "{exit:?}");
@@ -247,7 +247,7 @@ fn another_assertion_is_not_live(rt: HostRuntime) -> Result<(), Fail> {
 /// A split: the graph, the edge, the rows, and the live edges behind it.
 type Split<'a> = (Shape<'a>, Live, Row<'a>, &'a [Live]);
 
-const SPLITS: [Split; 3] = [
+const SPLITS: &[Split] = &[
     // before an assertion
     (
         SMALL,
@@ -297,7 +297,7 @@ const SPLITS: [Split; 3] = [
 
 #[test]
 fn splits(rt: HostRuntime) -> Result<(), Fail> {
-    for (shape, at, row, live) in SPLITS {
+    for &(shape, at, row, live) in SPLITS {
         let partition = after_split(rt.alloc(), &shape, at, &[row])?;
         assert!(rt; has_live(&partition, live), "{at:?}");
     }
@@ -305,7 +305,7 @@ fn splits(rt: HostRuntime) -> Result<(), Fail> {
 }
 
 /// A region behind a split, and the part and the constant of its last atom.
-const LAST_ATOMS: [(Live, &[Row], usize, (i128, i128)); 6] = [
+const LAST_ATOMS: &[(Live, &[Row], usize, (i128, i128))] = &[
     ((3, 4, 2), &[SEVEN], 4, (1, -7)),
     ((3, 4, 2), &[SEVEN], 5, (-1, 8)),
     ((1, 3, 4), &[SEVEN, SIX, FIVE], 3, (1, -5)),
@@ -316,7 +316,7 @@ const LAST_ATOMS: [(Live, &[Row], usize, (i128, i128)); 6] = [
 
 #[test]
 fn pieces_have_the_rows_and_their_negations(rt: HostRuntime) -> Result<(), Fail> {
-    for (at, rows, region, atom) in LAST_ATOMS {
+    for &(at, rows, region, atom) in LAST_ATOMS {
         let partition = after_split(rt.alloc(), &SMALL, at, rows)?;
         let last = last_atom(rt.alloc(), &partition, region)?;
         assert!(rt; last == Some(atom), "{region}");
@@ -327,7 +327,7 @@ fn pieces_have_the_rows_and_their_negations(rt: HostRuntime) -> Result<(), Fail>
 #[test]
 fn numbers_the_pieces(rt: HostRuntime) -> Result<(), Fail> {
     let partition = after_split(rt.alloc(), &SMALL, (1, 3, 4), &[SEVEN, SIX, FIVE])?;
-    let regions = [
+    let regions = &[
         (4, 0),
         (0, 0),
         (1, 2),
@@ -337,7 +337,7 @@ fn numbers_the_pieces(rt: HostRuntime) -> Result<(), Fail> {
         (2, 3),
         (2, 4),
     ];
-    assert!(rt; has_regions(rt.alloc(), &partition, &regions)?);
+    assert!(rt; has_regions(rt.alloc(), &partition, regions)?);
     Ok(())
 }
 
@@ -354,7 +354,7 @@ fn is_too_wide(alloc: Global, partition: &mut Partition) -> Result<bool, Fail> {
     Ok(
         answer == Err(SplitError::Wide)
             && has_regions(alloc, partition, &[(4, 0), (0, 0), (1, 2), (2, 1), (3, 0)])?
-            && has_live(partition, &BEFORE),
+            && has_live(partition, BEFORE),
     )
 }
 
@@ -387,7 +387,7 @@ const KILLS: [(Shape, Live, &[Live]); 2] = [
 
 #[test]
 fn kills_one_edge(rt: HostRuntime) -> Result<(), Fail> {
-    for (shape, at, live) in KILLS {
+    for &(shape, at, live) in &KILLS {
         let partition = after_kill(rt.alloc(), &shape, at)?;
         assert!(rt; has_live(&partition, live), "{at:?}");
     }

@@ -118,7 +118,7 @@ const READ: Wanted = Wanted {
     failed: None,
 };
 
-const CASES: [Case; 9] = [
+const CASES: &[Case] = &[
     (&[], BEGUN),
     // a sum
     (
@@ -385,7 +385,7 @@ const CALLED: Wanted = Wanted {
 /// The callee returns its argument and an input of it.
 const TWO: [Step; 2] = [(2, 2, Does::Input(1)), (2, 0, Does::Return(&[0, 1]))];
 
-const CALLS: [Called; 6] = [
+const CALLS: &[Called] = &[
     Called {
         steps: &RETURNS,
         exit: ExitKind::Return,

@@ -67,7 +67,7 @@ fn rounds_have_the_verdicts_of_one_worker(rt: HostRuntime) -> Result<(), Fail> {
     let deep = Some(Says::Found(2, Some(2), Some(40)));
     let none = Some(Says::Found(0, None, None));
     let wide = Some(Says::Limit(LimitKind::Wide));
-    let rows = [
+    let rows = &[
         (WORKLOAD, 2000, [proved, proved]),
         (THREE_DEEP, 2000, [deep, None]),
         (THREE_DEEP, 5, [Some(Says::Budget(5)), None]),
@@ -75,7 +75,7 @@ fn rounds_have_the_verdicts_of_one_worker(rt: HostRuntime) -> Result<(), Fail> {
         (WIDE, 2000, [wide, None]),
         (WRONG, 2000, [proved, none]),
     ];
-    for (text, budget, wanted) in rows {
+    for &(text, budget, wanted) in rows {
         assert!(rt; all_verdicts(&rt, rt.alloc(), text, budget)? == [wanted; 5]);
     }
     Ok(())

@@ -120,7 +120,7 @@ fn refutes_low(alloc: Global, step: Step) -> Result<bool, LinError> {
 
 #[test]
 fn decides_steps(rt: HostRuntime) -> Result<(), Fail> {
-    let cases: [(&str, Step, bool); 17] = [
+    let cases: &[(&str, Step, bool)] = &[
         ("right", (&[(4, 2), (1, 1)], 1, 0, 1), true),
         ("multiplier 0", (&[(4, 2), (1, 1), (0, 0)], 1, 0, 1), true),
         (
@@ -151,7 +151,7 @@ fn decides_steps(rt: HostRuntime) -> Result<(), Fail> {
         ("constant from nothing", (&[], 1, 0, 1), false),
         ("a column is left", (&[(1, 1)], 1, -2, 7), false),
     ];
-    for (name, step, right) in cases {
+    for &(name, step, right) in cases {
         let found = refutes_low(rt.alloc(), step)?;
         assert_eq!(rt; found, right, "{name}");
     }
@@ -177,13 +177,13 @@ fn refutes_at(alloc: Global, number: i32, at: i64, exchanged: bool) -> Result<bo
 
 #[test]
 fn decides_sides(rt: HostRuntime) -> Result<(), Fail> {
-    let cases = [
+    let cases = &[
         (7, 3, false, true),
         (8, 3, false, false),
         (7, 3, true, false),
         (7, 4, false, false),
     ];
-    for (number, at, exchanged, right) in cases {
+    for &(number, at, exchanged, right) in cases {
         let found = refutes_at(rt.alloc(), number, at, exchanged)?;
         assert_eq!(rt; found, right, "{number} {at} {exchanged}");
     }
@@ -203,7 +203,7 @@ fn refutes_rounded(alloc: Global, lower: i64, upper: i64) -> Result<bool, LinErr
 fn decides_closed_nodes(rt: HostRuntime) -> Result<(), Fail> {
     let empty = refutes_nothing(rt.alloc())?;
     assert!(rt; !empty);
-    for (lower, upper, right) in [(4, -3, true), (3, -3, false), (4, -4, false)] {
+    for &(lower, upper, right) in &[(4, -3, true), (3, -3, false), (4, -4, false)] {
         let found = refutes_rounded(rt.alloc(), lower, upper)?;
         assert_eq!(rt; found, right, "{lower} {upper}");
     }
@@ -220,7 +220,7 @@ fn refutes_elsewhere(alloc: Global, at: i64) -> Result<bool, LinError> {
 
 #[test]
 fn decides_bounds(rt: HostRuntime) -> Result<(), Fail> {
-    for (at, right) in [(i64::MIN, true), (i64::MAX - 1, true), (i64::MAX, false)] {
+    for &(at, right) in &[(i64::MIN, true), (i64::MAX - 1, true), (i64::MAX, false)] {
         let found = refutes_elsewhere(rt.alloc(), at)?;
         assert_eq!(rt; found, right, "{at}");
     }
@@ -243,7 +243,7 @@ fn refutes_ranges(alloc: Global, parts: &[(u32, i64)]) -> Result<bool, LinError>
 
 #[test]
 fn numbers_ranges(rt: HostRuntime) -> Result<(), Fail> {
-    let cases: [(&[(u32, i64)], bool); 6] = [
+    let cases: &[(&[(u32, i64)], bool)] = &[
         (&[(0, 1), (4, 1)], true),
         (&[(1, 1), (3, 1)], true),
         (&[(0, 1), (5, 1)], false),
@@ -251,7 +251,7 @@ fn numbers_ranges(rt: HostRuntime) -> Result<(), Fail> {
         (&[(1, 1), (2, 1)], false),
         (&[(0, 1), (4, 1), (6, 0)], false),
     ];
-    for (parts, right) in cases {
+    for &(parts, right) in cases {
         let found = refutes_ranges(rt.alloc(), parts)?;
         assert_eq!(rt; found, right, "{parts:?}");
     }
@@ -271,7 +271,7 @@ fn refutes_great(alloc: Global, parts: &[(u32, i64)]) -> Result<bool, LinError> 
 
 #[test]
 fn keeps_sums_of_128_bits(rt: HostRuntime) -> Result<(), Fail> {
-    let cases: [(&[(u32, i64)], bool); 4] = [
+    let cases: &[(&[(u32, i64)], bool)] = &[
         (&[(0, 1), (1, 1)], true),
         (
             &[(0, 1 << 42), (1, 1 << 42), (0, 1 << 42), (1, 1 << 42)],
@@ -283,7 +283,7 @@ fn keeps_sums_of_128_bits(rt: HostRuntime) -> Result<(), Fail> {
         ),
         (&[(0, 1 << 43), (1, 1 << 43)], false),
     ];
-    for (parts, right) in cases {
+    for &(parts, right) in cases {
         let found = refutes_great(rt.alloc(), parts)?;
         assert_eq!(rt; found, right, "{parts:?}");
     }
@@ -305,7 +305,7 @@ fn refutes_nested(alloc: Global, depth: u32) -> Result<bool, LinError> {
 
 #[test]
 fn keeps_the_nesting(rt: HostRuntime) -> Result<(), Fail> {
-    for (depth, right) in [(512, true), (513, false)] {
+    for &(depth, right) in &[(512, true), (513, false)] {
         let found = refutes_nested(rt.alloc(), depth)?;
         assert_eq!(rt; found, right, "{depth}");
     }

@@ -189,14 +189,14 @@ fn copies_limit(alloc: Global, kind: LimitKind) -> Result<bool, LinError> {
 
 #[test]
 fn copies_limits(rt: HostRuntime) -> Result<(), Fail> {
-    let kinds = [
+    let kinds = &[
         LimitKind::Columns,
         LimitKind::Wide,
         LimitKind::Rows,
         LimitKind::Branches,
         LimitKind::Inexact,
     ];
-    for kind in kinds {
+    for &kind in kinds {
         let copied = copies_limit(rt.alloc(), kind)?;
         assert!(rt; copied, "{kind:?}");
     }

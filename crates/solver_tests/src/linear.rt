@@ -85,7 +85,7 @@ fn is_wide(alloc: Global, multiple: i64, coefficient: i64) -> Result<bool, LinEr
 
 #[test]
 fn keeps_the_limits(rt: HostRuntime) -> Result<(), Fail> {
-    for (coefficient, wide) in [(1, false), (2, true), (-1, false), (-2, true)] {
+    for &(coefficient, wide) in &[(1, false), (2, true), (-1, false), (-2, true)] {
         let found = is_wide(rt.alloc(), 1 << 40, coefficient)?;
         assert_eq!(rt; found, wide, "{coefficient}");
     }
@@ -180,14 +180,14 @@ fn holds_at(alloc: Global, value: i64) -> Result<bool, LinError> {
 
 #[test]
 fn holds_at_the_limits(rt: HostRuntime) -> Result<(), Fail> {
-    let cases = [
+    let cases = &[
         (i64::MIN, true),
         (2, true),
         (3, true),
         (4, false),
         (i64::MAX, false),
     ];
-    for (value, holds) in cases {
+    for &(value, holds) in cases {
         let found = holds_at(rt.alloc(), value)?;
         assert_eq!(rt; found, holds, "{value}");
     }
@@ -202,14 +202,14 @@ fn is_same(alloc: Global, multiple: i64, column: u32, constant: i64) -> Result<b
 
 #[test]
 fn compares(rt: HostRuntime) -> Result<(), Fail> {
-    let cases = [
+    let cases = &[
         (2, 1, 5, true),
         (3, 1, 5, false),
         (2, 2, 5, false),
         (2, 1, 6, false),
         (0, 1, 5, false),
     ];
-    for (multiple, column, constant, same) in cases {
+    for &(multiple, column, constant, same) in cases {
         let found = is_same(rt.alloc(), multiple, column, constant)?;
         assert_eq!(rt; found, same, "{multiple} {column} {constant}");
     }

@@ -62,11 +62,11 @@ fn follows(alloc: Global, count: u8) -> Result<bool, LinError> {
 }
 
 /// A block has 64 atoms.
-const COUNTS: [u8; 7] = [0, 1, 63, 64, 65, 128, 130];
+const COUNTS: &[u8] = &[0, 1, 63, 64, 65, 128, 130];
 
 #[test]
 fn keeps_all_atoms_in_order(rt: HostRuntime) -> Result<(), Fail> {
-    for count in COUNTS {
+    for &count in COUNTS {
         let right = grows(rt.alloc(), count)?
             && joins(rt.alloc(), count)?
             && follows(rt.alloc(), count)?;

@@ -47,7 +47,7 @@ fn fit(alloc: Global, upper: Numbers, lower: Numbers) -> Result<bool, LinError> 
 #[test]
 fn fits_up_to_the_limits(rt: HostRuntime) -> Result<(), Fail> {
     // The greatest product of coefficients is 2 ^ 39, and the next one is 3 * 183251937963.
-    let cases: [(Numbers, Numbers, bool); 10] = [
+    let cases: &[(Numbers, Numbers, bool)] = &[
         ((512, 1, 0), (512, -1, 0), true),
         ((512, 1, 0), (513, -1, 0), false),
         ((513, 1, 0), (512, -1, 0), false),
@@ -59,7 +59,7 @@ fn fits_up_to_the_limits(rt: HostRuntime) -> Result<(), Fail> {
         ((1, 1, -(1 << 45)), (1, -(1 << 39), -1), false),
         ((512, 1 << 20, 1 << 62), (512, -(1 << 19), -(1 << 62)), true),
     ];
-    for (upper, lower, expected) in cases {
+    for &(upper, lower, expected) in cases {
         let found = fit(rt.alloc(), upper, lower)?;
         assert_eq!(rt; found, expected, "{upper:?} {lower:?}");
     }

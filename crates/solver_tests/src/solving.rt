@@ -140,7 +140,7 @@ fn columns_from_0(alloc: Global, count: u32) -> Result<Cube, LinError> {
 #[test]
 fn takes_at_most_256_columns(rt: HostRuntime) -> Result<(), Fail> {
     let alloc = rt.alloc();
-    for (count, limit) in [(256, None), (257, Some(LimitKind::Columns))] {
+    for &(count, limit) in &[(256, None), (257, Some(LimitKind::Columns))] {
         let met = limit_of(alloc, columns_from_0(alloc, count))?;
         assert!(rt; met == limit);
     }
@@ -179,7 +179,7 @@ fn entailment(alloc: Global, left: i64, right: i64) -> Result<(usize, i64), LinE
 #[test]
 fn entails_what_follows(rt: HostRuntime) -> Result<(), Fail> {
     let alloc = rt.alloc();
-    for (left, right, answer) in [(0, -1, (1, 0)), (-1, 0, (0, 1))] {
+    for &(left, right, answer) in &[(0, -1, (1, 0)), (-1, 0, (0, 1))] {
         let found = entailment(alloc, left, right)?;
         assert!(rt; found == answer);
     }
@@ -198,7 +198,7 @@ fn own_limit(alloc: Global, size: i64) -> Result<Option<LimitKind>, LinError> {
 #[test]
 fn meets_a_limit_before_a_contradiction(rt: HostRuntime) -> Result<(), Fail> {
     let alloc = rt.alloc();
-    for (size, limit) in [(1 << 21, None), (1 << 22, Some(LimitKind::Wide))] {
+    for &(size, limit) in &[(1 << 21, None), (1 << 22, Some(LimitKind::Wide))] {
         let met = own_limit(alloc, size)?;
         assert!(rt; met == limit);
     }
@@ -289,7 +289,7 @@ fn is_refuted(alloc: Global, cube: &Cube) -> Result<bool, LinError> {
 #[test]
 fn solves_many_rows_of_two_columns(rt: HostRuntime) -> Result<(), Fail> {
     let alloc = rt.alloc();
-    for (least, above, x, y) in [
+    for &(least, above, x, y) in &[
         (300, -400, 15, 15),
         (300, -320, 15, 15),
         (295, -335, 15, 14),
@@ -299,7 +299,7 @@ fn solves_many_rows_of_two_columns(rt: HostRuntime) -> Result<(), Fail> {
         let found = fan_has_point(alloc, &cube, x, y)?;
         assert!(rt; found);
     }
-    for (least, above) in [(310, -312), (316, -318), (400, -399)] {
+    for &(least, above) in &[(310, -312), (316, -318), (400, -399)] {
         let cube = fan(alloc, least, above)?;
         let refuted = is_refuted(alloc, &cube)?;
         assert!(rt; refuted);

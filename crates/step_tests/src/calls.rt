@@ -445,7 +445,7 @@ fn a_starved_child_is_fed(rt: HostRuntime) -> Result<(), Fail> {
 #[test]
 fn an_edge_is_given_up_unless_a_summary_serves(rt: HostRuntime) -> Result<(), Fail> {
     let given_up = ((1, End::Stuck), Last::GivesUpByChild(2));
-    let cases = [
+    let cases = &[
         (MEETING, Play::GivesUp, given_up),
         (MEETING, Play::Serves, ((2, End::Must), Last::Other)),
         (MISSING, Play::GivesUp, given_up),
@@ -455,7 +455,7 @@ fn an_edge_is_given_up_unless_a_summary_serves(rt: HostRuntime) -> Result<(), Fa
             ((1, End::NotMay), Last::KillsByTable(2)),
         ),
     ];
-    for (shapes, play, wanted) in cases {
+    for &(shapes, play, wanted) in cases {
         let made = play_family(rt.alloc(), &shapes, play)?;
         assert!(rt; made.more[0] == Some(wanted));
     }

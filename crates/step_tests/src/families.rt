@@ -50,7 +50,7 @@ const CALLS: Step = (
 );
 
 /// It fails where what the call returns is 40.
-const FAILS_AT_40: [Step; 4] = [
+const FAILS_AT_40: &[Step] = &[
     READS,
     CALLS,
     (4, 1, Does::Assert(0, &[(&[(1, 1)], -40), (&[(-1, 1)], 40)])),
@@ -58,7 +58,7 @@ const FAILS_AT_40: [Step; 4] = [
 ];
 
 /// It fails where that is 140.
-const FAILS_AT_140: [Step; 4] = [
+const FAILS_AT_140: &[Step] = &[
     READS,
     CALLS,
     (
@@ -70,7 +70,7 @@ const FAILS_AT_140: [Step; 4] = [
 ];
 
 /// It reads an input of at most 99, and returns it if the argument is 2, else 0.
-const RETURNS_INPUTS: [Step; 7] = [
+const RETURNS_INPUTS: &[Step] = &[
     (2, 3, Does::Input(1)),
     (3, 4, Does::Guard(&AT_TWO)),
     (4, 5, Does::Guard(&[(&[(1, 1)], -99)])),
@@ -82,7 +82,7 @@ const RETURNS_INPUTS: [Step; 7] = [
 
 const RETURNING: Shape = Shape {
     counts: CALLEE,
-    steps: &RETURNS_INPUTS,
+    steps: RETURNS_INPUTS,
 };
 
 /// The caller reads an input, calls procedure 1 with it, and fails where what that returns is 40.
@@ -90,7 +90,7 @@ const RETURNING: Shape = Shape {
 pub const MEETING: [Shape; 2] = [
     Shape {
         counts: CALLER,
-        steps: &FAILS_AT_40,
+        steps: FAILS_AT_40,
     },
     RETURNING,
 ];
@@ -99,7 +99,7 @@ pub const MEETING: [Shape; 2] = [
 pub const MISSING: [Shape; 2] = [
     Shape {
         counts: CALLER,
-        steps: &FAILS_AT_140,
+        steps: FAILS_AT_140,
     },
     RETURNING,
 ];

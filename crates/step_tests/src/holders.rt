@@ -163,7 +163,7 @@ const THIRD: Seen = Seen::At {
 const TOO_WIDE: Seen = Seen::Wide { summands: 1 };
 
 /// Not-mays, and the one of them that answers.
-const TABLES: [(&[Bound], Seen); 10] = [
+const TABLES: &[(&[Bound], Seen)] = &[
     (&[THREE], FIRST),
     (&[TWO, ONE, FIVE], THIRD),
     // none answers
@@ -218,7 +218,7 @@ fn level(alloc: Global, ancestors: &[Bound], own: Bound) -> Result<Seen, Fail> {
 }
 
 /// Ancestors, the own query, and the level that answers.
-const LEVELS: [(&[Bound], Bound, Seen); 10] = [
+const LEVELS: &[(&[Bound], Bound, Seen)] = &[
     // an ancestor
     (&[TWO, FOUR], ONE, SECOND),
     // the own query

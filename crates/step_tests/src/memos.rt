@@ -48,7 +48,7 @@ fn asked_twice(alloc: Global, rows: &[Row]) -> Result<[Seen; 2], Fail> {
 /// Rows, and what they come to each time.
 type Case<'a> = (&'a [Row<'a>], Seen);
 
-const CASES: [Case; 5] = [
+const CASES: &[Case] = &[
     (&[(&[(1, 0)], -7), (&[(-1, 0)], 7)], Seen::At(7)),
     (&[(&[(2, 0)], -5), (&[(-2, 0)], 5)], Seen::Never),
     (&[(&[(1, 0)], 9), (&[(-1, 0)], -9)], Seen::At(-9)),

@@ -362,7 +362,7 @@ struct Turn<'a> {
     seen: Seen,
 }
 
-const TURNS: [Turn; 9] = [
+const TURNS: &[Turn] = &[
     Turn {
         case: COMES,
         says: TWICE,
@@ -434,7 +434,7 @@ fn a_must_serves_or_not(rt: HostRuntime) -> Result<(), Fail> {
 /// How many of the musts say what they are to, where all are asked in turn.
 fn right_turns(alloc: Global, memos: &mut Memos) -> Result<u32, Fail> {
     let mut right: u32 = 0;
-    for turn in &TURNS {
+    for turn in TURNS {
         if said_with(alloc, memos, turn)? == turn.seen {
             right = right.wrapping_add(1);
         }
@@ -461,7 +461,7 @@ struct Asking<'a> {
     told: Told,
 }
 
-const TABLES: [Asking; 9] = [
+const TABLES: &[Asking] = &[
     // the first that serves
     Asking {
         case: COMES,

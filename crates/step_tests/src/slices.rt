@@ -74,7 +74,7 @@ fn sliced(alloc: Global, graphs: &Graphs, slice: Slice) -> Result<Made, Fail> {
 }
 
 /// Slices where slot 0 becomes itself and 1, and what they come to.
-const SLICES: [(Slice, Made); 16] = [
+const SLICES: &[(Slice, Made)] = &[
     // no path is left
     ((FAILS, 5, 9, 9), (5, End::NotMay)),
     ((FAILS, 5, 5, 5), (5, End::NotMay)),
@@ -110,7 +110,7 @@ fn slices_end(rt: HostRuntime) -> Result<(), Fail> {
 /// The edges, the least argument, and what a slice of all steps comes to.
 type Middle<'a> = (&'a [Step<'a>], i32, Made);
 
-const MIDDLES: [Middle; 4] = [
+const MIDDLES: &[Middle] = &[
     (WIDE, 5, (2, End::Stuck(LimitKind::Wide))),
     // halves of 11 and more, and of 12 and more
     (HALF, 11, (3, End::Must)),
@@ -183,7 +183,7 @@ const HIGH: Plain = (&[(30_000, 1)], -9_223_372_036_854_775_806);
 /// It is at least the least one.
 const LOW: Plain = (&[(30_000, -1)], -9_223_372_036_854_775_809);
 
-const FOUND: [Finds; 3] = [
+const FOUND: &[Finds] = &[
     Finds {
         edges: NEXT,
         exit: FAILS,
@@ -273,7 +273,7 @@ fn are_kinds(steps: &[Legal], wanted: &[Done]) -> bool {
 }
 
 /// A split before the assertion, one before the middle, and the kill of the entry.
-const BACK: [Done; 5] = [
+const BACK: &[Done] = &[
     (Kind::Extend, [0, 0, 3]),
     (Kind::Extend, [1, 3, 4]),
     (Kind::Split, [2, 4, 2]),
@@ -297,7 +297,7 @@ fn makes(
 fn goes_back(alloc: Global, edges: &[Step], least: i32) -> Result<bool, Fail> {
     let graphs = chain(alloc, edges)?;
     let mut state = begun(alloc, &graphs, FAILS, least)?;
-    makes(alloc, &graphs, &mut state, &BACK)
+    makes(alloc, &graphs, &mut state, BACK)
 }
 
 #[test]

@@ -99,7 +99,7 @@ const HIGH: Row = (&[(-1, 10_000)], 8);
 /// 2 ^ 21 times what is returned is at most 0.
 const WIDE: Row = (&[(2_097_152, 20_000)], 0);
 
-const CASES: [Case; 9] = [
+const CASES: &[Case] = &[
     // the not-may
     Case {
         start: &[LOW],
