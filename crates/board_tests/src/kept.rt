@@ -8,7 +8,7 @@ ghost use Rattle.board_tests.specs.Plays.{IsOpened};
 
 use crate::ends::{DESCENDS, End, Says, WIDE, brought, verdict_of};
 use crate::play::{Back, Play, Took};
-use crate::programs::{THREE_DEEP, board_of, program_of};
+use crate::programs::{THREE_DEEP, board_of};
 use crate::stops::{Crew, call};
 use bolt_core::board::Board;
 use bolt_rounds::alone::alone;
@@ -18,6 +18,7 @@ use std::sync::Arc;
 use std::test::Fail;
 use summary_form::query::ExitKind;
 use summary_form::summary::Summary;
+use test_programs::program::program_of;
 
 /// The summaries of a board.
 fn summaries_of(alloc: Global, board: &Board) -> Result<Vec<Arc<Summary>>, AllocError>
@@ -103,7 +104,7 @@ struct Budgets {
 fn informed(alloc: Global, text: &str, budgets: Budgets) -> Result<(Board, u32), Fail>
     ensures { IfOk result (λ r. IsOpened r.0 r.1) }
 {
-    let main = program_of(alloc, text)?.main;
+    let main = program_of(alloc, text.as_bytes())?.main;
     let (first, asserts) = board_of(alloc, text, budgets.first)?;
     let first = alone(alloc, first)?;
     let second = begun_again(alloc, &first, main, asserts, budgets.second)?;

@@ -1,6 +1,6 @@
 //! Bundles of hand-made claims over the graphs of sources.
 
-use crate::sources::{graphs, program};
+use crate::sources::graphs;
 use bundle_check::{Checked, asked_over, check_bundle};
 use flow_graph::graph::{Edge, Graph};
 use flow_graph::graphs::Graphs;
@@ -12,6 +12,7 @@ use query_rules::certificates::Certificates;
 use std::alloc::{AllocError, Global};
 use std::test::Fail;
 use summary_form::query::{ExitKind, Query};
+use test_programs::program::program_of;
 
 /// The failure of `f` is no run of `main`.
 const UNCALLED: &str = "int main(){return 0;} int f(){assert(0);return 0;}";
@@ -88,7 +89,7 @@ fn call_of(graphs: &Graphs, proc: usize) -> Result<(RegionEdge, RegionEdge), Fai
 
 /// The answer for the first assertion of a source.
 fn answer(alloc: Global, source: &str, claims: Vec<Claim>) -> Result<Checked, Fail> {
-    let program = program(alloc, source)?;
+    let program = program_of(alloc, source.as_bytes())?;
     let graphs = graphs(alloc, &program)?;
     let bundle = Bundle {
         source: Vec::from_slice(alloc, source.as_bytes())?,
@@ -155,7 +156,7 @@ fn endless(alloc: Global, graphs: &Graphs, kills: Kills) -> Result<Vec<Claim>, F
 }
 
 fn endless_answer(alloc: Global, kills: Kills) -> Result<Checked, Fail> {
-    let program = program(alloc, ENDLESS)?;
+    let program = program_of(alloc, ENDLESS.as_bytes())?;
     let graphs = graphs(alloc, &program)?;
     let claims = endless(alloc, &graphs, kills)?;
     let bundle = Bundle {
@@ -193,7 +194,7 @@ fn the_named_claim_counts(rt: HostRuntime) -> Result<(), Fail> {
 
 /// The query that the first call of `main` asks where it returns.
 fn asked(alloc: Global, exit: ExitKind, fails: bool) -> Result<Option<Query>, Fail> {
-    let program = program(alloc, ENDLESS)?;
+    let program = program_of(alloc, ENDLESS.as_bytes())?;
     let graphs = graphs(alloc, &program)?;
     let sides = call_of(&graphs, 1)?;
     let Some(graph) = graphs.graphs.as_slice().get(1) else {

@@ -1,11 +1,12 @@
 //! Claims as they stand in a text: right ones, and the same with one thing wrong.
 
-use crate::sources::{graphs, program};
+use crate::sources::graphs;
 use bundle_check::{Checked, check_bundle};
 use proof_bundle::bundle::Bundle;
 use proof_bundle::read_bundle;
 use std::alloc::Global;
 use std::test::Fail;
+use test_programs::program::program_of;
 
 /// No run fails. Edge 7 leads to the assertion, whose node has region 11, and edge 10 on to the
 /// failure, which has region 2.
@@ -214,7 +215,7 @@ fn bundle_of(alloc: Global, claims: &[&str; 4]) -> Result<Bundle, Fail> {
 
 /// What is said of claims about the first assertion of a source.
 fn said(alloc: Global, source: &str, claims: &[&str; 4]) -> Result<Checked, Fail> {
-    let program = program(alloc, source)?;
+    let program = program_of(alloc, source.as_bytes())?;
     let graphs = graphs(alloc, &program)?;
     let bundle = bundle_of(alloc, claims)?;
     Ok(check_bundle(alloc, &bundle, &program, &graphs)?)

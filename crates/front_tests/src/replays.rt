@@ -1,10 +1,10 @@
 //! A program that does what its first input says, run on inputs. Outcomes are counted by hand: a
 //! statement, a test of a loop and a node of an expression are a step each.
 
-use crate::sources::program;
 use run_replay::{Outcome, Replayed, replay};
 use std::alloc::Global;
 use std::test::Fail;
+use test_programs::program::program_of;
 
 const SOURCE: &str = "
     int appends(int n, int x) { if (n == 0) return x; return appends(n - 1, 10 * x + n); }
@@ -34,7 +34,7 @@ const SOURCE: &str = "
 
 /// The run of a source on inputs.
 fn run(alloc: Global, source: &str, inputs: &[i64], fuel: u64) -> Result<Replayed, Fail> {
-    let program = program(alloc, source)?;
+    let program = program_of(alloc, source.as_bytes())?;
     Ok(replay(alloc, &program, inputs, fuel)?)
 }
 

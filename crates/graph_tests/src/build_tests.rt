@@ -1,6 +1,5 @@
 //! The graph of a program, edge by edge.
 
-use crate::programs::program_of;
 use flow_build::build::build;
 use flow_graph::calls::CallSite;
 use flow_graph::graph::{Edge, Graph};
@@ -8,8 +7,8 @@ use flow_graph::graphs::Graphs;
 use linear_formula::formula::Cube;
 use std::alloc::{AllocError, Global};
 use std::fmt::Write;
-use std::process::Abort;
 use std::test::Fail;
+use test_programs::program::program_of;
 
 const SUM: &str = "int main(){ int x = 3; x = x + 4; assert(x == 7); return 0; }";
 
@@ -114,14 +113,14 @@ fn numbers(graph: &Graph) -> [usize; 6] {
     ]
 }
 
-fn graphs_of(rt: &impl Abort, alloc: Global, text: &str) -> Result<Graphs, Fail> {
-    let program = program_of(rt, alloc, text)?;
+fn graphs_of(alloc: Global, text: &str) -> Result<Graphs, Fail> {
+    let program = program_of(alloc, text.as_bytes())?;
     Ok(build(alloc, &program)?)
 }
 
 #[test]
 fn builds_the_graph_of_a_sum(rt: HostRuntime) -> Result<(), Fail> {
-    let graphs = graphs_of(&rt, rt.alloc(), SUM)?;
+    let graphs = graphs_of(rt.alloc(), SUM)?;
     let [graph] = graphs.graphs.as_slice() else {
         return Err(Fail::new("not one graph"));
     };

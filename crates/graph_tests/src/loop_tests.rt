@@ -1,16 +1,16 @@
 //! Preimages over the edges of a loop: slots meet one exactly where a step over the edge leads into
 //! its target.
 
-use crate::programs::{hold, lin_value, program_of};
+use crate::programs::{hold, lin_value};
 use flow_build::build::build;
 use flow_graph::graph::Edge;
 use flow_graph::graphs::Graphs;
 use linear_formula::formula::Cube;
 use shadow_elim::shadow::Pre;
 use std::alloc::Global;
-use std::process::Abort;
 use std::test::Fail;
 use test_forms::rows::{Row, cube_of};
+use test_programs::program::program_of;
 use weakest_pre::preimage::pre;
 
 /// A lock is taken and given back; `n` changes where it is given back. The slots are those of
@@ -135,8 +135,8 @@ fn right_of(alloc: Global, edge: &Edge) -> Result<usize, Fail> {
     Ok(right)
 }
 
-fn graphs_of(rt: &impl Abort, alloc: Global, text: &str) -> Result<Graphs, Fail> {
-    let program = program_of(rt, alloc, text)?;
+fn graphs_of(alloc: Global, text: &str) -> Result<Graphs, Fail> {
+    let program = program_of(alloc, text.as_bytes())?;
     Ok(build(alloc, &program)?)
 }
 
@@ -146,7 +146,7 @@ fn is_inner(edge: &Edge) -> bool {
 
 #[test]
 fn preimages_of_a_loop(rt: HostRuntime) -> Result<(), Fail> {
-    let graphs = graphs_of(&rt, rt.alloc(), LOCK_LOOP)?;
+    let graphs = graphs_of(rt.alloc(), LOCK_LOOP)?;
     let graph = graphs.graphs.as_slice().first().ok_or("no graph")?;
     assert!(rt; graph.slots == SLOTS);
     for edge in graph.edges.as_slice() {

@@ -1,35 +1,8 @@
-//! Programs of texts, and what sums and rows are at slots.
+//! What sums and rows are at slots.
 
-ghost use Rattle.std.specs.Prelude.{◌≤◌, length, IfOk};
-ghost use Rattle.c_tree.specs.WellFormed.{DividesByLiterals};
-ghost use Rattle.c_tree.specs.Whole.{program_of as whole};
-
-use c_lexer::scan::lex;
-use c_parser::parse::parse;
-use c_tree::syntax_tree::Tree;
-use c_tree::tree::{Program, Slot};
-use c_typing::check::check_types;
+use c_tree::tree::Slot;
 use flow_graph::graph::Lin;
 use linear_formula::formula::{Atom, Cube};
-use std::alloc::Global;
-use std::process::Abort;
-use std::test::Fail;
-
-fn tree_of(alloc: Global, bytes: &[u8]) -> Result<Tree, Fail>
-    requires { length bytes.now ≤ 65536 }
-{
-    let tokens = lex(alloc, bytes)?;
-    Ok(parse(alloc, bytes, &tokens)?)
-}
-
-pub fn program_of(rt: &impl Abort, alloc: Global, text: &str) -> Result<Program, Fail>
-    ensures { IfOk result (λ p. DividesByLiterals (whole p)) }
-{
-    let bytes = text.as_bytes();
-    assert!(rt; bytes.len() <= 65_536);
-    let tree = tree_of(alloc, bytes)?;
-    Ok(check_types(alloc, &tree)?)
-}
 
 /// The sum and a multiple of a slot.
 fn plus(sum: i128, coefficient: i128, slots: &[i64], slot: Slot) -> Option<i128> {

@@ -2,7 +2,7 @@
 //! with as many inputs used.
 
 use crate::globals::GLOBALS;
-use crate::programs::{Bounds, bounds_of, hold, lin_value, program_of};
+use crate::programs::{Bounds, bounds_of, hold, lin_value};
 use crate::quotients::{DIVIDENDS, DIVIDING, DIVISIONS};
 use crate::sources::{CONTEXTS, EXPRESSIONS, HEAD, PROGRAMS, SHARED};
 use c_tree::tree::{ProcId, Program, Slot};
@@ -15,6 +15,7 @@ use run_replay::{Outcome, replay};
 use std::alloc::Global;
 use std::process::Abort;
 use std::test::Fail;
+use test_programs::program::program_of;
 
 /// The most steps of a walk, and of a replay.
 const STEPS: u32 = 10_000;
@@ -257,8 +258,8 @@ struct Built {
     graphs: Graphs,
 }
 
-fn built_of(rt: &impl Abort, alloc: Global, text: &str) -> Result<Built, Fail> {
-    let program = program_of(rt, alloc, text)?;
+fn built_of(alloc: Global, text: &str) -> Result<Built, Fail> {
+    let program = program_of(alloc, text.as_bytes())?;
     let graphs = build(alloc, &program)?;
     Ok(Built { program, graphs })
 }
@@ -277,7 +278,7 @@ fn first_other(alloc: Global, built: &Built, lists: &[&[i64]]) -> Result<Option<
 
 /// Walks and replays a program on inputs.
 fn compare(rt: &impl Abort, alloc: Global, text: &str, lists: &[&[i64]]) -> Result<(), Fail> {
-    let built = built_of(rt, alloc, text)?;
+    let built = built_of(alloc, text)?;
     let other = first_other(alloc, &built, lists)?;
     assert!(rt; other.is_none(), "{text} on {other:?}");
     Ok(())
@@ -366,7 +367,7 @@ fn quotients_are_those_of_the_machine(rt: HostRuntime) -> Result<(), Fail> {
         let text = format!(in rt.alloc();
             "int main(){{ int x = input(); return x {mark} {divisor}; }}"
         )?;
-        let built = built_of(&rt, rt.alloc(), text.as_str())?;
+        let built = built_of(rt.alloc(), text.as_str())?;
         let other = other_quotient(rt.alloc(), &built, *divisor, *remainder)?;
         assert!(rt; other.is_none(), "{other:?} {mark} {divisor}");
     }

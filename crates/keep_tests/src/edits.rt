@@ -1,9 +1,9 @@
 //! What is the same in a program that was edited.
 
-use crate::sources::program;
 use std::alloc::Global;
 use std::test::Fail;
 use summary_keep::matching::matching;
+use test_programs::program::program_of;
 
 /// The new numbers of the first procedures and of the first assertions; none stands for the others.
 type Numbers = ([Option<u32>; 4], [Option<u32>; 4]);
@@ -20,8 +20,8 @@ fn first_four(numbers: &[Option<u32>]) -> [Option<u32>; 4] {
 
 /// How many procedures and assertions of the old program have an entry, and the first of these.
 fn matched(alloc: Global, old: &str, new: &str) -> Result<(usize, usize, Numbers), Fail> {
-    let old = program(alloc, old)?;
-    let new = program(alloc, new)?;
+    let old = program_of(alloc, old.as_bytes())?;
+    let new = program_of(alloc, new.as_bytes())?;
     let pairs = matching(alloc, &old, &new)?;
     let numbers = (first_four(&pairs.procs), first_four(&pairs.asserts));
     Ok((pairs.procs.len(), pairs.asserts.len(), numbers))

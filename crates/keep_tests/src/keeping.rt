@@ -4,7 +4,6 @@
 ghost use Rattle.std.specs.Prelude.{IfOk, map};
 ghost use Rattle.keep_tests.specs.Impossible.{AreImpossible, SayNothing, SaysNothing};
 
-use crate::sources::program;
 use linear_formula::error::OutOfMemory;
 use linear_formula::formula::{Atom, Atoms, Cube};
 use linear_formula::term::{Parts, Term};
@@ -15,6 +14,7 @@ use summary_form::query::{ExitKind, Query};
 use summary_form::summary::Summary;
 use summary_keep::keep::keep;
 use summary_keep::matching::matching;
+use test_programs::program::program_of;
 
 /// 1 is at most 0.
 fn never(alloc: Global) -> Result<Cube, OutOfMemory>
@@ -70,8 +70,8 @@ fn kept_of(summaries: &[Arc<Summary>]) -> [Option<About>; 4] {
 
 /// What is kept of four summaries of an old source.
 fn kept(alloc: Global, old: &str, new: &str) -> Result<[Option<About>; 4], Fail> {
-    let old = program(alloc, old)?;
-    let new = program(alloc, new)?;
+    let old = program_of(alloc, old.as_bytes())?;
+    let new = program_of(alloc, new.as_bytes())?;
     let pairs = matching(alloc, &old, &new)?;
     let summaries = about_all(alloc, OLD)?;
     Ok(kept_of(&keep(alloc, &old, &new, &pairs, &summaries)?))

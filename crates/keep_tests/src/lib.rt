@@ -7,5 +7,3 @@ mod edits;
 mod keeping;
 #[cfg(test)]
 mod made;
-#[cfg(test)]
-mod sources;

@@ -1,18 +1,11 @@
 //! Boards of programs, and their ends.
 
-ghost use Rattle.std.specs.Prelude.{◌≡◌, ◌≤◌, length, IfOk};
-ghost use Rattle.c_tree.specs.WellFormed.{DividesByLiterals};
-ghost use Rattle.c_tree.specs.Whole.{program_of as whole};
+ghost use Rattle.std.specs.Prelude.{◌≡◌, IfOk};
 ghost use Rattle.rounds_tests.specs.Boards.{IsOpened};
 
 use bolt_core::board::Board;
 use bolt_core::job::Verdict;
 use bolt_rounds::rounds::rounds;
-use c_lexer::scan::lex;
-use c_parser::parse::parse;
-use c_tree::syntax_tree::Tree;
-use c_tree::tree::Program;
-use c_typing::check::check_types;
 use flow_build::build::build;
 use flow_graph::graphs::Graphs;
 use outer_io::Gate;
@@ -21,30 +14,13 @@ use std::alloc::Global;
 use std::sync::Arc;
 use std::test::Fail;
 use std::thread::Threads;
+use test_programs::program::program_of;
 
 /// The workload with two procedures, whose assertions never fail.
 pub const WORKLOAD: &str = "int p1(int a) { if (a > 0) { return 1; } assert(a <= 0); return 0; }\n\
      int p2(int a) { if (a > 0) { return 1; } assert(a <= 0); return 0; }\n\
      int main() { int k = input(); int v = input(); if (k == 1) { p1(v); } \
      if (k == 2) { p2(v); } return 0; }\n";
-
-fn tree_of(alloc: Global, bytes: &[u8]) -> Result<Tree, Fail>
-    requires { length bytes.now ≤ 65536 }
-{
-    let tokens = lex(alloc, bytes)?;
-    Ok(parse(alloc, bytes, &tokens)?)
-}
-
-fn program_of(alloc: Global, text: &str) -> Result<Program, Fail>
-    ensures { IfOk result (λ p. DividesByLiterals (whole p)) }
-{
-    let bytes = text.as_bytes();
-    if bytes.len() > 65_536 {
-        return Err(Fail::new("the text is too long"));
-    }
-    let tree = tree_of(alloc, bytes)?;
-    Ok(check_types(alloc, &tree)?)
-}
 
 /// A board of graphs, and its assertions.
 fn opened(
@@ -73,7 +49,7 @@ fn opened(
 pub fn board_of(alloc: Global, text: &str, budget: u32) -> Result<(Board, u32), Fail>
     ensures { IfOk result (λ r. IsOpened r.0 r.1) }
 {
-    let program = program_of(alloc, text)?;
+    let program = program_of(alloc, text.as_bytes())?;
     let graphs = build(alloc, &program)?;
     opened(alloc, graphs, program.main, program.asserts.len(), budget)
 }

@@ -1,18 +1,12 @@
 //! What a sweep of a source finds: the inputs are replayed.
 
-ghost use Rattle.std.specs.Prelude.{IfOk};
-ghost use Rattle.c_tree.specs.WellFormed.{DividesByLiterals};
-ghost use Rattle.c_tree.specs.Whole.{program_of as whole};
-
 use crate::swept::{End, Entry, Told, swept};
-use c_lexer::scan::lex;
-use c_parser::parse::parse;
 use c_tree::tree::Program;
-use c_typing::check::check_types;
 use flow_build::build::build;
 use run_replay::{Outcome, replay};
 use std::alloc::Global;
 use std::test::Fail;
+use test_programs::program::program_of;
 
 /// A source and what is wanted.
 struct Case {
@@ -71,18 +65,6 @@ const CASES: [Case; 7] = [
     },
 ];
 
-fn program_of(alloc: Global, source: &str) -> Result<Program, Fail>
-    ensures { IfOk result (λ p. DividesByLiterals (whole p)) }
-{
-    let bytes = source.as_bytes();
-    if bytes.len() > 65_536 {
-        return Err(Fail::new("too long"));
-    }
-    let tokens = lex(alloc, bytes)?;
-    let tree = parse(alloc, bytes, &tokens)?;
-    Ok(check_types(alloc, &tree)?)
-}
-
 /// Whether these inputs, and no fewer, make the program fail at the assertion.
 fn fails(alloc: Global, program: &Program, id: u32, inputs: &[i64]) -> Result<bool, Fail> {
     let replayed = replay(alloc, program, inputs, 10_000)?;
@@ -113,7 +95,7 @@ fn is_true(alloc: Global, program: &Program, entries: &[Entry]) -> Result<bool, 
 }
 
 fn is_wanted(alloc: Global, case: &Case) -> Result<bool, Fail> {
-    let program = program_of(alloc, case.source)?;
+    let program = program_of(alloc, case.source.as_bytes())?;
     let graphs = build(alloc, &program)?;
     let asserts = u32::try_from(program.asserts.len())?;
     let told = swept(alloc, &graphs, program.main, asserts, case.edges)?;

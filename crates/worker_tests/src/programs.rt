@@ -1,36 +1,18 @@
 //! Boards of programs.
 
 ghost use Rattle.std.specs.Prelude.{IfOk};
-ghost use Rattle.c_tree.specs.WellFormed.{DividesByLiterals};
-ghost use Rattle.c_tree.specs.Whole.{program_of as whole};
 ghost use Rattle.worker_tests.specs.Opened.{IsOpened};
 
 use bolt_core::board::Board;
-use c_lexer::scan::lex;
-use c_parser::parse::parse;
-use c_tree::tree::Program;
-use c_typing::check::check_types;
 use flow_build::build::build;
 use flow_graph::graphs::Graphs;
 use std::alloc::Global;
 use std::sync::Arc;
 use std::test::Fail;
+use test_programs::program::program_of;
 
 /// What each program is checked with.
 pub const BUDGET: u32 = 2000;
-
-/// The program of a text, as the front end reads it.
-fn program_of(alloc: Global, bytes: &[u8]) -> Result<Program, Fail>
-    ensures { IfOk result (λ p. DividesByLiterals (whole p)) }
-{
-    if bytes.len() > 65_536 {
-        return Err(Fail::new("the text is too long"));
-    }
-    let tokens = lex(alloc, bytes)?;
-    let tree = parse(alloc, bytes, &tokens)?;
-    drop(tokens);
-    Ok(check_types(alloc, &tree)?)
-}
 
 /// A board of graphs, and its assertions.
 fn opened(alloc: Global, graphs: Graphs, main: u32, asserts: usize) -> Result<(Board, u32), Fail>

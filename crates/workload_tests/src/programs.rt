@@ -3,24 +3,20 @@
 ghost use Rattle.std.specs.Prelude.{◌≤◌};
 ghost use Rattle.workload_gen.specs.declared.text.TheConstants.{MAX_NUMBER};
 
-use c_lexer::lex;
-use c_parser::parse::parse;
 use c_tree::tree::{Pos, Program};
-use c_typing::check::check_types;
 use run_replay::{Outcome, Replayed, replay};
 use std::alloc::Global;
 use std::test::Fail;
-use workload_gen::{MAX_NUMBER, program_of};
+use test_programs::program::program_of;
+use workload_gen::{MAX_NUMBER, program_of as text_of};
 
 /// The program with so many procedures beside `main`, as the front end reads it.
 fn program(alloc: Global, number: u32) -> Result<Program, Fail>
     requires some { 1 ≤ number }
     requires few { number ≤ MAX_NUMBER }
 {
-    let bytes = program_of(alloc, number)?;
-    let tokens = lex(alloc, &bytes)?;
-    let tree = parse(alloc, &bytes, &tokens)?;
-    Ok(check_types(alloc, &tree)?)
+    let text = text_of(alloc, number)?;
+    Ok(program_of(alloc, &text)?)
 }
 
 /// Whether the assertions stand on their lines, from the first on, at the columns that are counted

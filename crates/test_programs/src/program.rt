@@ -1,4 +1,8 @@
-//! From a source to its program.
+//! The program of a source.
+
+ghost use Rattle.std.specs.Prelude.{IfOk};
+ghost use Rattle.c_tree.specs.WellFormed.{DividesByLiterals};
+ghost use Rattle.c_tree.specs.Whole.{program_of as whole};
 
 use c_lexer::scan::lex;
 use c_lexer::token::LexError;
@@ -23,13 +27,15 @@ pub enum Refusal {
     Typing(#[from] TypeError),
 }
 
-/// The program of a source.
-pub fn program(alloc: Global, source: &str) -> Result<Program, Refusal> {
-    let bytes = source.as_bytes();
-    if bytes.len() > 65_536 {
+/// The program of a source, as the front end reads it.
+pub fn program_of(alloc: Global, source: &[u8]) -> Result<Program, Refusal>
+    ensures { IfOk result (λ p. DividesByLiterals (whole p)) }
+{
+    if source.len() > 65_536 {
         return Err(Refusal::TooLong);
     }
-    let tokens = lex(alloc, bytes)?;
-    let tree = parse(alloc, bytes, &tokens)?;
+    let tokens = lex(alloc, source)?;
+    let tree = parse(alloc, source, &tokens)?;
+    drop(tokens);
     Ok(check_types(alloc, &tree)?)
 }
