@@ -7,7 +7,7 @@ use Rattle.std.proofs.Math.Nat.{mul-le-mul}
 use Rattle.std.proofs.lemmas.List.Edits.{map_over_more}
 use Rattle.linear_formula.specs.LinearSum.{LinearSum, is_within, is_term, coefficient}
 use Rattle.linear_formula.specs.steps.Order.{AllWithin}
-use Rattle.linear_formula.specs.Results.{plus_parts, plus_both, combination, negated, negated_parts, substituted, without_part, without_column}
+use Rattle.linear_formula.specs.Results.{plus_multiple, plus_parts, plus_both, combination, negated, negated_parts, substituted, without_part, without_column}
 use Rattle.linear_formula.proofs.Fronts.{both_left}
 use Rattle.linear_formula.proofs.Limits.{IsTerm, Within-from_test, IsTerm-from_test}
 use Rattle.linear_formula.proofs.Merging.{at}
@@ -92,6 +92,13 @@ substituted-both x by t k =
     ((coefficient x t *ℤ by.constant) +ℤ t.constant)
     (ap (plus_parts (coefficient x t) by.parts) (plus_parts-once 0 (without_part x t.parts) (InOrder-without 0 x t.parts k.order)))
     (omega (arith, ints, one-mul t.constant))
+
+-- a multiple, and another sum once
+pub both-once : (m : ℤ) (t u : LinearSum) → IsTerm u → plus_both m t (pos 1) u ≡ plus_multiple m t u
+both-once m t u k =
+    sum_same (both_left m t.parts (pos 1) u.parts) (plus_parts m t.parts u.parts) ((m *ℤ t.constant) +ℤ (pos 1 *ℤ u.constant))
+    ((m *ℤ t.constant) +ℤ u.constant) (ap (plus_parts m t.parts) (plus_parts-once 0 u.parts k.order))
+    (omega (arith, ints, one-mul u.constant))
 
 pub substituted-absent : (x : ℕ) (by t : LinearSum) → IsTerm t → coefficient x t ≡ pos 0 → t ≡ substituted x by t
 substituted-absent x by t k e =

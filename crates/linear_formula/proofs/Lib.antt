@@ -15,3 +15,4 @@ pub mod Renamed
 pub mod Combinations
 pub mod Replacing
 pub mod TermAtoms
+pub mod JoinedRows

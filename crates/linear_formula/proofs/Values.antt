@@ -57,6 +57,10 @@ value-combination v [] c = omega (arith, ints)
 value-combination v (s ∷ ss) c =
     value-plus_multiple v s.0 s.1 (combination ss c) ∙ ap (λ z. (s.0 *ℤ value_of v s.1) +ℤ z) (value-combination v ss c)
 
+pub combined-value : (ss : List (ℤ × LinearSum)) (c : ℤ) (t : LinearSum) → t ≡ combination ss c → (v : ℕ → ℤ) →
+    value_of v t ≡ combination_value v ss c
+combined-value ss c t e v = ap (value_of v) e ∙ value-combination v ss c
+
 -- the value of the negated sum is 1 less the value
 pub value-negated : (v : ℕ → ℤ) (t : LinearSum) → value_of v (negated t) ≡ pos 1 -ℤ value_of v t
 value-negated v t = value-combination v ((negsuc 0, t) ∷ []) (pos 1) ∙ omega (arith, ints)

@@ -4,4 +4,5 @@ pub mod Formula
 pub mod Replaced
 pub mod Equality
 pub mod Laws
+pub mod Rows
 pub mod steps

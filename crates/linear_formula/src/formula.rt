@@ -225,6 +225,18 @@ impl Atom {
     }
 }
 
+/// Whether each of the atoms holds there, exactly.
+pub(crate) fn hold_all(atoms: &[Atom], at: &Assignment) -> bool
+    ensures { IsTrue result ↔ HoldsAll (valuation at.now) atoms.now }
+{
+    for atom in atoms {
+        if !atom.holds(at) {
+            return false;
+        }
+    }
+    true
+}
+
 pub(crate) fn copy_onto(out: &mut Atoms, alloc: Global, atoms: &[Atom]) -> Result<(), OutOfMemory>
     ensures { OnOk result (out.new ≡ out.old ++ atoms.now) }
 {
@@ -268,12 +280,7 @@ impl Cube {
     pub fn holds(&self, at: &Assignment) -> bool
         ensures { IsTrue result ↔ HoldsAll (valuation at.now) self.now.atoms }
     {
-        for atom in self.atoms.as_slice() {
-            if !atom.holds(at) {
-                return false;
-            }
-        }
-        true
+        hold_all(self.atoms.as_slice(), at)
     }
 
     /// The cube with one more atom.

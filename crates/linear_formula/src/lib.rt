@@ -6,6 +6,7 @@ mod column;
 pub mod error;
 mod exact_sum;
 pub mod formula;
+pub mod joined;
 pub mod laws;
 mod merge;
 pub mod question;

@@ -1,13 +1,14 @@
 //! Cubes whose copies share their atoms.
 
-ghost use Rattle.std.specs.Prelude.{◌≡◌, ◌++◌, ◌∷◌, [], flat_map, IfOk, OnOk, IsTrue};
+ghost use Rattle.std.specs.Prelude.{◌≡◌, ◌++◌, ◌∷◌, [], flat_map, ◌↔◌, IfOk, OnOk, IsTrue};
+ghost use Rattle.linear_formula.specs.Equality.{same_atoms};
 ghost use Rattle.linear_formula.specs.Formula.{are_terms};
 
 use crate::error::OutOfMemory;
-use crate::formula::{Atom, Atoms, Cube};
+use crate::formula::{Atom, Atoms, Cube, copy_onto};
+use crate::joined::JoinedCube;
 use std::alloc::Global;
 use std::marker::Model;
-use std::mem;
 use std::sync::Arc;
 
 /// An atom that its copies share.
@@ -26,8 +27,8 @@ impl Model for SharedAtom {
 
 /// Atoms in order, which copies share as one.
 #[derive(Debug, Drop)]
-struct Block {
-    shared: Arc<Vec<SharedAtom>>,
+pub struct Block {
+    shared: Arc<Atoms>,
 }
 
 impl Model for Block {
@@ -36,12 +37,12 @@ impl Model for Block {
 
     ghost Value = { List Atom };
 
-    ghost view = { λ b. b.shared.value.items };
+    ghost view = { λ b. b.shared.value };
 }
 
-/// Full blocks in order, which copies share as one.
+/// Blocks in order, which copies share as one.
 #[derive(Debug, Drop)]
-struct Blocks {
+pub(crate) struct Blocks {
     shared: Option<Arc<Vec<Block>>>,
 }
 
@@ -103,10 +104,32 @@ impl SharedAtom {
     }
 }
 
+impl PartialEq for Block {
+    ghost use Rattle.linear_formula.specs.steps.SameValues.{partial, atoms-same};
+
+    ghost eq = { same_atoms };
+
+    ghost laws = { partial (same_atoms) atoms-same };
+
+    fn eq(&self, other: &Block) -> bool
+        ensures test { result ≡ same_atoms self.now other.now }
+        ensures same { IsTrue result ↔ (self.now ≡ other.now) }
+    {
+        self.as_slice() == other.as_slice()
+    }
+}
+
+impl Eq for Block {
+    ghost use Rattle.std.specs.Cmp.{decided};
+    ghost use Rattle.linear_formula.specs.steps.SameValues.{atoms-same};
+
+    ghost laws = { decided (same_atoms) atoms-same };
+}
+
 impl Block {
     /// Takes the atoms over.
-    fn new(alloc: Global, atoms: Vec<SharedAtom>) -> Result<Block, OutOfMemory>
-        ensures { IfOk result (λ b. b ≡ atoms.items) }
+    pub(crate) fn new(alloc: Global, atoms: Atoms) -> Result<Block, OutOfMemory>
+        ensures { IfOk result (λ b. b ≡ atoms) }
     {
         let shared = Arc::new(alloc, atoms)?;
         Ok(Block { shared })
@@ -120,16 +143,25 @@ impl Block {
         Ok(Block { shared })
     }
 
-    fn as_slice(&self) -> &[SharedAtom]
-        ensures { result.now ≡ self.now }
+    /// The atoms, in order.
+    pub fn as_slice(&self) -> &[Atom]
+        ensures value { result.now ≡ self.now }
+        ensures terms { IsTrue (are_terms self.now) }
     {
         self.shared.as_slice()
     }
 }
 
 impl Blocks {
+    /// None.
+    pub(crate) fn new() -> Blocks
+        ensures { result ≡ [] }
+    {
+        Blocks { shared: None }
+    }
+
     /// The blocks, in order.
-    fn as_slice(&self) -> &[Block]
+    pub(crate) fn as_slice(&self) -> &[Block]
         ensures { flat_map (λ b. b) result.now ≡ self.now }
     {
         match &self.shared {
@@ -139,7 +171,7 @@ impl Blocks {
     }
 
     /// The same blocks, shared.
-    fn copy(&self) -> Result<Blocks, OutOfMemory>
+    pub(crate) fn copy(&self) -> Result<Blocks, OutOfMemory>
         ensures { IfOk result (λ b. b ≡ self.now) }
     {
         let shared = match &self.shared {
@@ -150,7 +182,7 @@ impl Blocks {
     }
 
     /// The blocks with one more.
-    fn with(&self, alloc: Global, block: Block) -> Result<Blocks, OutOfMemory>
+    pub(crate) fn with(&self, alloc: Global, block: Block) -> Result<Blocks, OutOfMemory>
         ensures { IfOk result (λ b. b ≡ self.now ++ block) }
     {
         let old = self.as_slice();
@@ -170,7 +202,7 @@ impl SharedCube {
         ensures { result.atoms ≡ [] }
     {
         SharedCube {
-            blocks: Blocks { shared: None },
+            blocks: Blocks::new(),
             last: Vec::new(alloc),
         }
     }
@@ -191,9 +223,10 @@ impl SharedCube {
     fn close(&mut self, alloc: Global) -> Result<(), OutOfMemory>
         ensures { OnOk result (self.new ≡ self.old) }
     {
-        let last = mem::replace(&mut self.last, Vec::new(alloc));
+        let last = unshared(alloc, &self.last, 0)?;
         let block = Block::new(alloc, last)?;
         self.blocks = self.blocks.with(alloc, block)?;
+        self.last = Vec::new(alloc);
         Ok(())
     }
 
@@ -248,6 +281,17 @@ impl SharedCube {
         Ok(Cube { atoms })
     }
 
+    /// The atoms of both, in order. The full blocks are shared, the atoms behind them are copied,
+    /// and those of the other are moved.
+    pub fn joined(&self, alloc: Global, other: Cube) -> Result<JoinedCube, OutOfMemory>
+        ensures { IfOk result (λ c. c.atoms ≡ self.now.atoms ++ other.atoms) }
+    {
+        let blocks = self.blocks.copy()?;
+        let mut own = unshared(alloc, &self.last, other.atoms.as_slice().len())?;
+        own.append(other.atoms)?;
+        Ok(JoinedCube::new(blocks, own))
+    }
+
     /// The atoms of both, in order, in memory of their own. Those of the other are moved.
     pub fn cube_with(&self, alloc: Global, other: Cube) -> Result<Cube, OutOfMemory>
         ensures { IfOk result (λ c. c.atoms ≡ self.now.atoms ++ other.atoms) }
@@ -266,7 +310,7 @@ impl SharedCube {
         let room = full.saturating_add(self.last.len()).saturating_add(more);
         let mut atoms = Atoms::with_capacity(alloc, room)?;
         for block in blocks {
-            unshared_onto(&mut atoms, alloc, block.as_slice())?;
+            copy_onto(&mut atoms, alloc, block.as_slice())?;
         }
         unshared_onto(&mut atoms, alloc, &self.last)?;
         Ok(atoms)
@@ -292,6 +336,15 @@ fn copies_onto(out: &mut SharedCube, alloc: Global, atoms: &[Atom]) -> Result<()
         out.push(alloc, SharedAtom::new(alloc, atom.copy(alloc)?)?)?;
     }
     Ok(())
+}
+
+/// Copies of shared atoms, with room for so many more.
+fn unshared(alloc: Global, atoms: &[SharedAtom], more: usize) -> Result<Atoms, OutOfMemory>
+    ensures { IfOk result (λ all. all ≡ atoms.now) }
+{
+    let mut all = Atoms::with_capacity(alloc, atoms.len().saturating_add(more))?;
+    unshared_onto(&mut all, alloc, atoms)?;
+    Ok(all)
 }
 
 /// Adds copies of shared atoms.

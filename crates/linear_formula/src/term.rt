@@ -24,6 +24,9 @@ pub const MAX_COEFFICIENT: i128 = 1 << 40;
 /// The greatest number of parts of a term.
 pub const MAX_PARTS: usize = 1024;
 
+/// So many summands are added one after the other; more are, column by column.
+const FEW_SUMMANDS: usize = 8;
+
 /// The greatest absolute value of a term's constant.
 pub const MAX_CONSTANT: i128 = 1 << 84;
 
@@ -205,7 +208,41 @@ impl Term {
                 return Term::add_multiples(alloc, *first, left, *second, right);
             }
         }
+        if parts.len() <= FEW_SUMMANDS {
+            match Term::combine_in_turn(alloc, parts, constant) {
+                Err(LinError::Wide) => {}
+                other => return other,
+            }
+        }
         Term::combine_by_column(alloc, parts, constant)
+    }
+
+    /// The same, one after the other from the last one on. It may be too wide on the way.
+    #[cycle(combine_in_turn)]
+    fn combine_in_turn(
+        alloc: Global,
+        parts: &[(i64, Term)],
+        constant: i64,
+    ) -> Result<Term, LinError>
+        ensures value { IfOk result (λ t. t ≡ combination parts.now constant) }
+        ensures kept { IfOk result (λ t. IsTrue (is_term t)) }
+    {
+        let Some((summand, rest)) = parts.split_first() else {
+            return Ok(Term::new(Parts::from_vec(Vec::new(alloc)), i128::from(constant)));
+        };
+        let (multiplier, term) = summand;
+        if !is_multiplier(*multiplier) {
+            return Err(LinError::Wide);
+        }
+        let sum = Term::combine_in_turn(alloc, rest, constant)?;
+        Term::both(
+            alloc,
+            i128::from(*multiplier),
+            term,
+            1,
+            sum.parts(),
+            sum.constant(),
+        )
     }
 
     /// The same, by the exact sum at each column.
