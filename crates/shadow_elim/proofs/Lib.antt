@@ -38,3 +38,4 @@ pub mod PlainRows
 pub mod FittingSums
 pub mod Growing
 pub mod TooMany
+pub mod Reading
