@@ -12,6 +12,7 @@ use Rattle.linear_formula.specs.declared.formula.Atom.{Atom}
 use Rattle.linear_formula.specs.declared.question.Question.TheVariants as question
 use Rattle.linear_formula.proofs.Limits.{IsTerm-from_test, test-from_Within}
 use Rattle.infeasible_cert.specs.declared.certificate.Certificate.{Certificate}
+use Rattle.linear_formula.proofs.JoinedRows.{holds_both, holds_parts}
 use Rattle.infeasible_cert.specs.Refutation.{refutation_of}
 use Rattle.infeasible_cert.specs.Right.{Refutes, with_columns, columns_of, rows_of}
 use Rattle.infeasible_cert.specs.Terms.{HasTerms}
@@ -23,16 +24,6 @@ use Rattle.lia_solver.specs.Entailment.{RefuteEach}
 use Rattle.lia_solver.specs.steps.Asked.{IsNegation}
 
 -- The atoms that hold
-
-holds-append : (v : Valuation) (xs ys : List Atom) → HoldsAll v xs → HoldsAll v ys → HoldsAll v (xs ++ ys)
-holds-append v [] ys h k = k
-holds-append v (x ∷ xs) ys h k = (h.0, holds-append v xs ys h.1 k)
-
-append-holds : (v : Valuation) (xs ys : List Atom) → HoldsAll v (xs ++ ys) → HoldsAll v xs × HoldsAll v ys
-append-holds v [] ys h = (tt, h)
-append-holds v (x ∷ xs) ys h =
-    let r = append-holds v xs ys h.1 in
-    ((h.0, r.0), r.1)
 
 pub holds-at : (v : Valuation) (atoms : List Atom) (k : ℕ) (d : Atom) → k < length atoms → HoldsAll v atoms → Holds v (get_or atoms k d)
 holds-at v [] k d l h = absurd (omega (arith, l))
@@ -91,12 +82,12 @@ follows left asked atom other e law never v w h = by_case (holds_or_not v atom) 
   by_case : Holds v atom ⊎ (¬ Holds v atom) → Holds v atom
   by_case (inl k) = k
   by_case (inr n) =
-      absurd (never v w (subst (HoldsAll v) (sym e) (holds-append v left (other ∷ []) h ((law v).1 n, tt))))
+      absurd (never v w (subst (HoldsAll v) (sym e) (holds_both v left (other ∷ []) h ((law v).1 n, tt))))
 
 pub fails : (left asked : List Atom) (atom other : Atom) (v : Valuation) → asked ≡ left ++ other ∷ [] → (Holds v other ↔ (¬ Holds v atom)) →
     HoldsAll v asked → HoldsAll v left × (¬ Holds v atom)
 fails left asked atom other v e law h =
-    let r = append-holds v left (other ∷ []) (subst (HoldsAll v) e h) in
+    let r = holds_parts v left (other ∷ []) (subst (HoldsAll v) e h) in
     (r.0, law.0 r.1.0)
 
 -- One atom after the other
@@ -129,7 +120,7 @@ so-far-more left items k cs more atom c s l e em h r terms f =
       entailed = subst (IsShownToEntail left) (sym front) (entailed-more left (take k items) atom s.entailed h);
       refuted = subst (λ (as_ : List Atom). RefuteEach left as_ more) (sym front) (subst (RefuteEach left (take k items ++ atom ∷ []))
           (sym em) (refuted-more left (take k items) cs atom c s.refuted h.0 r));
-      met = λ v w m. subst (HoldsAll v) (sym front) (holds-append v (take k items) (atom ∷ []) (s.met v w m) (f v w m, tt));
+      met = λ v w m. subst (HoldsAll v) (sym front) (holds_both v (take k items) (atom ∷ []) (s.met v w m) (f v w m, tt));
       terms = subst (All (λ d. HasTerms (refutation_of d))) (sym em) (All-push (λ d. HasTerms (refutation_of d)) cs c s.terms terms);
     }
 

@@ -1,8 +1,10 @@
 -- What becomes of the rows of a table when one is put into it.
 use Rattle.std.proofs.Common.{◌≡◌, ◌⊎◌, inl, inr, ℕ, ◌<◌, ◌+◌, ◌*◌, ◌^◌, List, [], ◌∷◌, ◌++◌, length, take, get_or, ℤ, arith, refl, sym, ap, subst, ◌∙◌}
-use Rattle.std.specs.Prelude.{IsTrue, Contains}
+use Rattle.std.specs.Prelude.{IsTrue, Contains, flat_map}
 use Rattle.std.proofs.lemmas.Int.{ints}
-use Rattle.std.proofs.lemmas.List.{append_assoc, length-map, length-take, map-append, take_more}
+use Rattle.std.proofs.lemmas.Grind.{flat_map-append}
+use Rattle.std.proofs.lemmas.List.{append-nil, append_assoc, length-append, length-map, length-take, map-append, take_more}
+use Rattle.std.proofs.lemmas.List.Folds.{length-flat_map-take}
 use Rattle.linear_formula.specs.LinearSum.{LinearSum, is_term}
 use Rattle.linear_formula.specs.declared.formula.Atom.{Atom}
 use Rattle.infeasible_cert.specs.Right.{rows_of, upper_range, lower_range, range_rows}
@@ -19,7 +21,7 @@ use Rattle.lia_solver.specs.steps.Gathered.{IsSpanned, IsGivenIn, AreGathered, A
 use Rattle.lia_solver.specs.steps.Numbers.{numbered_from}
 use Rattle.lia_solver.specs.steps.Tables.{IsPut}
 use Rattle.lia_solver.proofs.Adding.{IsStep, added-step, row-same}
-use Rattle.lia_solver.proofs.Branching.{terms-append}
+use Rattle.lia_solver.proofs.Branching.{rows-append, terms-append}
 use Rattle.lia_solver.proofs.Growing.{step-rows}
 use Rattle.lia_solver.proofs.Ranges.{all-from}
 
@@ -136,10 +138,11 @@ pub put-one : (t : LinearSum) (n : ℕ) (old new : List Entry) → IsPut t (Give
     ArePut (numbered_row t n ∷ []) old new
 put-one t n old new h term = λ rows g. gathered-put rows t n old new g h term
 
-numbered-push : (n : ℕ) (ts : List LinearSum) (t : LinearSum) (m : ℕ) → m ≡ n + length ts → numbered_from n (ts ++ t ∷ [])
-    ≡ numbered_from n ts ++ numbered_row t m ∷ []
-numbered-push n [] t m e = ap (λ (k : ℕ). numbered_row t k ∷ []) (omega (arith, e))
-numbered-push n (s ∷ ts) t m e = ap (λ (rs : List Row). numbered_row s n ∷ rs) (numbered-push (n + 1) ts t m (omega (arith, e)))
+numbered-joined : (n : ℕ) (ts us : List LinearSum) (m : ℕ) → m ≡ n + length ts → numbered_from n (ts ++ us)
+    ≡ numbered_from n ts ++ numbered_from m us
+numbered-joined n [] us m e = ap (λ (k : ℕ). numbered_from k us) (omega (arith, e))
+numbered-joined n (t ∷ ts) us m e =
+    ap (λ (rs : List Row). numbered_row t n ∷ rs) (numbered-joined (n + 1) ts us m (omega (arith, e)))
 
 pub put-atoms : (atoms : List Atom) (first i number : ℕ) (atom : Atom) (old mid new : List Entry) → i < length atoms →
     atom ≡ get_or atoms i atom → number ≡ first + i → ArePut (numbered_from first (rows_of (take i atoms))) old mid →
@@ -157,7 +160,7 @@ put-atoms atoms first i number atom old mid new h e m a p term =
 
       whole : numbered_from first (rows_of (take (i + 1) atoms))
           ≡ numbered_from first (rows_of (take i atoms)) ++ numbered_row atom.term number ∷ []
-      whole = ap (numbered_from first) taken ∙ numbered-push first (rows_of (take i atoms)) atom.term number count
+      whole = ap (numbered_from first) taken ∙ numbered-joined first (rows_of (take i atoms)) (atom.term ∷ []) number count
 
 -- a row in the code's words
 pub put-cast : (t : LinearSum) (ps : List (ℕ × ℤ)) (c d : ℤ) (o : Origin) (old new : List Entry) → ps ≡ t.parts → d ≡ t.constant →
@@ -166,11 +169,6 @@ put-cast t ps c d o old new e f g p =
     subst (λ (s : LinearSum). IsPut s o old new) (row-same (record { parts = ps; constant = c }) t e (g ∙ f)) p
 
 -- Rows of ranges
-
-numbered-two : (n : ℕ) (ts : List LinearSum) (s t : LinearSum) (m : ℕ) → m ≡ n + length ts → numbered_from n (ts ++ s ∷ t ∷ [])
-    ≡ numbered_from n ts ++ numbered_row s m ∷ numbered_row t (m + 1) ∷ []
-numbered-two n [] s t m e = ap (λ (k : ℕ). numbered_row s k ∷ numbered_row t (k + 1) ∷ []) (omega (arith, e))
-numbered-two n (r ∷ ts) s t m e = ap (λ (rs : List Row). numbered_row r n ∷ rs) (numbered-two (n + 1) ts s t m (omega (arith, e)))
 
 pub put-ranges : (columns : List ℕ) (first i number next x : ℕ) (old mid half new : List Entry) → i < length columns →
     get_or columns i 0 ≡ x → number ≡ first + 2 * i → next ≡ number + 1 →
@@ -198,23 +196,64 @@ put-ranges columns first i number next x old mid half new h e m k a p q small =
       whole : numbered_from first (range_rows (take (i + 1) columns)) ≡ numbered_from first (range_rows (take i columns))
           ++ numbered_row (upper_range x) number ∷ numbered_row (lower_range x) next ∷ []
       whole = ap (numbered_from first) taken
-          ∙ numbered-two first (range_rows (take i columns)) (upper_range x) (lower_range x) number count
+          ∙ numbered-joined first (range_rows (take i columns)) (upper_range x ∷ lower_range x ∷ []) number count
           ∙ ap (λ (j : ℕ). numbered_from first (range_rows (take i columns)) ++ numbered_row (upper_range x) number
           ∷ numbered_row (lower_range x) j ∷ []) (sym k)
 
+-- Rows of blocks
+
+-- rows behind those that have the first numbers
+pub put-behind : (first second : List Atom) (next : ℕ) (old mid new : List Entry) → next ≡ length first →
+    ArePut (numbered_from 0 (rows_of first)) old mid → ArePut (numbered_from next (rows_of second)) mid new →
+    ArePut (numbered_from 0 (rows_of (first ++ second))) old new
+put-behind first second next old mid new e h k =
+    subst (λ (rs : List Row). ArePut rs old new) (sym whole)
+    (put-then (numbered_from 0 (rows_of first)) (numbered_from next (rows_of second)) old mid new h k) where
+      whole : numbered_from 0 (rows_of (first ++ second)) ≡ numbered_from 0 (rows_of first) ++ numbered_from next (rows_of second)
+      whole = ap (numbered_from 0) (rows-append first second) ∙ numbered-joined 0 (rows_of first) (rows_of second) next
+          (omega (arith, e, length-map first (λ (a : Atom). a.term)))
+
+block-taken : (blocks : List (List Atom)) (i : ℕ) (atoms block : List Atom) → i < length blocks → block ≡ get_or blocks i block →
+    atoms ≡ block → flat_map (λ b. b) (take (i + 1) blocks) ≡ flat_map (λ b. b) (take i blocks) ++ atoms
+block-taken blocks i atoms block h e ea =
+    ap (λ (bs : List (List Atom)). flat_map (λ b. b) bs) (take_more blocks i block h)
+    ∙ flat_map-append (λ (b : List Atom). b) (take i blocks) (get_or blocks i block ∷ [])
+    ∙ ap (λ (as_ : List Atom). flat_map (λ b. b) (take i blocks) ++ as_) (append-nil (get_or blocks i block) ∙ sym (ea ∙ e))
+
+pub block-fits : (blocks : List (List Atom)) (i next : ℕ) (atoms block : List Atom) → i < length blocks → block ≡ get_or blocks i block →
+    atoms ≡ block → next ≡ length (flat_map (λ b. b) (take i blocks)) → length (flat_map (λ b. b) blocks) < 2 ^ 32 →
+    next + length atoms < 2 ^ 32
+block-fits blocks i next atoms block h e ea en small =
+    omega (arith, ap length (ea ∙ e), en, small, length-flat_map-take (λ (b : List Atom). b) blocks i block h)
+
+pub block-count : (blocks : List (List Atom)) (i next : ℕ) (atoms block : List Atom) → i < length blocks → block ≡ get_or blocks i block →
+    atoms ≡ block → next ≡ length (flat_map (λ b. b) (take i blocks)) → next + length atoms
+    ≡ length (flat_map (λ b. b) (take (i + 1) blocks))
+block-count blocks i next atoms block h e ea en =
+    omega (arith, en, ap length (block-taken blocks i atoms block h e ea), length-append (flat_map (λ b. b) (take i blocks)) atoms)
+
+pub put-block : (blocks : List (List Atom)) (i next : ℕ) (atoms block : List Atom) (old mid new : List Entry) → i < length blocks →
+    block ≡ get_or blocks i block → atoms ≡ block → next ≡ length (flat_map (λ b. b) (take i blocks)) →
+    ArePut (numbered_from 0 (rows_of (flat_map (λ b. b) (take i blocks)))) old mid → ArePut (numbered_from next (rows_of atoms)) mid new →
+    ArePut (numbered_from 0 (rows_of (flat_map (λ b. b) (take (i + 1) blocks)))) old new
+put-block blocks i next atoms block old mid new h e ea en p q =
+    subst (λ (as_ : List Atom). ArePut (numbered_from 0 (rows_of as_)) old new) (sym (block-taken blocks i atoms block h e ea))
+    (put-behind (flat_map (λ b. b) (take i blocks)) atoms next old mid new en p q)
+
 -- A branch
 
-pub gathered-all : (question splits : List Atom) (columns : List ℕ) (none first mid new : List Entry) → none ≡ [] →
-    ArePut (numbered_from 0 (rows_of question)) none first →
-    ArePut (numbered_from (length question + 2 * length columns) (rows_of splits)) first mid →
-    ArePut (numbered_from (length question) (range_rows columns)) mid new → AreGathered (numbered_rows question splits columns) new
-gathered-all question splits columns none first mid new e h k m =
-    put-then nq (ns ++ nr) none first new h (put-then ns nr first mid new k m) [] (subst (AreGathered []) (sym e) gathered-none) where
+pub gathered-all : (question splits : List Atom) (columns : List ℕ) (count : ℕ) (none first mid new : List Entry) → none ≡ [] →
+    count ≡ length question → ArePut (numbered_from 0 (rows_of question)) none first →
+    ArePut (numbered_from (count + 2 * length columns) (rows_of splits)) first mid →
+    ArePut (numbered_from count (range_rows columns)) mid new → AreGathered (numbered_rows question splits columns) new
+gathered-all question splits columns count none first mid new e n h k m =
+    subst (λ (i : ℕ). AreGathered (nq ++ (ns i ++ nr i)) new) n (put-then nq (ns count ++ nr count) none first new h
+    (put-then (ns count) (nr count) first mid new k m) [] (subst (AreGathered []) (sym e) gathered-none)) where
       nq : List Row
       nq = numbered_from 0 (rows_of question)
 
-      ns : List Row
-      ns = numbered_from (length question + 2 * length columns) (rows_of splits)
+      ns : ℕ → List Row
+      ns i = numbered_from (i + 2 * length columns) (rows_of splits)
 
-      nr : List Row
-      nr = numbered_from (length question) (range_rows columns)
+      nr : ℕ → List Row
+      nr i = numbered_from i (range_rows columns)

@@ -40,10 +40,10 @@ all-taken n atoms e =
     let none : drop n atoms ≡ [] = ap (λ k. drop k atoms) e ∙ drop-length atoms in
     (sym (append-nil (take n atoms)) ∙ ap (λ as_. take n atoms ++ as_) (sym none) ∙ take-append-drop n atoms, none)
 
-pub searched-whole : (atoms copied : List Atom) (n depth : ℕ) (splits more : List Cube) (s : Searched) → copied ≡ atoms → n ≡ length atoms →
-    splits ≡ [] → IsSearched (take n copied) (drop n copied) depth more (search depth splits copied) s → IsSearched atoms [] depth more
-    (search depth [] atoms) s
-searched-whole atoms copied n depth splits more s ec en es h =
+pub searched-whole : (atoms copied : List Atom) (n depth : ℕ) (splits first more : List Cube) (s : Searched) → copied ≡ atoms →
+    n ≡ length atoms → splits ≡ first → IsSearched (take n copied) (drop n copied) depth more (search depth splits copied) s →
+    IsSearched atoms [] depth more (search depth first atoms) s
+searched-whole atoms copied n depth splits first more s ec en es h =
     let whole = all-taken n copied (en ∙ ap length (sym ec)) in
     subst (λ (ps : List Cube). IsSearched atoms [] depth more (search depth ps atoms) s) es
     (subst (λ (as_ : List Atom). IsSearched as_ [] depth more (search depth splits as_) s) ec

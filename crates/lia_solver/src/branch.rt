@@ -2,6 +2,7 @@
 
 ghost use Rattle.std.specs.Prelude.{◌≡◌, ◌++◌, IfOk, IsTrue};
 ghost use Rattle.linear_formula.specs.Formula.{are_terms};
+ghost use Rattle.linear_formula.specs.Rows.{all_rows};
 ghost use Rattle.infeasible_cert.specs.Right.{columns_of, rows_of};
 ghost use Rattle.shadow_elim.specs.Plan.{outcome_of};
 ghost use Rattle.lia_solver.specs.steps.Branches.{planned, IsRightOutcome, IsBranch};
@@ -17,6 +18,7 @@ use infeasible_cert::certificate::Derived;
 use linear_formula::assignment::Assignment;
 use linear_formula::error::OutOfMemory;
 use linear_formula::formula::Atom;
+use linear_formula::joined::Rows;
 use std::alloc::{AllocError, Global};
 
 #[derive(Drop)]
@@ -34,18 +36,19 @@ pub fn solve_branch(
     alloc: Global,
     work: &mut Work,
     table: &mut Table,
-    question: &[Atom],
+    question: &Rows,
     splits: &[Atom],
     columns: &[u32],
 ) -> Result<BranchOutcome, OutOfMemory>
-    requires columns { columns.now ≡ columns_of (rows_of question.now) }
-    requires branch { IsBranch question.now splits.now }
-    requires terms { IsTrue (are_terms (question.now ++ splits.now)) }
-    ensures plan { IfOk result (λ o. outcome_of (question.now ++ splits.now) ≡ planned o) }
-    ensures right { IfOk result (λ o. IsRightOutcome question.now splits.now o) }
+    requires columns { columns.now ≡ columns_of (rows_of (all_rows question.now)) }
+    requires branch { IsBranch (all_rows question.now) splits.now }
+    requires terms { IsTrue (are_terms (all_rows question.now ++ splits.now)) }
+    ensures plan { IfOk result
+        (λ o. outcome_of (all_rows question.now ++ splits.now) ≡ planned o) }
+    ensures right { IfOk result (λ o. IsRightOutcome (all_rows question.now) splits.now o) }
     ensures terms { IfOk result (λ o. AreOutcomeTerms o) }
 {
-    let count = question.len() + 2 * columns.len() + splits.len();
+    let count = question.count()? as usize + 2 * columns.len() + splits.len();
     let Ok(first) = u32::try_from(count) else {
         return Err(AllocError);
     };

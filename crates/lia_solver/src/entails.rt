@@ -21,6 +21,7 @@ use infeasible_cert::certificate::Certificate;
 use linear_formula::assignment::Assignment;
 use linear_formula::error::OutOfMemory;
 use linear_formula::formula::{Atom, Atoms, Cube};
+use linear_formula::joined::Rows;
 use linear_formula::question::{Question, Summands};
 use shadow_elim::limit::{Kept, Limit};
 use std::alloc::Global;
@@ -44,7 +45,7 @@ enum Answer {
 fn left_of(alloc: Global, cube: &Cube) -> Result<Left, OutOfMemory>
     ensures { IfOk result (λ left. IsLeft cube.now.atoms left) }
 {
-    let columns = columns_of(alloc, cube.atoms.as_slice())?;
+    let columns = columns_of(alloc, &Rows::of(cube))?;
     Ok(Left {
         cube: cube.copy(alloc)?,
         simple: is_simple(cube.atoms.as_slice(), &columns),
@@ -91,7 +92,8 @@ fn search(alloc: Global, left: Left, negation: Atom) -> Result<Answer, OutOfMemo
     } = left;
     let all = with_columns(alloc, &columns, negation.term.parts())?;
     cube.atoms.push(negation)?;
-    match solve_along(alloc, &cube, all)? {
+    let rows = Rows::of(&cube);
+    match solve_along(alloc, &rows, all)? {
         Solved::Never(certificate) => {
             let left = Left {
                 cube: without_last(cube),

@@ -22,3 +22,5 @@ pub mod solve;
 pub mod solved;
 mod table;
 mod two_columns;
+
+pub use solve::solve_rows;

@@ -1,6 +1,8 @@
 //! The search of branches.
 
-ghost use Rattle.std.specs.Prelude.{◌≡◌, [], ◌<ℤ◌, pos, take, drop, Contains, IfOk};
+ghost use Rattle.std.specs.Prelude.{◌≡◌, [], ◌<ℤ◌, pos, take, drop, length, Contains, IfOk, IsTrue};
+ghost use Rattle.linear_formula.specs.Formula.{are_terms};
+ghost use Rattle.linear_formula.specs.Rows.{all_rows};
 ghost use Rattle.shadow_elim.specs.Points.{split};
 ghost use Rattle.shadow_elim.specs.Plan.{search, with_row, outcome_of};
 ghost use Rattle.lia_solver.specs.steps.Branches.{planned, IsRightOutcome, IsSearched};
@@ -16,6 +18,7 @@ use crate::table::Table;
 use infeasible_cert::certificate::Certificate;
 use linear_formula::error::OutOfMemory;
 use linear_formula::formula::{Atom, Cube};
+use linear_formula::joined::Rows;
 use linear_formula::question::Question;
 use linear_formula::term::Term;
 use shadow_elim::limit::{Cubes, Limit, MAX_SPLITS};
@@ -78,37 +81,65 @@ impl Search {
         ensures splits { self.new.splits.items ≡ self.old.splits.items }
     {
         let (question, splits) = cube.atoms.as_slice().split_at(self.atoms);
+        let question = Rows {
+            blocks: &[],
+            own: question,
+        };
         solve_branch(
             self.alloc,
             &mut self.work,
             &mut self.table,
-            question,
+            &question,
             splits,
             &self.columns,
         )
     }
 
+    /// The same of the whole question, where its rows lie.
+    #[inline(always)]
+    fn first_outcome(&mut self, rows: &Rows) -> Result<BranchOutcome, OutOfMemory>
+        requires branch { IsSearchable self.old (all_rows rows.now) }
+        requires whole { self.old.atoms ≡ length (all_rows rows.now) }
+        requires terms { IsTrue (are_terms (all_rows rows.now)) }
+        ensures plan { IfOk result (λ o. outcome_of (all_rows rows.now) ≡ planned o) }
+        ensures right { IfOk result (λ o. IsRightOutcome (all_rows rows.now) [] o) }
+        ensures terms { IfOk result (λ o. AreOutcomeTerms o) }
+        ensures atoms { self.new.atoms ≡ self.old.atoms }
+        ensures columns { self.new.columns.items ≡ self.old.columns.items }
+        ensures splits { self.new.splits.items ≡ self.old.splits.items }
+    {
+        solve_branch(
+            self.alloc,
+            &mut self.work,
+            &mut self.table,
+            rows,
+            &[],
+            &self.columns,
+        )
+    }
+
     /// Searches the whole question. It is copied only where it is split or kept with a limit.
-    pub fn question(&mut self, cube: &Cube) -> Result<Searched, OutOfMemory>
-        requires { IsSearchable self.old cube.now.atoms }
+    pub fn question(&mut self, rows: &Rows) -> Result<Searched, OutOfMemory>
+        requires branch { IsSearchable self.old (all_rows rows.now) }
+        requires whole { self.old.atoms ≡ length (all_rows rows.now) }
+        requires terms { IsTrue (are_terms (all_rows rows.now)) }
         ensures searched { IfOk result
-            (λ s. IsSearched (take self.old.atoms cube.now.atoms)
-            (drop self.old.atoms cube.now.atoms) MAX_SPLITS self.new.splits.items
-            (search MAX_SPLITS self.old.splits.items cube.now.atoms) s) }
+            (λ s. IsSearched (all_rows rows.now) [] MAX_SPLITS self.new.splits.items
+            (search MAX_SPLITS self.old.splits.items (all_rows rows.now)) s) }
         ensures terms { IfOk result (λ s. AreSearchedTerms s) }
         ensures answered { IfOk result (λ s. IsAnswered s) }
     {
-        match self.outcome(cube)? {
+        match self.first_outcome(rows)? {
             BranchOutcome::Point(at) => Ok(Searched::Answer(Solved::Point(at))),
             BranchOutcome::Refuted(rows) => Ok(Searched::Nothing(Certificate::Close(rows))),
             BranchOutcome::Wide => Ok(limited(Limit::Wide {
-                branch: Question::Cube(cube.copy(self.alloc)?),
+                branch: Question::Cube(rows.to_cube(self.alloc)?),
             })),
             BranchOutcome::Rows => Ok(limited(Limit::Rows {
-                branch: cube.copy(self.alloc)?,
+                branch: rows.to_cube(self.alloc)?,
             })),
             BranchOutcome::Split { column, at } => {
-                let cube = cube.copy(self.alloc)?;
+                let cube = rows.to_cube(self.alloc)?;
                 self.split(cube, MAX_SPLITS, column, at)
             }
         }

@@ -1,6 +1,7 @@
 use Rattle.std.proofs.Common.{◌≡◌, ◌∙◌, ◌++◌, length, FitsSigned, w64, to_z-of_z, arith, rules, sym, ap, subst}
 use Rattle.linear_formula.specs.LinearSum.{valuation}
 use Rattle.linear_formula.specs.Formula.{HoldsAll}
+use Rattle.linear_formula.specs.Rows.{all_rows}
 use Rattle.linear_formula.proofs.TermAtoms.{are_terms-parts}
 use Rattle.shadow_elim.specs.Points.{chosen, split}
 use Rattle.lia_solver.specs.steps.Branches.{branch_rows}
@@ -9,14 +10,14 @@ use Rattle.lia_solver.proofs.BranchTable.{IsAsked, IsTabled, tabled-are_ready, t
 use Rattle.lia_solver.proofs.branch.solve_branch.Goals as goal
 
 pub gather-requires-clause-question : goal.gather-requires-clause-question
-gather-requires-clause-question c = (are_terms-parts c.args.question.now c.args.splits.now c.requires.terms).0
+gather-requires-clause-question c = (are_terms-parts (all_rows c.args.question.now) c.args.splits.now c.requires.terms).0
 
 pub gather-requires-clause-splits : goal.gather-requires-clause-splits
-gather-requires-clause-splits c = (are_terms-parts c.args.question.now c.args.splits.now c.requires.terms).1
+gather-requires-clause-splits c = (are_terms-parts (all_rows c.args.question.now) c.args.splits.now c.requires.terms).1
 
 pub returns-then-not-is_narrow-clause-plan : goal.returns-then-not-is_narrow-clause-plan
 returns-then-not-is_narrow-clause-plan c =
-    let question = c.args.question.now in
+    let question = all_rows c.args.question.now in
     let splits = c.args.splits.now in
     let columns = c.args.columns.now in
     let table = c.gather.new.table in
@@ -30,7 +31,7 @@ returns-then-not-is_narrow-clause-plan c =
 
 pub solve_columns-requires : goal.solve_columns-requires
 solve_columns-requires c =
-    let question = c.args.question.now in
+    let question = all_rows c.args.question.now in
     let splits = c.args.splits.now in
     let columns = c.args.columns.now in
     let table = c.gather.new.table in
@@ -44,7 +45,7 @@ solve_columns-requires c =
 
 pub new-requires : goal.new-requires
 new-requires c =
-    let question = c.args.question.now in
+    let question = all_rows c.args.question.now in
     let splits = c.args.splits.now in
     let columns = c.args.columns.now in
     let table = c.gather.new.table in
@@ -61,7 +62,7 @@ new-requires c =
 
 pub derived_contradiction-requires-clause-founded : goal.derived_contradiction-requires-clause-founded
 derived_contradiction-requires-clause-founded c =
-    let question = c.args.question.now in
+    let question = all_rows c.args.question.now in
     let splits = c.args.splits.now in
     let columns = c.args.columns.now in
     let table = c.gather.new.table in
@@ -82,7 +83,7 @@ derived_contradiction-requires-clause-founded c =
 
 pub returns-in-Values-clause-plan : goal.returns-in-Values-clause-plan
 returns-in-Values-clause-plan c =
-    let question = c.args.question.now in
+    let question = all_rows c.args.question.now in
     let splits = c.args.splits.now in
     let columns = c.args.columns.now in
     let table = c.gather.new.table in
@@ -99,7 +100,7 @@ returns-in-Values-clause-plan c =
 
 pub returns-in-Values-clause-right : goal.returns-in-Values-clause-right
 returns-in-Values-clause-right c =
-    let question = c.args.question.now in
+    let question = all_rows c.args.question.now in
     let splits = c.args.splits.now in
     let columns = c.args.columns.now in
     let table = c.gather.new.table in
@@ -117,7 +118,7 @@ returns-in-Values-clause-right c =
 
 pub returns-in-Split-clause-plan : goal.returns-in-Split-clause-plan
 returns-in-Split-clause-plan c =
-    let question = c.args.question.now in
+    let question = all_rows c.args.question.now in
     let splits = c.args.splits.now in
     let columns = c.args.columns.now in
     let table = c.gather.new.table in
@@ -135,7 +136,7 @@ returns-in-Split-clause-plan c =
 
 pub returns-in_ok-steps-in-Contradiction-clause-plan : goal.returns-in_ok-steps-in-Contradiction-clause-plan
 returns-in_ok-steps-in-Contradiction-clause-plan c =
-    let question = c.args.question.now in
+    let question = all_rows c.args.question.now in
     let splits = c.args.splits.now in
     let columns = c.args.columns.now in
     let table = c.gather.new.table in
@@ -152,7 +153,7 @@ returns-in_ok-steps-in-Contradiction-clause-plan c =
 
 pub returns-in_ok-steps-in-Contradiction-clause-right : goal.returns-in_ok-steps-in-Contradiction-clause-right
 returns-in_ok-steps-in-Contradiction-clause-right c =
-    let question = c.args.question.now in
+    let question = all_rows c.args.question.now in
     let splits = c.args.splits.now in
     let columns = c.args.columns.now in
     let table = c.gather.new.table in
@@ -173,7 +174,7 @@ returns-in_ok-steps-in-Contradiction-clause-right c =
 
 pub returns-in-Wide-clause-plan : goal.returns-in-Wide-clause-plan
 returns-in-Wide-clause-plan c =
-    let question = c.args.question.now in
+    let question = all_rows c.args.question.now in
     let splits = c.args.splits.now in
     let columns = c.args.columns.now in
     let table = c.gather.new.table in
@@ -190,7 +191,7 @@ returns-in-Wide-clause-plan c =
 
 pub returns-in-Rows-clause-plan : goal.returns-in-Rows-clause-plan
 returns-in-Rows-clause-plan c =
-    let question = c.args.question.now in
+    let question = all_rows c.args.question.now in
     let splits = c.args.splits.now in
     let columns = c.args.columns.now in
     let table = c.gather.new.table in
