@@ -20,7 +20,7 @@ use Rattle.may_partition.proofs.Splitting.{or_left, or_right}
 clash : true ≡ false → ⊥
 clash h = cc
 
-and_false : (b : Bool) → (b && false) ≡ false
+pub and_false : (b : Bool) → (b && false) ≡ false
 and_false true = refl
 and_false false = refl
 

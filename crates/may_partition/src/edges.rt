@@ -1,13 +1,14 @@
 //! Edges by their regions.
 
-ghost use Rattle.std.specs.Prelude.{ℕ, ◌≡◌, ◌<◌, ◌≤◌, ◌+◌, ◌==◌, ◌&&◌, ◌||◌, [], false, map, not, length, take, IfOk, IsTrue, OnErr, OnOk};
+ghost use Rattle.std.specs.Prelude.{ℕ, ◌≡◌, ◌<◌, ◌≤◌, ◌+◌, ◌++◌, ◌==◌, ◌&&◌, ◌||◌, [], false, map, not, length, take, IfOk, IsTrue, OnErr, OnOk};
 ghost use Rattle.std.specs.List.{filter};
 ghost use Rattle.may_partition.specs.declared.region.RegionEdge.{RegionEdge as AnEdge};
 ghost use Rattle.may_partition.specs.Parted.{has_regions, same_edge};
 ghost use Rattle.may_partition.specs.Shown.{IsAscending, have_regions, is_live};
+ghost use Rattle.may_partition.specs.steps.Grouped.{kept_within};
 ghost use Rattle.may_partition.specs.steps.Listed.{KeepsWithin};
 
-use crate::edge_list::EdgeList;
+use crate::ends::{Ends, RegionEdges, Side};
 use crate::region::RegionEdge;
 use linear_formula::error::OutOfMemory;
 use std::alloc::Global;
@@ -17,32 +18,45 @@ use std::marker::Model;
 /// to. A contract sees how many regions there are, and the edges.
 #[derive(Drop)]
 pub struct Edges {
-    leaving: Vec<EdgeList>,
-    entering: Vec<EdgeList>,
+    leaving: Vec<Ends>,
+    entering: Vec<Ends>,
 }
 
 impl Model for Edges {
     ghost use Rattle.std.specs.Prelude.{length};
+    ghost use Rattle.may_partition.specs.declared.ends.Side.TheVariants.{Leaving, Entering};
+    ghost use Rattle.may_partition.specs.steps.Grouped.{lists_from};
     ghost use Rattle.may_partition.specs.steps.Listed.{AreListed, Sides, joined};
 
     ghost Value = { Sides };
 
     ghost view = { λ s. record {
       count = length s.leaving.items;
-      edges = joined s.leaving.items;
+      edges = joined (lists_from Leaving 0 s.leaving.items);
     } };
 
-    ghost invariant = { λ s. AreListed s.leaving.items s.entering.items };
+    ghost invariant = { λ s. AreListed (lists_from Leaving 0 s.leaving.items)
+        (lists_from Entering 0 s.entering.items) };
 }
 
-/// Keeps the first lists, and in them the edges whose two regions are among the first ones.
-fn keep_first(lists: &mut Vec<EdgeList>, regions: u32)
-    ensures { lists.new.items ≡ map (filter (has_regions regions)) (take regions lists.old.items) }
+/// Keeps the first lists, and in them the edges whose other regions are among the first ones.
+fn keep_first(lists: &mut Vec<Ends>, regions: u32)
+    ensures { lists.new.items ≡ map (map (kept_within regions)) (take regions lists.old.items) }
 {
     lists.truncate(regions as usize);
     for place in 0..lists.len() {
         lists[place].keep_within(regions);
     }
+}
+
+/// Adds the edges behind the others.
+fn push_all(edges: &mut Vec<RegionEdge>, more: RegionEdges<'_>) -> Result<(), OutOfMemory>
+    ensures { OnOk result (edges.new.items ≡ edges.old.items ++ more.entry) }
+{
+    for edge in more {
+        edges.push(edge)?;
+    }
+    Ok(())
 }
 
 impl Edges {
@@ -73,8 +87,8 @@ impl Edges {
         ensures same_count { OnErr result (self.new.count ≡ self.old.count) }
         ensures edges { self.new.edges ≡ self.old.edges }
     {
-        self.entering.push(EdgeList::new(alloc))?;
-        self.leaving.push(EdgeList::new(alloc))?;
+        self.entering.push(Ends::new(alloc))?;
+        self.leaving.push(Ends::new(alloc))?;
         Ok(())
     }
 
@@ -92,24 +106,24 @@ impl Edges {
     }
 
     /// The edges that leave the region, by graph edge and then by the region that they lead to.
-    pub fn leaving(&self, region: u32) -> &[RegionEdge]
+    pub fn leaving(&self, region: u32) -> RegionEdges<'_>
         requires { region < self.now.count }
         ensures edges { (e : AnEdge) →
-            is_live result.now e ≡ (is_live self.now.edges e && e.from == region) }
-        ensures order { IsAscending result.now }
-        ensures within { IsTrue (have_regions self.now.count result.now) }
+            is_live result e ≡ (is_live self.now.edges e && e.from == region) }
+        ensures order { IsAscending result }
+        ensures within { IsTrue (have_regions self.now.count result) }
     {
-        self.leaving[region as usize].as_slice()
+        self.leaving[region as usize].edges(Side::Leaving(region))
     }
 
     /// The edges that lead to the region.
-    pub fn entering(&self, region: u32) -> &[RegionEdge]
+    pub fn entering(&self, region: u32) -> RegionEdges<'_>
         requires { region < self.now.count }
         ensures edges { (e : AnEdge) →
-            is_live result.now e ≡ (is_live self.now.edges e && e.to == region) }
-        ensures within { IsTrue (have_regions self.now.count result.now) }
+            is_live result e ≡ (is_live self.now.edges e && e.to == region) }
+        ensures within { IsTrue (have_regions self.now.count result) }
     {
-        self.entering[region as usize].as_slice()
+        self.entering[region as usize].edges(Side::Entering(region))
     }
 
     /// The edges at the region, in memory of their own.
@@ -119,11 +133,9 @@ impl Edges {
             ≡ (is_live self.now.edges e && (e.from == region || e.to == region))) }
         ensures within { IfOk result (λ v. IsTrue (have_regions self.now.count v.items)) }
     {
-        let leaving = self.leaving(region);
-        let entering = self.entering(region);
-        let mut edges = Vec::with_capacity(alloc, leaving.len() + entering.len())?;
-        edges.extend_from_slice(leaving)?;
-        edges.extend_from_slice(entering)?;
+        let mut edges = Vec::new(alloc);
+        push_all(&mut edges, self.leaving(region))?;
+        push_all(&mut edges, self.entering(region))?;
         Ok(edges)
     }
 
@@ -134,7 +146,7 @@ impl Edges {
         if edge.from as usize >= self.leaving.len() {
             return false;
         }
-        self.leaving[edge.from as usize].has(edge)
+        self.leaving[edge.from as usize].has(edge.edge, edge.to)
     }
 
     /// Adds the edge, unless it is there.
@@ -147,11 +159,11 @@ impl Edges {
             KeepsWithin n self.old self.new }
         ensures count { self.new.count ≡ self.old.count }
     {
-        self.entering[edge.to as usize].add(edge)?;
-        match self.leaving[edge.from as usize].add(edge) {
+        self.entering[edge.to as usize].add(edge.edge, edge.from)?;
+        match self.leaving[edge.from as usize].add(edge.edge, edge.to) {
             Ok(()) => Ok(()),
             Err(error) => {
-                self.entering[edge.to as usize].remove(edge);
+                self.entering[edge.to as usize].remove(edge.edge, edge.from);
                 Err(error)
             }
         }
@@ -165,8 +177,8 @@ impl Edges {
             ≡ (is_live self.old.edges e && not (same_edge e edge)) }
         ensures count { self.new.count ≡ self.old.count }
     {
-        self.leaving[edge.from as usize].remove(edge);
-        self.entering[edge.to as usize].remove(edge);
+        self.leaving[edge.from as usize].remove(edge.edge, edge.to);
+        self.entering[edge.to as usize].remove(edge.edge, edge.from);
     }
 
     /// Keeps the first regions, and the edges between them. Takes no memory.
