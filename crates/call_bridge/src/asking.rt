@@ -25,7 +25,7 @@ use linear_formula::formula::{Atom, Atoms, Cube};
 use linear_formula::reading::column_term;
 use shadow_elim::projection::{named_columns, project};
 use shadow_elim::shadow::{Pair, Pre};
-use shadow_elim::sum::{Sum, push_equal, push_read, total_rows};
+use shadow_elim::sum::{Sum, push_equal, push_read, read_onto, total_rows};
 use std::alloc::{AllocError, Global};
 use summary_form::query::{ExitKind, Query};
 
@@ -203,11 +203,11 @@ fn as_entries(alloc: Global, left: Pre) -> Result<Pre, BridgeError>
         ≡ refuses kept)) }
     ensures right { IfErr result (λ e. IfRefused e IsRight) }
 {
-    let mut sums = Vec::new(alloc);
-    push_read(alloc, &mut sums, &AsEntry, left.cube.atoms.as_slice())?;
-    let cube = total_rows(alloc, &sums)?;
+    let atoms = left.cube.atoms.as_slice();
+    let mut rows = Atoms::with_capacity(alloc, atoms.len())?;
+    read_onto(alloc, &mut rows, &AsEntry, atoms)?;
     Ok(Pre {
-        cube,
+        cube: Cube { atoms: rows },
         inexact: left.inexact,
     })
 }

@@ -25,7 +25,7 @@ use linear_formula::formula::{Atoms, Cube};
 use linear_formula::question::Summands;
 use linear_formula::reading::column_term;
 use linear_formula::term::Term;
-use shadow_elim::sum::{Sum, push_read, total_rows, total_term};
+use shadow_elim::sum::{Sum, read_onto, total_rows, total_term};
 use std::alloc::{AllocError, Global};
 use summary_form::numbers::MAX_NUMBER;
 use summary_form::path::Terms;
@@ -44,9 +44,9 @@ pub fn read_rows(alloc: Global, at_end: &AtEnd, cube: &Cube) -> Result<Cube, Tra
     ensures right { IfErr result (λ e. IfRefused e IsRight) }
 {
     let atoms = cube.atoms.as_slice();
-    let mut sums = Vec::with_capacity(alloc, atoms.len())?;
-    push_read(alloc, &mut sums, at_end, atoms)?;
-    total_rows(alloc, &sums)
+    let mut rows = Atoms::with_capacity(alloc, atoms.len())?;
+    read_onto(alloc, &mut rows, at_end, atoms)?;
+    Ok(Cube { atoms: rows })
 }
 
 /// The rows of a start and then of an end, with the terms at the end of a trail in the places of
@@ -73,10 +73,10 @@ pub fn read_both(
 {
     let first = start.atoms.as_slice();
     let second = end.atoms.as_slice();
-    let mut sums = Vec::with_capacity(alloc, first.len() + second.len())?;
-    push_read(alloc, &mut sums, at_end, first)?;
-    push_read(alloc, &mut sums, at_end, second)?;
-    total_rows(alloc, &sums)
+    let mut rows = Atoms::with_capacity(alloc, first.len() + second.len())?;
+    read_onto(alloc, &mut rows, at_end, first)?;
+    read_onto(alloc, &mut rows, at_end, second)?;
+    Ok(Cube { atoms: rows })
 }
 
 /// The value of an assignment at the terms of the slots.

@@ -16,13 +16,13 @@ use lia_solver::entails::entails;
 use lia_solver::solve::solve;
 use lia_solver::solved::{Entailed, Solved};
 use linear_formula::error::OutOfMemory;
-use linear_formula::formula::Cube;
+use linear_formula::formula::{Atoms, Cube};
 use linear_formula::question::Question;
 use linear_formula::reading::Reading;
 use linear_formula::term::{Parts, Term};
 use shadow_elim::limit::Kept;
 use shadow_elim::projection::ProjectionError;
-use shadow_elim::sum::{push_read, total_rows};
+use shadow_elim::sum::read_onto;
 use std::alloc::{AllocError, Global};
 use summary_form::path::Path;
 use summary_form::query::{ExitKind, Query};
@@ -85,9 +85,9 @@ fn read_rows(alloc: Global, rows: &Cube, path: &Path) -> Result<Cube, Projection
     ensures right { IfErr result (λ e. IfRefused e IsRight) }
 {
     let atoms = rows.atoms.as_slice();
-    let mut sums = Vec::with_capacity(alloc, atoms.len())?;
-    push_read(alloc, &mut sums, &PathTerms { path }, atoms)?;
-    total_rows(alloc, &sums)
+    let mut read = Atoms::with_capacity(alloc, atoms.len())?;
+    read_onto(alloc, &mut read, &PathTerms { path }, atoms)?;
+    Ok(Cube { atoms: read })
 }
 
 /// Whether the query's rows entail those of a not-may of its procedure and exit.
