@@ -1,12 +1,13 @@
 -- The nearest region behind open edges, edge by edge.
-use Rattle.std.proofs.Common.{◌≡◌, ◌≢◌, ◌⊎◌, inl, inr, ⊎_elim, ℕ, ◌+◌, ◌<◌, ◌≤◌, ◌==◌, Bool, true, false, ◌&&◌, ◌||◌, List, [], length, get_or, take, arith, refl, sym, subst, ap, ◌∙◌}
+use Rattle.std.proofs.Common.{◌≡◌, ◌≢◌, ◌⊎◌, inl, inr, ⊎_elim, ℕ, ◌≤◌, ◌==◌, Bool, true, false, ◌&&◌, ◌||◌, List, [], ◌∷◌, ◌++◌, arith, refl, sym, subst, ap, ◌∙◌}
 use Rattle.std.specs.Prelude.{IsTrue, slice_index}
 use borrow.Author.Tests.{eqb-true, eq-eqb}
-use Rattle.std.proofs.lemmas.List.Folds.{list_any_more}
 use Rattle.linear_formula.proofs.Limits.{both, both_in}
 use Rattle.may_partition.specs.declared.region.RegionEdge.{RegionEdge}
 use Rattle.may_partition.specs.Parted.{same_edge}
 use Rattle.may_partition.specs.Shown.{is_live}
+use Rattle.may_partition.proofs.ByRegion.{same_itself}
+use Rattle.may_partition.proofs.Giving.{live_given}
 use Rattle.may_partition.proofs.Kept.{same_is}
 use Rattle.may_partition.proofs.Splitting.{or_left, or_right}
 use Rattle.punch_step.specs.declared.distances.Distances.{Distances}
@@ -22,31 +23,23 @@ pub record IsNearestOf (xs shut : List RegionEdge) (far : List ℕ) (near : ℕ)
 pub nearest_none : (shut : List RegionEdge) (far : List ℕ) → IsNearestOf [] shut far 0
 nearest_none shut far = record { least = λ e l. absurd cc; met = λ z. absurd (z refl) }
 
-module _ (xs shut : List RegionEdge) (far : List ℕ) (i near : ℕ) (d : RegionEdge) (l : i < length xs)
-    (h : IsNearestOf (take i xs) shut far near) where
-  abbrev x : RegionEdge
-  x = get_or xs i d
-
-  live_more : (e : RegionEdge) → is_live (take (i + 1) xs) e ≡ (is_live (take i xs) e || same_edge x e)
-  live_more e = list_any_more (λ y. same_edge y e) xs i d l
-
-  parts : (e : RegionEdge) → IsTrue (is_live (take (i + 1) xs) e) → IsTrue (is_live (take i xs) e) ⊎ (x ≡ e)
-  parts e t = by (is_live (take i xs) e) refl (subst IsTrue (live_more e) t) where
-    by : (b : Bool) → is_live (take i xs) e ≡ b → IsTrue (is_live (take i xs) e || same_edge x e) → IsTrue (is_live (take i xs) e) ⊎ (x ≡ e)
+-- the next one
+module _ (xs shut : List RegionEdge) (far : List ℕ) (near : ℕ) (x : RegionEdge) (h : IsNearestOf xs shut far near) where
+  parts : (e : RegionEdge) → IsTrue (is_live (xs ++ x ∷ []) e) → IsTrue (is_live xs e) ⊎ (x ≡ e)
+  parts e t = by (is_live xs e) refl (subst IsTrue (live_given xs x e) t) where
+    by : (b : Bool) → is_live xs e ≡ b → IsTrue (is_live xs e || same_edge x e) → IsTrue (is_live xs e) ⊎ (x ≡ e)
     by true s u = inl s
     by false s u = inr (same_is x e (sym (ap (λ b. b || same_edge x e) s) ∙ u))
 
-  before : (e : RegionEdge) → IsTrue (is_live (take i xs) e) → IsTrue (is_live (take (i + 1) xs) e)
-  before e t = subst IsTrue (sym (live_more e)) (or_left (is_live (take i xs) e) (same_edge x e) t)
+  before : (e : RegionEdge) → IsTrue (is_live xs e) → IsTrue (is_live (xs ++ x ∷ []) e)
+  before e t = subst IsTrue (sym (live_given xs x e)) (or_left (is_live xs e) (same_edge x e) t)
 
-  here : IsTrue (is_live (take (i + 1) xs) x)
-  here = subst IsTrue (sym (live_more x)) (or_right (is_live (take i xs) x) (same_edge x x)
-      (both_in (x.edge == x.edge) (x.from == x.from && x.to == x.to) (eq-eqb x.edge x.edge refl)
-      (both_in (x.from == x.from) (x.to == x.to) (eq-eqb x.from x.from refl) (eq-eqb x.to x.to refl))))
+  here : IsTrue (is_live (xs ++ x ∷ []) x)
+  here = subst IsTrue (sym (live_given xs x x)) (or_right (is_live xs x) (same_edge x x) (same_itself x))
 
   -- the edge is nearer
   pub nearest_here : (new : ℕ) → new ≡ slice_index far x.to → new ≢ 0 → (near ≢ 0 → new ≤ near) → is_live shut x ≡ false →
-      IsNearestOf (take (i + 1) xs) shut far new
+      IsNearestOf (xs ++ x ∷ []) shut far new
   nearest_here new is some less open_x = record {
     least = λ e t o z. ⊎_elim (λ k. let w = h.least e k o z in (some, omega (arith, less w.0, w.1)))
         (λ s. (some, omega (arith, is, ap (λ (y : RegionEdge). slice_index far y.to) s))) (parts e t);
@@ -55,7 +48,7 @@ module _ (xs shut : List RegionEdge) (far : List ℕ) (i near : ℕ) (d : Region
 
   -- it isn't
   pub nearest_stays : (slice_index far x.to ≢ 0 → is_live shut x ≡ false → (near ≢ 0) × (near ≤ slice_index far x.to)) →
-      IsNearestOf (take (i + 1) xs) shut far near
+      IsNearestOf (xs ++ x ∷ []) shut far near
   nearest_stays k = record {
     least = λ e t o z. ⊎_elim (λ b. h.least e b o z)
         (λ s. subst (λ (y : RegionEdge). slice_index far y.to ≢ 0 → is_live shut y ≡ false → (near ≢ 0) × (near ≤ slice_index far y.to)) s k

@@ -1,12 +1,11 @@
 -- A search for distances, step by step.
-use Rattle.std.proofs.Common.{◌≡◌, ◌≢◌, ◌⊎◌, inl, inr, ⊎_elim, ℕ, zero, suc, ◌+◌, ◌<◌, ◌≤◌, ◌==◌, Bool, true, false, ◌&&◌, ◌||◌, replicate, get_or, take, List, [], ◌∷◌, ◌++◌, length, arith, refl, sym, subst, ap, ◌∙◌}
+use Rattle.std.proofs.Common.{◌≡◌, ◌≢◌, ◌⊎◌, inl, inr, ⊎_elim, ℕ, zero, suc, ◌+◌, ◌<◌, ◌≤◌, ◌==◌, Bool, true, false, ◌&&◌, ◌||◌, replicate, List, [], ◌∷◌, ◌++◌, length, arith, refl, sym, subst, ap, ◌∙◌}
 use Rattle.std.specs.Prelude.{IsTrue, slice_index, slice_set}
 use borrow.Author.Tests.{eqb-true, eqb-false, eq-eqb}
-use Rattle.std.proofs.lemmas.List.Folds.{list_any_more}
 use Rattle.linear_formula.proofs.Limits.{both, both_in}
 use Rattle.may_partition.specs.Parted.{same_edge}
+use Rattle.may_partition.proofs.Giving.{live_given}
 use Rattle.may_partition.proofs.Kept.{same_is}
-use Rattle.may_partition.proofs.Splitting.{or_left, or_right}
 use Rattle.std.proofs.Math.ListN.{length-set}
 use Rattle.std.proofs.lemmas.Bool.{cases_lt}
 use Rattle.std.proofs.lemmas.List.{get_or-set_same, get_or-set_other, get_or_append_left, length-append, length-replicate}
@@ -276,18 +275,11 @@ begin_search edges shut n target far way l f w = record {
 
 -- The search's own words
 
-live_item : (xs : List RegionEdge) (i : ℕ) (d : RegionEdge) → i < length xs → IsTrue (is_live xs (get_or xs i d))
-live_item [] i d l = absurd (omega (arith, l))
-live_item (x ∷ xs) zero d l = or_left (same_edge x x) (is_live xs x) (both_in (x.edge == x.edge) (x.from == x.from && x.to == x.to)
-    (eq-eqb x.edge x.edge refl) (both_in (x.from == x.from) (x.to == x.to) (eq-eqb x.from x.from refl) (eq-eqb x.to x.to refl)))
-live_item (x ∷ xs) (suc i) d l = or_right (same_edge x (get_or xs i d)) (is_live xs (get_or xs i d)) (live_item xs i d (omega (arith, l)))
-
 -- what the edges into a region are
-pub item_into : (xs edges : List RegionEdge) (region i : ℕ) (d : RegionEdge) → ((e : RegionEdge) → is_live xs e ≡ (is_live edges e && (e.to
-    == region))) → i < length xs → IsTrue (is_live edges (get_or xs i d)) × ((get_or xs i d).to ≡ region)
-item_into xs edges region i d h l =
-    let e : RegionEdge = get_or xs i d in
-    let r = both (is_live edges e) (e.to == region) (subst IsTrue (h e) (live_item xs i d l)) in
+pub item_into : (all edges : List RegionEdge) (region : ℕ) (e : RegionEdge) → ((y : RegionEdge) → is_live all y ≡ (is_live edges y && (y.to
+    == region))) → IsTrue (is_live all e) → IsTrue (is_live edges e) × (e.to ≡ region)
+item_into all edges region e h l =
+    let r = both (is_live edges e) (e.to == region) (subst IsTrue (h e) l) in
     (r.0, eqb-true e.to region r.1)
 
 pub more_trans : (a b c : Search) → MeetsMore a b → MeetsMore b c → MeetsMore a c
@@ -301,14 +293,14 @@ more_trans a b c h k = record {
 }
 
 -- the edges that were passed come from regions that were met
-pub one_passed : (xs shut : List RegionEdge) (i : ℕ) (d : RegionEdge) (old new : Search) → i < length xs → MeetsMore old new →
-    ((e : RegionEdge) → IsTrue (is_live (take i xs) e) → is_live shut e ≡ false → far_in old e.from ≢ 0) →
-    (is_live shut (get_or xs i d) ≡ false → far_in new (get_or xs i d).from ≢ 0) → (e : RegionEdge) → IsTrue (is_live (take (i + 1) xs) e) →
-    is_live shut e ≡ false → far_in new e.from ≢ 0
-one_passed xs shut i d old new l more h here e t o =
+pub one_passed : (xs shut : List RegionEdge) (x : RegionEdge) (old new : Search) → MeetsMore old new →
+    ((e : RegionEdge) → IsTrue (is_live xs e) → is_live shut e ≡ false → far_in old e.from ≢ 0) →
+    (is_live shut x ≡ false → far_in new x.from ≢ 0) → (e : RegionEdge) → IsTrue (is_live (xs ++ x ∷ []) e) → is_live shut e ≡ false →
+    far_in new e.from ≢ 0
+one_passed xs shut x old new more h here e t o =
     ⊎_elim (λ k z. h e k o (sym (more.far e.from (h e k o)) ∙ z))
-    (λ s. subst (λ y. is_live shut y ≡ false → far_in new y.from ≢ 0) (same_is (get_or xs i d) e s) here o)
-    (or_parts (is_live (take i xs) e) (same_edge (get_or xs i d) e) (subst IsTrue (list_any_more (λ y. same_edge y e) xs i d l) t))
+    (λ s. subst (λ y. is_live shut y ≡ false → far_in new y.from ≢ 0) (same_is x e s) here o)
+    (or_parts (is_live xs e) (same_edge x e) (subst IsTrue (live_given xs x e) t))
   where
     or_parts : (t u : Bool) → IsTrue (t || u) → IsTrue t ⊎ IsTrue u
     or_parts true u h = inl refl

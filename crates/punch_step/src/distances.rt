@@ -137,9 +137,9 @@ impl Distances {
         let mut near = 0;
         let mut way = self.reach.way[region as usize];
         for edge in partition.edges_from(region) {
-            if self.is_nearer(near, edge) {
+            if self.is_nearer(near, &edge) {
                 near = self.reach.far[edge.to as usize];
-                way = *edge;
+                way = edge;
             }
         }
         (near, way)
@@ -154,7 +154,7 @@ impl Distances {
         ensures far { AreOf partition.now self.new }
     {
         for edge in partition.edges_into(region) {
-            if self.reach.way[edge.from as usize] == *edge {
+            if self.reach.way[edge.from as usize] == edge {
                 self.waiting.push(edge.from)?;
             }
         }

@@ -104,7 +104,7 @@ impl<'a> Search<'a> {
     {
         let partition = self.partition;
         for edge in partition.edges_into(self.met[place]) {
-            self.meet(place, edge)?;
+            self.meet(place, &edge)?;
         }
         Ok(())
     }

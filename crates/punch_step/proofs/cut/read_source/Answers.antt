@@ -1,26 +1,18 @@
-use Rattle.std.proofs.Common.{◌≡◌, None, subst}
-use Rattle.std.specs.Prelude.{IfErr, IfOk}
+use Rattle.std.proofs.Common.{◌≡◌, None, ◌∙◌, ap, subst}
 use Rattle.linear_formula.specs.declared.formula.Cube.{Cube}
-use Rattle.shadow_elim.specs.Projection.{IfRefused}
-use Rattle.shadow_elim.specs.Sums.{first_wide, IsFirstWide}
+use Rattle.shadow_elim.specs.Sums.{first_wide}
 use Rattle.must_region.specs.Paths.{path_guard, read_sums}
 use Rattle.must_region.specs.Traces.{trace_of}
 use Rattle.punch_step.proofs.cut.read_source.Goals as goal
 
 pub returns-clause-guard : goal.returns-clause-guard
 returns-clause-guard c =
-    subst (λ (x : Cube). IfOk c.guard_with.result (λ r. r.atoms ≡ path_guard (trace_of c.args.trail.now) c.args.query.now.start.atoms
-    x.atoms))
-    c.in_ok-plain.ensures c.guard_with.ensures.guard
+    let t = trace_of c.args.trail.now in
+    let start = c.args.query.now.start.atoms in
+    ap (λ (q : Cube). q.atoms) c.in_ok-closed.ensures
+    ∙ (c.in_ok-rows.ensures.guard ∙ ap (λ (x : Cube). path_guard t start x.atoms) c.in_ok-plain.ensures)
 
 pub returns-clause-decided : goal.returns-clause-decided
 returns-clause-decided c =
-    subst (λ (x : Cube). IfOk c.guard_with.result
-    (λ r. first_wide (read_sums (trace_of c.args.trail.now) c.args.query.now.start.atoms x.atoms) ≡ None))
-    c.in_ok-plain.ensures c.guard_with.ensures.decided
-
-pub returns-clause-limit : goal.returns-clause-limit
-returns-clause-limit c =
-    subst (λ (x : Cube). IfErr c.guard_with.result
-    (λ e. IfRefused e (IsFirstWide (read_sums (trace_of c.args.trail.now) c.args.query.now.start.atoms x.atoms))))
-    c.in_ok-plain.ensures c.guard_with.ensures.limit
+    subst (λ (x : Cube). first_wide (read_sums (trace_of c.args.trail.now) c.args.query.now.start.atoms x.atoms) ≡ None)
+    c.in_ok-plain.ensures c.in_ok-rows.ensures.decided
