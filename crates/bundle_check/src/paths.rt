@@ -1,6 +1,6 @@
 //! Paths over the live edges of a partition.
 
-ghost use Rattle.std.specs.Prelude.{◌≡◌, ◌<◌, ◌^◌, ◌↔◌, IfOk, IsTrue, length, map, replicate, false, true};
+ghost use Rattle.std.specs.Prelude.{◌≡◌, ◌<◌, ◌^◌, ◌++◌, ◌↔◌, IfOk, IsTrue, OnOk, length, map, replicate, false, true};
 ghost use Rattle.query_rules.specs.Paths.{HasNoPath, target_region};
 ghost use Rattle.may_partition.specs.Shown.{have_regions, is_live};
 ghost use Rattle.may_partition.specs.declared.region.RegionEdge.{RegionEdge as AnEdge};
@@ -10,6 +10,7 @@ ghost use Rattle.bundle_check.specs.steps.Roads.{IsJoined, ends_of};
 use abstract_path::frontier::is_reached;
 use flow_graph::graph::Graph;
 use linear_formula::error::OutOfMemory;
+use may_partition::RegionEdges;
 use may_partition::partition::Partition;
 use may_partition::region::RegionEdge;
 use std::alloc::{AllocError, Global};
@@ -66,6 +67,16 @@ fn is_joined(
     is_reached(alloc, regions, &pairs, &shut, from, to)
 }
 
+/// Adds the edges behind the others.
+fn push_all(edges: &mut Vec<RegionEdge>, more: RegionEdges<'_>) -> Result<(), OutOfMemory>
+    ensures { OnOk result (edges.new.items ≡ edges.old.items ++ more.entry) }
+{
+    for edge in more {
+        edges.push(edge)?;
+    }
+    Ok(())
+}
+
 /// The live edges, region by region.
 fn live_edges(
     alloc: Global,
@@ -80,7 +91,7 @@ fn live_edges(
     partition.live_within();
     let mut edges = Vec::new(alloc);
     for region in 0..regions {
-        edges.extend_from_slice(partition.edges_from(region))?;
+        push_all(&mut edges, partition.edges_from(region))?;
     }
     Ok(edges)
 }
