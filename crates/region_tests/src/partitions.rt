@@ -4,7 +4,7 @@ ghost use Rattle.std.specs.Prelude.{◌≡◌, ◌↔◌, ◌<◌, length, IsTru
 
 use linear_formula::formula::{Atom, Cube};
 use linear_formula::term::{Parts, Term};
-use may_partition::{Partition, Region, RegionEdge, SplitError};
+use may_partition::{Partition, Region, RegionEdge, RegionEdges, SplitError};
 use std::alloc::Global;
 use std::test::Fail;
 use summary_form::query::ExitKind;
@@ -107,6 +107,15 @@ fn has_regions(
     Ok(partition.regions().len() == wanted.len())
 }
 
+/// How many edges there are, or the greatest number.
+pub fn count_of(edges: RegionEdges<'_>) -> usize {
+    let mut count: usize = 0;
+    for _ in edges {
+        count = count.saturating_add(1);
+    }
+    count
+}
+
 /// How many edges are live.
 fn live_count(partition: &Partition) -> usize {
     let mut count: usize = 0;
@@ -114,7 +123,7 @@ fn live_count(partition: &Partition) -> usize {
         if !exists(partition, region) {
             return count;
         }
-        count = count.saturating_add(partition.edges_from(region).len());
+        count = count.saturating_add(count_of(partition.edges_from(region)));
     }
     count
 }

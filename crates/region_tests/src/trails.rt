@@ -275,7 +275,8 @@ fn adds(alloc: Global, start: &[Row], end: &[Row], rows: &[Plain]) -> Result<boo
     let trail = trail_over(alloc, &[INPUT])?;
     let start = cube_of(alloc, start)?;
     let end = cube_of(alloc, end)?;
-    Ok(are_rows(&trail.guard_with(alloc, &start, &end)?, rows))
+    let guard = trail.guard_with(alloc, &start, &end)?.to_cube(alloc)?;
+    Ok(are_rows(&guard, rows))
 }
 
 #[test]

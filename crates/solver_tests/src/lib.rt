@@ -8,6 +8,8 @@ mod eliminations;
 #[cfg(test)]
 mod linear;
 #[cfg(test)]
+mod reading;
+#[cfg(test)]
 mod rows;
 #[cfg(test)]
 mod shared;

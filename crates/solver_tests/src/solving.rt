@@ -4,11 +4,12 @@ use crate::rows::{Row, cube_of, push_row, small_cube, term_of};
 use infeasible_cert::certificate::Certificate;
 use infeasible_cert::check::refutes;
 use lia_solver::entails::entails;
-use lia_solver::solve::solve;
+use lia_solver::solve::{solve, solve_rows};
 use lia_solver::solved::{Entailed, Solved};
 use linear_formula::assignment::{Assignment, Values};
 use linear_formula::error::LinError;
 use linear_formula::formula::{Atom, Atoms, Cube};
+use linear_formula::shared::SharedCube;
 use shadow_elim::limit::{Limit, LimitKind, MAX_SPLITS};
 use std::alloc::Global;
 use std::test::Fail;
@@ -338,6 +339,49 @@ fn agrees_with_small_boxes(rt: HostRuntime) -> Result<(), Fail> {
     for _ in 0..60 {
         let agrees = agrees(alloc, &mut seed)?;
         assert!(rt; agrees);
+    }
+    Ok(())
+}
+
+/// Whether both are one point, certificates that refute the cube, or limits of one kind.
+fn are_alike(cube: &Cube, left: &Solved, right: &Solved) -> bool {
+    match (left, right) {
+        (Solved::Point(left), Solved::Point(right)) => left.values() == right.values(),
+        (Solved::Never(left), Solved::Never(right)) => refutes(cube, left) && refutes(cube, right),
+        (Solved::Limit(left), Solved::Limit(right)) => left.kind() == right.kind(),
+        _ => false,
+    }
+}
+
+/// Whether rows behind two full blocks of columns at most 0 are answered as their cube is, and
+/// whether nothing meets them.
+fn is_answered(alloc: Global, rows: &[Row], never: bool) -> Result<bool, LinError> {
+    let first = SharedCube::of(alloc, &columns_from_0(alloc, 130)?)?;
+    let joined = first.joined(alloc, cube_of(alloc, rows)?)?;
+    let cube = joined.to_cube(alloc)?;
+    let rows = joined.rows();
+    let shared = solve_rows(alloc, &rows)?;
+    let copied = solve(alloc, &cube)?;
+    Ok(matches!(shared, Solved::Never(_)) == never && are_alike(&cube, &shared, &copied))
+}
+
+/// Rows of columns of the first block, of the second one, and of none; the last ones are split.
+const BEHIND_BLOCKS: &[(&[Row], bool)] = &[
+    (&[], false),
+    (&[(&[(-1, 3)], 0)], false),
+    (&[(&[(-1, 3)], 1)], true),
+    (&[(&[(-1, 100)], 1)], true),
+    (&[(&[(-1, 129)], 1)], true),
+    (&[(&[(-1, 3), (-1, 100)], 1)], true),
+    (&[(&[(1, 3), (1, 200)], 5), (&[(-1, 200)], 7)], false),
+    (&[(&[(2, 3)], 7), (&[(-2, 3)], -7)], true),
+];
+
+#[test]
+fn solves_rows_where_they_lie(rt: HostRuntime) -> Result<(), Fail> {
+    for &(rows, never) in BEHIND_BLOCKS {
+        let right = is_answered(rt.alloc(), rows, never)?;
+        assert!(rt; right);
     }
     Ok(())
 }

@@ -1,5 +1,6 @@
 //! Questions that come again, and questions that share a slot.
 
+use linear_formula::joined::JoinedCube;
 use linear_formula::question::Question;
 use punch_step::memo::Memo;
 use punch_step::sight::{Sight, decided};
@@ -20,7 +21,7 @@ enum Seen {
 
 /// What the rows come to.
 fn asked(alloc: Global, memo: &mut Memo, rows: &[Row]) -> Result<Seen, Fail> {
-    match decided(alloc, memo, cube_of(alloc, rows)?)? {
+    match decided(alloc, memo, JoinedCube::of(cube_of(alloc, rows)?))? {
         Sight::Met(at) => Ok(Seen::At(at.value(0))),
         Sight::Never(_) => Ok(Seen::Never),
         Sight::Limit(kept) => seen_limit(alloc, &kept, rows),
