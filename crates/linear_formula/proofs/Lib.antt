@@ -16,3 +16,5 @@ pub mod Combinations
 pub mod Replacing
 pub mod TermAtoms
 pub mod JoinedRows
+pub mod ExtremeRows
+pub mod ExtremePairs

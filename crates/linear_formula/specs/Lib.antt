@@ -5,4 +5,5 @@ pub mod Replaced
 pub mod Equality
 pub mod Laws
 pub mod Rows
+pub mod Extremes
 pub mod steps

@@ -1,4 +1,5 @@
 pub mod Exact
 pub mod Gathered
 pub mod Order
+pub mod Outlines
 pub mod SameValues

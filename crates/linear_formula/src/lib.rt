@@ -5,6 +5,7 @@ pub mod assignment;
 mod column;
 pub mod error;
 mod exact_sum;
+pub mod extremes;
 pub mod formula;
 pub mod joined;
 pub mod laws;

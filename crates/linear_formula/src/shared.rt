@@ -3,8 +3,10 @@
 ghost use Rattle.std.specs.Prelude.{◌≡◌, ◌++◌, ◌∷◌, [], flat_map, ◌↔◌, IfOk, OnOk, IsTrue};
 ghost use Rattle.linear_formula.specs.Equality.{same_atoms};
 ghost use Rattle.linear_formula.specs.Formula.{are_terms};
+ghost use Rattle.linear_formula.specs.Extremes.{IsOutline};
 
 use crate::error::OutOfMemory;
+use crate::extremes::{Extremes, Outline};
 use crate::formula::{Atom, Atoms, Cube, copy_onto};
 use crate::joined::JoinedCube;
 use std::alloc::Global;
@@ -13,7 +15,7 @@ use std::sync::Arc;
 
 /// An atom that its copies share.
 #[derive(Debug, Drop)]
-struct SharedAtom {
+pub(crate) struct SharedAtom {
     shared: Arc<Atom>,
 }
 
@@ -60,6 +62,8 @@ impl Model for Blocks {
 #[derive(Debug, Drop)]
 pub struct SharedCube {
     blocks: Blocks,
+    /// The extreme rows of the blocks.
+    outline: Outline,
     last: Vec<SharedAtom>,
 }
 
@@ -67,17 +71,19 @@ impl Model for SharedCube {
     ghost use Rattle.std.specs.Prelude.{IsTrue, ◌++◌};
     ghost use Rattle.linear_formula.specs.declared.formula.Cube.{Cube};
     ghost use Rattle.linear_formula.specs.Formula.{are_terms};
+    ghost use Rattle.linear_formula.specs.steps.Outlines.{Outlines};
 
     ghost Value = { Cube };
 
     ghost view = { λ c. record { atoms = c.blocks ++ c.last.items } };
 
-    ghost invariant = { λ c. IsTrue (are_terms (c.blocks ++ c.last.items)) };
+    ghost invariant = { λ c. IsTrue (are_terms (c.blocks ++ c.last.items))
+        × Outlines c.outline c.blocks };
 }
 
 /// How many atoms a block has. A copy takes fewer pointers for the atoms behind the blocks where it
 /// is smaller, and the list of the blocks is copied more often.
-const BLOCK: usize = 64;
+const BLOCK: usize = 32;
 
 impl SharedAtom {
     /// Takes the atom over.
@@ -89,7 +95,7 @@ impl SharedAtom {
     }
 
     /// The same atom, shared.
-    fn copy(&self) -> Result<SharedAtom, OutOfMemory>
+    pub(crate) fn copy(&self) -> Result<SharedAtom, OutOfMemory>
         ensures { IfOk result (λ a. a ≡ self.now) }
     {
         let shared = Arc::try_clone(&self.shared)?;
@@ -97,7 +103,7 @@ impl SharedAtom {
     }
 
     /// What is shared.
-    fn atom(&self) -> &Atom
+    pub(crate) fn atom(&self) -> &Atom
         ensures { result.now ≡ self.now }
     {
         &self.shared
@@ -203,6 +209,7 @@ impl SharedCube {
     {
         SharedCube {
             blocks: Blocks::new(),
+            outline: Outline::new(),
             last: Vec::new(alloc),
         }
     }
@@ -223,9 +230,11 @@ impl SharedCube {
     fn close(&mut self, alloc: Global) -> Result<(), OutOfMemory>
         ensures { OnOk result (self.new ≡ self.old) }
     {
+        let outline = self.outline.with(alloc, &self.last)?;
         let last = unshared(alloc, &self.last, 0)?;
         let block = Block::new(alloc, last)?;
         self.blocks = self.blocks.with(alloc, block)?;
+        self.outline = outline;
         self.last = Vec::new(alloc);
         Ok(())
     }
@@ -251,8 +260,13 @@ impl SharedCube {
         ensures { IfOk result (λ c. c ≡ self.now) }
     {
         let blocks = self.blocks.copy()?;
+        let outline = self.outline.copy()?;
         let last = shared_atoms(alloc, &self.last)?;
-        Ok(SharedCube { blocks, last })
+        Ok(SharedCube {
+            blocks,
+            outline,
+            last,
+        })
     }
 
     /// The cube with one more atom. The others are shared.
@@ -279,6 +293,18 @@ impl SharedCube {
     {
         let atoms = self.copied(alloc, 0)?;
         Ok(Cube { atoms })
+    }
+
+    /// Whether the cube has full blocks, so that it has more rows than its extreme ones may be.
+    pub fn is_long(&self) -> bool {
+        !self.blocks.as_slice().is_empty()
+    }
+
+    /// Extreme rows of the cube: those of the blocks, and the rows behind them.
+    pub fn extremes(&self, alloc: Global) -> Result<Extremes, OutOfMemory>
+        ensures { IfOk result (λ e. IsOutline e self.now.atoms) }
+    {
+        self.outline.extremes(alloc, &self.last)
     }
 
     /// The atoms of both, in order. The full blocks are shared, the atoms behind them are copied,

@@ -14,11 +14,15 @@ with_one_more blocks last a h k =
     are_terms-append blocks (last ++ a ∷ []) parts.0 (are_terms-push last a parts.1 k)
 
 pub invariant_of-self-then-len-ge-BLOCK : goal.invariant_of-self-then-len-ge-BLOCK
-invariant_of-self-then-len-ge-BLOCK c =
-    rw c.in_ok-push.ensures.items (with_one_more c.self.inside.blocks c.self.inside.last.items c.args.atom
-    c.self.invariant (subst (λ (a : Atom). IsTrue (is_term a.term)) c.atom.ensures c.parts.ensures.kept))
+invariant_of-self-then-len-ge-BLOCK c = (
+  rw c.in_ok-push.ensures.items (with_one_more c.self.inside.blocks c.self.inside.last.items c.args.atom
+      c.self.invariant.0 (subst (λ (a : Atom). IsTrue (is_term a.term)) c.atom.ensures c.parts.ensures.kept)),
+  c.self.invariant.1,
+)
 
 pub invariant_of-self-else-len-ge-BLOCK : goal.invariant_of-self-else-len-ge-BLOCK
-invariant_of-self-else-len-ge-BLOCK c =
-    rw c.in_ok-push.ensures.items (with_one_more c.self.inside.blocks c.self.inside.last.items c.args.atom
-    c.self.invariant (subst (λ (a : Atom). IsTrue (is_term a.term)) c.atom.ensures c.parts.ensures.kept))
+invariant_of-self-else-len-ge-BLOCK c = (
+  rw c.in_ok-push.ensures.items (with_one_more c.self.inside.blocks c.self.inside.last.items c.args.atom
+      c.self.invariant.0 (subst (λ (a : Atom). IsTrue (is_term a.term)) c.atom.ensures c.parts.ensures.kept)),
+  c.self.invariant.1,
+)
