@@ -9,3 +9,5 @@ pub mod Summing
 pub mod Signs
 pub mod Meeting
 pub mod Sound
+pub mod Alike
+pub mod Renumbering

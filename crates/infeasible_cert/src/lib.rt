@@ -4,6 +4,7 @@
 pub mod certificate;
 pub mod check;
 mod columns;
+mod renumber;
 mod rows;
 mod step;
 mod walk;
