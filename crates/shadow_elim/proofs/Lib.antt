@@ -39,3 +39,4 @@ pub mod FittingSums
 pub mod Growing
 pub mod TooMany
 pub mod Reading
+pub mod ReadExtremes
