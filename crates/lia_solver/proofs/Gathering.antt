@@ -117,7 +117,8 @@ lower-fails x t l e = of_none (covered-lower x [] t l (inl e)) where
 between-abs : (a b c : ℤ) → a ≤ℤ b → b ≤ℤ c → unsigned_abs a ≤ 2 ^ 84 → unsigned_abs c ≤ 2 ^ 84 → unsigned_abs b ≤ 2 ^ 84
 between-abs a b c h k p q = omega (arith, ints, h, k, p, q)
 
-within-between : (s t r : LinearSum) → IsAtLeast s t → IsAtLeast t r → IsTrue (is_within s) → IsTrue (is_within r) → IsTrue (is_within t)
+pub within-between : (s t r : LinearSum) → IsAtLeast s t → IsAtLeast t r → IsTrue (is_within s) → IsTrue (is_within r) →
+    IsTrue (is_within t)
 within-between s t r h k a b =
     let v = Within-from_test s a in
     let w = Within-from_test r b in

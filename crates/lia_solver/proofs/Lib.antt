@@ -29,6 +29,7 @@ pub mod DividedParts
 pub mod FirstColumns
 pub mod PairSumsInCode
 pub mod Gathering
+pub mod SameAnswers
 pub mod Putting
 pub mod Narrowing
 pub mod BranchTable
