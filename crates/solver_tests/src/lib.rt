@@ -6,6 +6,8 @@ mod certificates;
 #[cfg(test)]
 mod eliminations;
 #[cfg(test)]
+mod extremes;
+#[cfg(test)]
 mod linear;
 #[cfg(test)]
 mod reading;

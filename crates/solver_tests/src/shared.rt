@@ -61,8 +61,8 @@ fn follows(alloc: Global, count: u8) -> Result<bool, LinError> {
     Ok(is_counted(&both, all))
 }
 
-/// A block has 64 atoms.
-const COUNTS: &[u8] = &[0, 1, 63, 64, 65, 128, 130];
+/// A block has 32 atoms.
+const COUNTS: &[u8] = &[0, 1, 31, 32, 33, 64, 66];
 
 #[test]
 fn keeps_all_atoms_in_order(rt: HostRuntime) -> Result<(), Fail> {

@@ -9,6 +9,7 @@ use lia_solver::solved::{Entailed, Solved};
 use linear_formula::assignment::{Assignment, Values};
 use linear_formula::error::LinError;
 use linear_formula::formula::{Atom, Atoms, Cube};
+use linear_formula::joined::JoinedCube;
 use linear_formula::shared::SharedCube;
 use shadow_elim::limit::{Limit, LimitKind, MAX_SPLITS};
 use std::alloc::Global;
@@ -353,16 +354,31 @@ fn are_alike(cube: &Cube, left: &Solved, right: &Solved) -> bool {
     }
 }
 
-/// Whether rows behind two full blocks of columns at most 0 are answered as their cube is, and
+/// Whether rows behind full blocks of columns at most 0 are answered as their cube is, and
 /// whether nothing meets them.
 fn is_answered(alloc: Global, rows: &[Row], never: bool) -> Result<bool, LinError> {
-    let first = SharedCube::of(alloc, &columns_from_0(alloc, 130)?)?;
-    let joined = first.joined(alloc, cube_of(alloc, rows)?)?;
+    let joined = joined_with(alloc, rows)?;
     let cube = joined.to_cube(alloc)?;
-    let rows = joined.rows();
-    let shared = solve_rows(alloc, &rows)?;
-    let copied = solve(alloc, &cube)?;
-    Ok(matches!(shared, Solved::Never(_)) == never && are_alike(&cube, &shared, &copied))
+    are_answered(alloc, &joined, &cube, never)
+}
+
+/// The first columns, and these rows behind.
+fn joined_with(alloc: Global, rows: &[Row]) -> Result<JoinedCube, LinError> {
+    let own = cube_of(alloc, rows)?;
+    let first = columns_from_0(alloc, 130)?;
+    Ok(SharedCube::of(alloc, &first)?.joined(alloc, own)?)
+}
+
+/// Whether the rows where they lie and their copies have the same answer.
+fn are_answered(
+    alloc: Global,
+    joined: &JoinedCube,
+    cube: &Cube,
+    never: bool,
+) -> Result<bool, LinError> {
+    let copied = solve(alloc, cube)?;
+    let shared = solve_rows(alloc, &joined.rows())?;
+    Ok(matches!(shared, Solved::Never(_)) == never && are_alike(cube, &shared, &copied))
 }
 
 /// Rows of columns of the first block, of the second one, and of none; the last ones are split.
