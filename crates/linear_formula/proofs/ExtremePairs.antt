@@ -1,5 +1,5 @@
 -- Pairs of extreme rows, and what one more row makes of them.
-use Rattle.std.proofs.Common.{◌≡◌, ◌≢◌, inl, inr, ℕ, ◌<◌, ◌==◌, List, [], ◌∷◌, ◌++◌, length, get_or, set, length-set, Bool, true, false, arith, refl, sym, ap, subst, ◌∙◌}
+use Rattle.std.proofs.Common.{◌≡◌, ◌≢◌, inl, inr, ℕ, suc, ◌+◌, ◌<◌, ◌==◌, append_assoc, length-append, List, [], ◌∷◌, ◌++◌, length, get_or, set, length-set, Bool, true, false, arith, refl, sym, ap, subst, ◌∙◌}
 use Rattle.std.specs.Prelude.{All, Contains, Some, slice_get, if◌then◌else◌}
 use Rattle.std.specs.List.{HoldsAt}
 use borrow.Author.Tests.{eqb-true, eqb_apart}
@@ -159,6 +159,38 @@ pairs_widened pairs all i p q n a e l at parts widened h =
           (All-weaker (λ b. IsWithin pairs b.term) (λ b. IsWithin (set pairs i q) b.term)
           (λ b. within_set pairs all i p q a l at w b.term) all h.within) last;
     }
+
+-- Pairs behind others
+
+set_behind : (before pairs : List ExtremePair) (i : ℕ) (q : ExtremePair) →
+    set (before ++ pairs) (length before + i) q ≡ before ++ set pairs i q
+set_behind [] pairs i q = let e : 0 + i ≡ i = omega arith in rw e refl
+set_behind (p ∷ before) pairs i q =
+    let e : suc (length before) + i ≡ suc (length before + i) = omega arith in
+    rw e (ap (λ ps. p ∷ ps) (set_behind before pairs i q))
+
+read_behind : (before pairs : List ExtremePair) (i : ℕ) (d : ExtremePair) →
+    get_or (before ++ pairs) (length before + i) d ≡ get_or pairs i d
+read_behind [] pairs i d = let e : 0 + i ≡ i = omega arith in rw e refl
+read_behind (p ∷ before) pairs i d =
+    let e : suc (length before) + i ≡ suc (length before + i) = omega arith in
+    rw e (read_behind before pairs i d)
+
+pub pairs_pushed_behind : (before pairs : List ExtremePair) (all : List Atom) (p : ExtremePair) (n : ℕ) (a : Atom) → n ≡ length all →
+    p.greatest.number ≡ n → p.greatest.atom ≡ a → p.least ≡ p.greatest → ArePairs (before ++ pairs) all →
+    ArePairs (before ++ (pairs ++ p ∷ [])) (all ++ a ∷ [])
+pairs_pushed_behind before pairs all p n a e number atom same h =
+    subst (λ (ps : List ExtremePair). ArePairs ps (all ++ a ∷ [])) (append_assoc before pairs (p ∷ []))
+    (pairs_pushed (before ++ pairs) all p n a e number atom same h)
+
+pub pairs_widened_behind : (before pairs : List ExtremePair) (all : List Atom) (i : ℕ) (p q : ExtremePair) (n : ℕ) (a : Atom) →
+    n ≡ length all → i < length pairs → HoldsAt (λ r. r ≡ p) pairs i → p.greatest.atom.term.parts ≡ a.term.parts →
+    IsWidened p n a q → ArePairs (before ++ pairs) all → ArePairs (before ++ set pairs i q) (all ++ a ∷ [])
+pairs_widened_behind before pairs all i p q n a e l at parts widened h =
+    let here : HoldsAt (λ r. r ≡ p) (before ++ pairs) (length before + i) = λ d. read_behind before pairs i d ∙ at d in
+    let within : length before + i < length (before ++ pairs) = simp length-append (omega (arith, l)) in
+    subst (λ (ps : List ExtremePair). ArePairs ps (all ++ a ∷ [])) (set_behind before pairs i q)
+    (pairs_widened (before ++ pairs) all (length before + i) p q n a e within here parts widened h)
 
 -- The rows of pairs, by their numbers
 

@@ -30,6 +30,11 @@ pub record AreExtremes (numbers : List ℕ) (rows all : List Atom) : Type 0 wher
   pub numbered : HaveNumbers numbers rows all
   pub between : All (λ a. IsBetween rows a.term) all
 
+-- the same, by some numbers
+pub record AreOuter (rows all : List Atom) : Type 0 where
+  pub numbers : List ℕ
+  pub extremes : AreExtremes numbers rows all
+
 -- the same, with the number of all rows
 pub record IsOutline (e : Extremes) (all : List Atom) : Type 0 where
   pub count : e.count ≡ length all

@@ -1,15 +1,17 @@
 //! Rows of a cube between which all of its rows lie.
 
-ghost use Rattle.std.specs.Prelude.{◌≡◌, ◌++◌, ◌∷◌, ◌+◌, ◌<◌, [], List, map, IfOk, OnOk, IfSome, length};
+ghost use Rattle.std.specs.Prelude.{◌≡◌, ◌++◌, ◌∷◌, ◌+◌, ◌<◌, [], List, map, flat_map, IfOk, OnOk, IfSome, length};
 ghost use Rattle.std.specs.List.{HoldsAt, range_with_len};
 ghost use Rattle.linear_formula.specs.Extremes.{IsOutline};
-ghost use Rattle.linear_formula.specs.declared.formula.Atom.{Atom};
-ghost use Rattle.linear_formula.specs.steps.Outlines.{pairs_of, pair_numbers, pair_rows, IsWidened, ArePairs, Outlines};
+ghost use Rattle.linear_formula.specs.declared.extremes.ExtremePair.{ExtremePair as APair};
+ghost use Rattle.linear_formula.specs.declared.formula.Atom.{Atom as AnAtom};
+ghost use Rattle.linear_formula.specs.steps.Outlines.{older_of, newest_of, pairs_of, pair_numbers, pair_rows, numbers_of, rows_of, IsWidened, ArePairs, Outlines};
 
 use crate::error::OutOfMemory;
 use crate::formula::{Atom, Atoms, Cube};
 use crate::shared::SharedAtom;
 use std::alloc::{AllocError, Global};
+use std::marker::Model;
 use std::sync::Arc;
 
 /// Rows of a cube, each with its number in it: of those with the same coefficients the one with the
@@ -39,24 +41,42 @@ pub(crate) struct ExtremePair {
     least: NumberedAtom,
 }
 
-/// Extreme rows of so many rows, which copies share as one.
+/// Pairs in order, which copies share as one.
+#[derive(Debug, Drop)]
+pub(crate) struct PairList {
+    shared: Arc<Vec<ExtremePair>>,
+}
+
+impl Model for PairList {
+    ghost use Rattle.std.specs.Prelude.{List};
+    ghost use Rattle.linear_formula.specs.declared.extremes.ExtremePair.{ExtremePair};
+
+    ghost Value = { List ExtremePair };
+
+    ghost view = { λ l. l.shared.value.items };
+}
+
+/// Extreme rows of so many rows, which copies share.
 #[derive(Debug, Drop)]
 pub(crate) struct Outline {
-    pairs: Option<Arc<Vec<ExtremePair>>>,
+    /// Pairs with which no row is compared any more.
+    older: Option<Arc<Vec<PairList>>>,
+    newest: Option<PairList>,
     count: u32,
 }
 
-/// Among how many pairs, the newest ones, that of a row is looked for. One that isn't found gets
-/// another pair.
-const NEWEST: usize = 256;
+/// With how many pairs, the last ones, a row is compared. Where there are so many, they are kept
+/// apart and no later row is compared with them, so that what one more block takes doesn't grow. A
+/// row whose pair isn't found gets another one.
+const MANY: usize = 256;
 
 impl NumberedAtom {
-    /// The atom, shared.
-    fn of(number: u32, atom: &SharedAtom) -> Result<NumberedAtom, OutOfMemory>
+    /// A copy of the atom.
+    fn of(alloc: Global, number: u32, atom: &Atom) -> Result<NumberedAtom, OutOfMemory>
         ensures number { IfOk result (λ n. n.number ≡ number) }
         ensures atom { IfOk result (λ n. n.atom ≡ atom.now) }
     {
-        let atom = atom.copy()?;
+        let atom = SharedAtom::new(alloc, atom.copy(alloc)?)?;
         Ok(NumberedAtom { number, atom })
     }
 
@@ -64,7 +84,11 @@ impl NumberedAtom {
     fn copy(&self) -> Result<NumberedAtom, OutOfMemory>
         ensures { IfOk result (λ n. n ≡ self.now) }
     {
-        NumberedAtom::of(self.number, &self.atom)
+        let atom = self.atom.copy()?;
+        Ok(NumberedAtom {
+            number: self.number,
+            atom,
+        })
     }
 
     fn parts(&self) -> &[(u32, i128)]
@@ -82,15 +106,17 @@ impl NumberedAtom {
 
 impl ExtremePair {
     /// The row alone.
-    fn of(key: u64, number: u32, atom: &SharedAtom) -> Result<ExtremePair, OutOfMemory>
+    fn of(alloc: Global, key: u64, number: u32, atom: &Atom) -> Result<ExtremePair, OutOfMemory>
         ensures number { IfOk result (λ p. p.greatest.number ≡ number) }
         ensures atom { IfOk result (λ p. p.greatest.atom ≡ atom.now) }
         ensures least { IfOk result (λ p. p.least ≡ p.greatest) }
     {
+        let greatest = NumberedAtom::of(alloc, number, atom)?;
+        let least = greatest.copy()?;
         Ok(ExtremePair {
             key,
-            greatest: NumberedAtom::of(number, atom)?,
-            least: NumberedAtom::of(number, atom)?,
+            greatest,
+            least,
         })
     }
 
@@ -105,15 +131,15 @@ impl ExtremePair {
         })
     }
 
-    /// Takes in a row with the same coefficients.
-    fn widen(&mut self, number: u32, atom: &SharedAtom) -> Result<(), OutOfMemory>
+    /// Takes in a row with the same coefficients, of which a copy is made where it is beyond both.
+    fn widen(&mut self, alloc: Global, number: u32, atom: &Atom) -> Result<(), OutOfMemory>
         ensures { OnOk result (IsWidened self.old number atom.now self.new) }
     {
-        let constant = atom.atom().term.constant();
+        let constant = atom.term.constant();
         if self.greatest.constant() < constant {
-            self.greatest = NumberedAtom::of(number, atom)?;
+            self.greatest = NumberedAtom::of(alloc, number, atom)?;
         } else if constant < self.least.constant() {
-            self.least = NumberedAtom::of(number, atom)?;
+            self.least = NumberedAtom::of(alloc, number, atom)?;
         }
         Ok(())
     }
@@ -129,14 +155,14 @@ fn key_of(parts: &[(u32, i128)]) -> u64 {
     key
 }
 
-/// The place of one of the newest pairs with these coefficients, whose key this is.
+/// The place of one of the last pairs with these coefficients, whose key this is.
 fn place_of(pairs: &[ExtremePair], key: u64, parts: &[(u32, i128)]) -> Option<usize>
     ensures within { IfSome result (λ i. i < length pairs.now) }
     ensures parts { IfSome result
         (HoldsAt (λ p. p.greatest.atom.term.parts ≡ parts.now) pairs.now) }
 {
     let mut place = pairs.len();
-    let end = place.saturating_sub(NEWEST);
+    let end = place.saturating_sub(MANY);
     while place > end {
         place -= 1;
         let pair = &pairs[place];
@@ -147,17 +173,23 @@ fn place_of(pairs: &[ExtremePair], key: u64, parts: &[(u32, i128)]) -> Option<us
     None
 }
 
-/// Takes in a row.
-fn take_in(pairs: &mut Vec<ExtremePair>, number: u32, atom: &SharedAtom) -> Result<(), OutOfMemory>
+/// Takes in a row, behind pairs that it isn't compared with.
+fn take_in(
+    alloc: Global,
+    pairs: &mut Vec<ExtremePair>,
+    number: u32,
+    atom: &Atom,
+) -> Result<(), OutOfMemory>
     ensures { OnOk result
-        ((all : List Atom) → number ≡ length all → ArePairs pairs.old.items all →
-        ArePairs pairs.new.items (all ++ atom.now ∷ [])) }
+        ((older : List APair) (all : List AnAtom) → number ≡ length all →
+        ArePairs (older ++ pairs.old.items) all →
+        ArePairs (older ++ pairs.new.items) (all ++ atom.now ∷ [])) }
 {
-    let parts = atom.atom().term.parts();
+    let parts = atom.term.parts();
     let key = key_of(parts);
     match place_of(pairs, key, parts) {
-        Some(place) => pairs[place].widen(number, atom)?,
-        None => pairs.push(ExtremePair::of(key, number, atom)?)?,
+        Some(place) => pairs[place].widen(alloc, number, atom)?,
+        None => pairs.push(ExtremePair::of(alloc, key, number, atom)?)?,
     }
     Ok(())
 }
@@ -173,22 +205,56 @@ fn copies(alloc: Global, pairs: &[ExtremePair]) -> Result<Vec<ExtremePair>, OutO
     Ok(all)
 }
 
+impl PairList {
+    /// Takes the pairs over.
+    fn new(alloc: Global, pairs: Vec<ExtremePair>) -> Result<PairList, OutOfMemory>
+        ensures { IfOk result (λ l. l ≡ pairs.items) }
+    {
+        let shared = Arc::new(alloc, pairs)?;
+        Ok(PairList { shared })
+    }
+
+    /// The same pairs, shared.
+    fn copy(&self) -> Result<PairList, OutOfMemory>
+        ensures { IfOk result (λ l. l ≡ self.now) }
+    {
+        let shared = Arc::try_clone(&self.shared)?;
+        Ok(PairList { shared })
+    }
+
+    fn as_slice(&self) -> &[ExtremePair]
+        ensures { result.now ≡ self.now }
+    {
+        self.shared.as_slice()
+    }
+}
+
 impl Outline {
     /// Of no rows.
     pub(crate) fn new() -> Outline
         ensures { Outlines result [] }
     {
         Outline {
-            pairs: None,
+            older: None,
+            newest: None,
             count: 0,
         }
     }
 
-    fn pairs(&self) -> &[ExtremePair]
-        ensures { result.now ≡ pairs_of self.now }
+    fn older(&self) -> &[PairList]
+        ensures { result.now ≡ older_of self.now }
     {
-        match &self.pairs {
-            Some(pairs) => pairs.as_slice(),
+        match &self.older {
+            Some(older) => older.as_slice(),
+            None => &[],
+        }
+    }
+
+    fn newest(&self) -> &[ExtremePair]
+        ensures { result.now ≡ newest_of self.now }
+    {
+        match &self.newest {
+            Some(newest) => newest.as_slice(),
             None => &[],
         }
     }
@@ -196,35 +262,91 @@ impl Outline {
     /// The same, shared.
     pub(crate) fn copy(&self) -> Result<Outline, OutOfMemory>
         ensures { IfOk result
-            (λ o. (all : List Atom) → Outlines self.now all → Outlines o all) }
+            (λ o. (all : List AnAtom) → Outlines self.now all → Outlines o all) }
     {
-        let pairs = match &self.pairs {
-            Some(pairs) => Some(Arc::try_clone(pairs)?),
+        let older = match &self.older {
+            Some(older) => Some(Arc::try_clone(older)?),
+            None => None,
+        };
+        let newest = match &self.newest {
+            Some(newest) => Some(newest.copy()?),
             None => None,
         };
         Ok(Outline {
-            pairs,
+            older,
+            newest,
             count: self.count,
+        })
+    }
+
+    /// The older pairs with more of them.
+    fn older_with(&self, alloc: Global, more: PairList) -> Result<Vec<PairList>, OutOfMemory>
+        ensures { IfOk result (λ all. all.items ≡ older_of self.now ++ more ∷ []) }
+    {
+        let older = self.older();
+        let mut all = Vec::with_capacity(alloc, older.len() + 1)?;
+        for list in older {
+            all.push(list.copy()?)?;
+        }
+        all.push(more)?;
+        Ok(all)
+    }
+
+    /// With these pairs in the place of the newest ones.
+    fn renewed(
+        &self,
+        alloc: Global,
+        pairs: Vec<ExtremePair>,
+        count: u32,
+    ) -> Result<Outline, OutOfMemory>
+        ensures { IfOk result
+            (λ o. (pairs_of o ≡ flat_map (λ l. l) (older_of self.now) ++ pairs.items)
+            × (o.count ≡ count)) }
+    {
+        let many = pairs.len() >= MANY;
+        let pairs = PairList::new(alloc, pairs)?;
+        if many {
+            let older = Some(Arc::new(alloc, self.older_with(alloc, pairs)?)?);
+            return Ok(Outline {
+                older,
+                newest: None,
+                count,
+            });
+        }
+        let older = match &self.older {
+            Some(older) => Some(Arc::try_clone(older)?),
+            None => None,
+        };
+        Ok(Outline {
+            older,
+            newest: Some(pairs),
+            count,
         })
     }
 
     /// The same with more rows behind. Where there are more than 32 bits count, memory is said to
     /// be out.
-    pub(crate) fn with(&self, alloc: Global, more: &[SharedAtom]) -> Result<Outline, OutOfMemory>
+    pub(crate) fn with(&self, alloc: Global, more: &[Atom]) -> Result<Outline, OutOfMemory>
         ensures { IfOk result
-            (λ o. (all : List Atom) → Outlines self.now all → Outlines o (all ++ more.now)) }
+            (λ o. (all : List AnAtom) → Outlines self.now all → Outlines o (all ++ more.now)) }
     {
-        let mut pairs = copies(alloc, self.pairs())?;
+        let mut pairs = copies(alloc, self.newest())?;
         let mut count = self.count;
         for atom in more {
-            take_in(&mut pairs, count, atom)?;
+            take_in(alloc, &mut pairs, count, atom)?;
             let Some(next) = count.checked_add(1) else {
                 return Err(AllocError);
             };
             count = next;
         }
-        let pairs = Some(Arc::new(alloc, pairs)?);
-        Ok(Outline { pairs, count })
+        self.renewed(alloc, pairs, count)
+    }
+
+    /// How many rows there are.
+    pub(crate) fn count(&self) -> usize
+        ensures { result ≡ self.now.count }
+    {
+        self.count as usize
     }
 
     /// The extreme rows, and the rows behind them.
@@ -234,24 +356,25 @@ impl Outline {
         last: &[SharedAtom],
     ) -> Result<Extremes, OutOfMemory>
         ensures { IfOk result
-            (λ e. (all : List Atom) → Outlines self.now all → IsOutline e (all ++ last.now)) }
+            (λ e. (all : List AnAtom) → Outlines self.now all → IsOutline e (all ++ last.now)) }
     {
         let mut all = self.rows(alloc, last.len())?;
         all.push_copies(alloc, last)?;
         Ok(all)
     }
 
-    /// The extreme rows, with room for so many more.
+    /// The extreme rows, with room for so many more beside the newest.
     fn rows(&self, alloc: Global, more: usize) -> Result<Extremes, OutOfMemory>
         ensures { IfOk result
-            (λ e. (all : List Atom) → Outlines self.now all → IsOutline e all) }
+            (λ e. (all : List AnAtom) → Outlines self.now all → IsOutline e all) }
     {
-        let pairs = self.pairs();
-        let room = pairs.len().saturating_add(more);
+        let newest = self.newest();
+        let room = newest.len().saturating_add(more);
         let mut all = Extremes::with_capacity(alloc, room)?;
-        for pair in pairs {
-            all.push_pair(alloc, pair)?;
+        for list in self.older() {
+            all.push_pairs(alloc, list.as_slice())?;
         }
+        all.push_pairs(alloc, newest)?;
         all.count = self.count;
         Ok(all)
     }
@@ -297,10 +420,23 @@ impl Extremes {
         self.push_numbered(alloc, &pair.least)
     }
 
+    /// The extreme rows of the pairs.
+    fn push_pairs(&mut self, alloc: Global, pairs: &[ExtremePair]) -> Result<(), OutOfMemory>
+        ensures numbers { OnOk result
+            (self.new.numbers.items ≡ self.old.numbers.items ++ numbers_of pairs.now) }
+        ensures rows { OnOk result
+            (self.new.cube.atoms ≡ self.old.cube.atoms ++ rows_of pairs.now) }
+    {
+        for pair in pairs {
+            self.push_pair(alloc, pair)?;
+        }
+        Ok(())
+    }
+
     /// Copies of these rows behind all.
     fn push_copies(&mut self, alloc: Global, atoms: &[SharedAtom]) -> Result<(), OutOfMemory>
         ensures { OnOk result
-            ((all : List Atom) → IsOutline self.old all → IsOutline self.new (all ++ atoms.now)) }
+            ((all : List AnAtom) → IsOutline self.old all → IsOutline self.new (all ++ atoms.now)) }
     {
         for atom in atoms {
             self.push(atom.atom().copy(alloc)?)?;
@@ -311,7 +447,7 @@ impl Extremes {
     /// One more row behind all.
     pub fn push(&mut self, atom: Atom) -> Result<(), OutOfMemory>
         ensures { OnOk result
-            ((all : List Atom) → IsOutline self.old all → IsOutline self.new (all ++ atom ∷ [])) }
+            ((all : List AnAtom) → IsOutline self.old all → IsOutline self.new (all ++ atom ∷ [])) }
     {
         let Some(count) = self.count.checked_add(1) else {
             return Err(AllocError);
@@ -326,7 +462,7 @@ impl Extremes {
     /// out.
     pub fn followed_by(self, other: Extremes) -> Result<Extremes, OutOfMemory>
         ensures { IfOk result
-            (λ e. (all more : List Atom) → IsOutline self all → IsOutline other more →
+            (λ e. (all more : List AnAtom) → IsOutline self all → IsOutline other more →
             IsOutline e (all ++ more)) }
     {
         let Extremes {
@@ -344,6 +480,14 @@ impl Extremes {
             numbers,
             count,
         })
+    }
+
+    /// Extreme rows among these.
+    pub fn among(alloc: Global, rows: &[Atom]) -> Result<Extremes, OutOfMemory>
+        ensures { IfOk result (λ e. IsOutline e rows.now) }
+    {
+        let outline = Outline::new().with(alloc, rows)?;
+        outline.extremes(alloc, &[])
     }
 
     /// All rows of a cube.

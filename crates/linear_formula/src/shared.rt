@@ -57,8 +57,8 @@ impl Model for Blocks {
     ghost view = { λ b. unwrap_or (option_map (λ a. flat_map (λ x. x) a.value.items) b.shared) [] };
 }
 
-/// All of the atoms, as a `Cube` has them. A copy takes one pointer for all full blocks and one for
-/// each atom behind them, and no atom anew.
+/// All of the atoms, as a `Cube` has them. A copy takes a pointer for all blocks, two for their
+/// extreme rows and one for each atom behind the blocks, and no atom anew.
 #[derive(Debug, Drop)]
 pub struct SharedCube {
     blocks: Blocks,
@@ -81,13 +81,13 @@ impl Model for SharedCube {
         × Outlines c.outline c.blocks };
 }
 
-/// How many atoms a block has. A copy takes fewer pointers for the atoms behind the blocks where it
-/// is smaller, and the list of the blocks is copied more often.
+/// How many atoms a block has, or more. A copy takes fewer pointers for the atoms behind the blocks
+/// where it is smaller, and the list of the blocks is copied more often.
 const BLOCK: usize = 32;
 
 impl SharedAtom {
     /// Takes the atom over.
-    fn new(alloc: Global, atom: Atom) -> Result<SharedAtom, OutOfMemory>
+    pub(crate) fn new(alloc: Global, atom: Atom) -> Result<SharedAtom, OutOfMemory>
         ensures { IfOk result (λ a. a ≡ atom) }
     {
         let shared = Arc::new(alloc, atom)?;
@@ -230,13 +230,24 @@ impl SharedCube {
     fn close(&mut self, alloc: Global) -> Result<(), OutOfMemory>
         ensures { OnOk result (self.new ≡ self.old) }
     {
-        let outline = self.outline.with(alloc, &self.last)?;
-        let last = unshared(alloc, &self.last, 0)?;
-        let block = Block::new(alloc, last)?;
-        self.blocks = self.blocks.with(alloc, block)?;
-        self.outline = outline;
-        self.last = Vec::new(alloc);
+        *self = self.closed_with(alloc, &[])?;
         Ok(())
+    }
+
+    /// The atoms behind the last block, and these, become one.
+    fn closed_with(&self, alloc: Global, more: &[Atom]) -> Result<SharedCube, OutOfMemory>
+        ensures { IfOk result (λ c. c.atoms ≡ self.now.atoms ++ more.now) }
+    {
+        let mut atoms = unshared(alloc, &self.last, more.len())?;
+        copy_onto(&mut atoms, alloc, more)?;
+        let outline = self.outline.with(alloc, atoms.as_slice())?;
+        let block = Block::new(alloc, atoms)?;
+        let blocks = self.blocks.with(alloc, block)?;
+        Ok(SharedCube {
+            blocks,
+            outline,
+            last: Vec::new(alloc),
+        })
     }
 
     /// What is kept of each cube: its rows are terms.
@@ -250,9 +261,7 @@ impl SharedCube {
     pub fn of(alloc: Global, cube: &Cube) -> Result<SharedCube, OutOfMemory>
         ensures { IfOk result (λ c. c ≡ cube.now) }
     {
-        let mut all = SharedCube::new(alloc);
-        copies_onto(&mut all, alloc, cube.atoms.as_slice())?;
-        Ok(all)
+        SharedCube::new(alloc).and(alloc, cube)
     }
 
     /// The same cube, which shares the atoms.
@@ -278,12 +287,17 @@ impl SharedCube {
         Ok(all)
     }
 
-    /// The atoms of both, in order. Its own are shared, and the other's are copied.
+    /// The atoms of both, in order. Its own are shared, and the other's are copied. Where they are
+    /// many, all that are behind the last block become one.
     pub fn and(&self, alloc: Global, other: &Cube) -> Result<SharedCube, OutOfMemory>
         ensures { IfOk result (λ c. c.atoms ≡ self.now.atoms ++ other.now.atoms) }
     {
+        let more = other.atoms.as_slice();
+        if self.last.len().saturating_add(more.len()) >= BLOCK {
+            return self.closed_with(alloc, more);
+        }
         let mut all = self.copy(alloc)?;
-        copies_onto(&mut all, alloc, other.atoms.as_slice())?;
+        copies_onto(&mut all, alloc, more)?;
         Ok(all)
     }
 
@@ -332,7 +346,7 @@ impl SharedCube {
         ensures { IfOk result (λ atoms. atoms ≡ self.now.atoms) }
     {
         let blocks = self.blocks.as_slice();
-        let full = blocks.len().saturating_mul(BLOCK);
+        let full = self.outline.count();
         let room = full.saturating_add(self.last.len()).saturating_add(more);
         let mut atoms = Atoms::with_capacity(alloc, room)?;
         for block in blocks {

@@ -1,5 +1,5 @@
 -- Pairs of extreme rows.
-use Rattle.std.specs.Prelude.{◌≡◌, ◌⊎◌, ℕ, ◌==◌, List, [], ◌∷◌, length, All, Contains, Some, slice_get, flat_map, unwrap_or, option_map, if◌then◌else◌, ◌≤ℤ◌}
+use Rattle.std.specs.Prelude.{◌≡◌, ◌⊎◌, ℕ, ◌==◌, List, [], ◌∷◌, ◌++◌, length, All, Contains, Some, slice_get, flat_map, unwrap_or, option_map, if◌then◌else◌, ◌≤ℤ◌}
 use Rattle.linear_formula.specs.LinearSum.{LinearSum}
 use Rattle.linear_formula.specs.Extremes.{IsAsStrong}
 use Rattle.linear_formula.specs.declared.formula.Atom.{Atom}
@@ -7,8 +7,14 @@ use Rattle.linear_formula.specs.declared.extremes.NumberedAtom.{NumberedAtom}
 use Rattle.linear_formula.specs.declared.extremes.ExtremePair.{ExtremePair}
 use Rattle.linear_formula.specs.declared.extremes.Outline.{Outline}
 
+abbrev pub older_of : Outline → List (List ExtremePair)
+older_of o = unwrap_or (option_map (λ a. a.value.items) o.older) []
+
+abbrev pub newest_of : Outline → List ExtremePair
+newest_of o = unwrap_or o.newest []
+
 abbrev pub pairs_of : Outline → List ExtremePair
-pairs_of o = unwrap_or (option_map (λ a. a.value.items) o.pairs) []
+pairs_of o = flat_map (λ l. l) (older_of o) ++ newest_of o
 
 -- a pair of a row with itself counts once
 abbrev pub pair_numbers : ExtremePair → List ℕ
