@@ -7,6 +7,7 @@ use Rattle.linear_formula.specs.Results.{renamed_column}
 use Rattle.linear_formula.specs.Formula.{HoldsAll, is_renamed}
 use Rattle.linear_formula.specs.Replaced.{column_sum}
 use Rattle.linear_formula.specs.declared.formula.Atom.{Atom}
+use Rattle.linear_formula.specs.declared.formula.Cube.{Cube}
 use Rattle.infeasible_cert.specs.Right.{columns_of as named_columns, rows_of}
 use Rattle.flow_graph.specs.Calls.{CallSite}
 use Rattle.flow_graph.specs.Columns.{first_symbol, first_entry, columns_of, rows_name_only, AreValues, AreAllValues}
@@ -17,7 +18,7 @@ use Rattle.summary_form.specs.declared.query.ExitKind.TheVariants as kind
 use Rattle.summary_form.specs.Musts.{values_of}
 use Rattle.summary_form.specs.Symbols.{all_name_only}
 use Rattle.shadow_elim.specs.declared.sum.Sum.{Sum}
-use Rattle.shadow_elim.specs.Sums.{row_sums, rows_of_sums, renaming, equal_sums}
+use Rattle.shadow_elim.specs.Sums.{first_wide, row_sums, rows_of_sums, renaming, equal_sums}
 use Rattle.shadow_elim.specs.Projection.{Projected, summed, projected}
 use Rattle.call_bridge.specs.Calls.{LiesBehind, inner_column}
 
@@ -90,6 +91,13 @@ abbrev pub must_preimage : Path → CallSite → List Atom → Projected
 must_preimage must site target =
     summed (must_sums must site target) (λ others. slotted (replacing [] site.arguments must.entry)
     (must.guard.atoms ++ others))
+
+-- these are the must's rows by slots, and no sum of theirs is too wide
+pub record AreMustRows (must : Path) (site : CallSite) (target : List Atom) (rows : Cube) : Type
+    0 where
+  pub sums : first_wide (must_sums must site target) ≡ None
+  pub slots : first_wide (slot_sums must site.arguments (plain_rows must site target)) ≡ None
+  pub same : rows.atoms ≡ must_rows must site target
 
 -- some run that the must gives leads from the state into the target
 pub record Leads (must : Path) (site : CallSite) (target : List Atom) (s : State)
