@@ -30,6 +30,8 @@ pub mod FirstColumns
 pub mod PairSumsInCode
 pub mod Gathering
 pub mod SameAnswers
+pub mod ProjectedExtremes
+pub mod ByParts
 pub mod Putting
 pub mod Narrowing
 pub mod BranchTable

@@ -9,7 +9,7 @@ use Rattle.std.proofs.lemmas.Option.{slice_get_within, get_or_from_slice_get, sl
 use Rattle.std.proofs.Math.Seq.{get_or-append_seam}
 use Rattle.linear_formula.specs.LinearSum.{LinearSum, is_within}
 use Rattle.linear_formula.specs.Formula.{are_terms}
-use Rattle.linear_formula.specs.Extremes.{AreExtremes, HaveNumbers, IsBetween}
+use Rattle.linear_formula.specs.Extremes.{AreExtremes, AreOuter, HaveNumbers, IsBetween}
 use Rattle.linear_formula.specs.declared.formula.Atom.{Atom}
 use Rattle.linear_formula.specs.declared.formula.Cube.{Cube}
 use Rattle.infeasible_cert.specs.Right.{columns_of, rows_of, range_rows, at_most, at_least}
@@ -75,7 +75,7 @@ enclose_append rows others more e = record {
     below = at-least-itself t;
   }
 
-enclosed_width : (x : ℕ) (rows others : List LinearSum) → Enclose rows others → SameWidth x rows others
+pub enclosed_width : (x : ℕ) (rows others : List LinearSum) → Enclose rows others → SameWidth x rows others
 enclosed_width x rows others e =
     tests-same _ _ (λ w. within-all x others (λ u l p. within w u l p)) (width-among x others rows e.some_of) where
       sum_within : list_all is_within (pair_sums x rows) ≡ true → (s r : LinearSum) → Among s rows → Among r rows →
@@ -108,7 +108,7 @@ enclosed_outcome columns rows others e =
 
 -- Extreme rows
 
-numbered_among : (ns : List ℕ) (rows all : List Atom) (a : Atom) → HaveNumbers ns rows all → Among a rows → Among a all
+pub numbered_among : (ns : List ℕ) (rows all : List Atom) (a : Atom) → HaveNumbers ns rows all → Among a rows → Among a all
 numbered_among [] [] all a h k = absurd k
 numbered_among [] (r ∷ rows) all a h k = absurd h
 numbered_among (n ∷ ns) [] all a h k = absurd k
@@ -117,7 +117,7 @@ numbered_among (n ∷ ns) (r ∷ rows) all a h (inl e) =
     (contains-among all r (n, slice_get_within all n r h.0, get_or_from_slice_get all n r r h.0))
 numbered_among (n ∷ ns) (r ∷ rows) all a h (inr k) = numbered_among ns rows all a h.1 k
 
-between_among : (rows all : List Atom) (a : Atom) → All (λ b. IsBetween rows b.term) all → Among a all → IsBetween rows a.term
+pub between_among : (rows all : List Atom) (a : Atom) → All (λ b. IsBetween rows b.term) all → Among a all → IsBetween rows a.term
 between_among rows [] a h k = absurd k
 between_among rows (b ∷ all) a h (inl e) =
     subst (λ (c : Atom). IsBetween rows c.term) e (All-head (λ (c : Atom). IsBetween rows c.term) b all h)
@@ -305,10 +305,17 @@ pub found_extremes : (ns : List ℕ) (rows all : List Atom) (values : List (ℕ 
     solution rows ≡ found values → solution all ≡ found values
 found_extremes ns rows all values e h = subst (λ (s : Search). Follows s (solution all)) h (solution_follows ns rows all e)
 
+-- for this nothing need be known of the rows' limits
+pub met-outer : (rows all : List Atom) → AreOuter rows all → IsMet rows → IsMet all
+met-outer rows all o h = (h.0, found_extremes o.numbers rows all h.0 o.extremes h.1)
+
+pub never-outer : (rows all : List Atom) → AreOuter rows all → IsNever rows → IsNever all
+never-outer rows all o h = (f.0, f.1) where
+  f : Follows (nothing h.0) (solution all)
+  f = subst (λ (s : Search). Follows s (solution all)) h.1 (solution_follows o.numbers rows all o.extremes)
+
 pub met-extremes : (ns : List ℕ) (rows all : List Atom) → AreExtremes ns rows all → IsTrue (are_terms all) → IsMet rows → IsMet all
-met-extremes ns rows all e t h = (h.0, found_extremes ns rows all h.0 e h.1)
+met-extremes ns rows all e t h = met-outer rows all (record { numbers = ns; extremes = e }) h
 
 pub never-extremes : (ns : List ℕ) (rows all : List Atom) → AreExtremes ns rows all → IsTrue (are_terms all) → IsNever rows → IsNever all
-never-extremes ns rows all e t h = (f.0, f.1) where
-  f : Follows (nothing h.0) (solution all)
-  f = subst (λ (s : Search). Follows s (solution all)) h.1 (solution_follows ns rows all e)
+never-extremes ns rows all e t h = never-outer rows all (record { numbers = ns; extremes = e }) h

@@ -44,7 +44,7 @@ wide-one x rows u l p w = by_value (list_all is_within (pair_sums x rows)) refl 
   by_value true e = absurd (w (all-among is_within (pair_sums x rows) (pair_sum x (u, l)) e there))
   by_value false e = refl
 
-le_yes : (n m : ℕ) → n ≤ m → nat_le n m ≡ true
+pub le_yes : (n m : ℕ) → n ≤ m → nat_le n m ≡ true
 le_yes n m h = grind (arith, nat_tests)
 
 le_no : (n m : ℕ) → m < n → nat_le n m ≡ false

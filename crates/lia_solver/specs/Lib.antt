@@ -1,3 +1,4 @@
 pub mod Answers
+pub mod ByParts
 pub mod Entailment
 pub mod steps
