@@ -1,5 +1,5 @@
 //! The step over an edge that is no call, by the extreme rows of cubes that have many. What is told
-//! of them is told of all rows, and takes no longer as the cubes grow.
+//! of them is told of all rows.
 
 ghost use Rattle.std.specs.Prelude.{◌≡◌, ◌∷◌, ◌++◌, ◌+◌, ◌-◌, [], List, ℕ, length, false, IfOk, IfSome};
 ghost use Rattle.std.specs.List.{range_with_len};
@@ -105,7 +105,7 @@ fn read_extremes(
 }
 
 /// The extreme rows of the guard, the query's start and a cube at the trail's end.
-fn rows_seen(
+pub(crate) fn rows_seen(
     alloc: Global,
     query: &Query,
     trail: &Trail,

@@ -53,7 +53,7 @@ impl Model for KnownPreimage {
 }
 
 /// Whether the musts differ in nothing that a preimage reads.
-fn are_alike(left: &Path, right: &Path) -> bool
+pub(crate) fn are_alike(left: &Path, right: &Path) -> bool
     ensures { IsTrue result → AreAlike left.now right.now }
 {
     left.exit == right.exit
@@ -81,7 +81,7 @@ impl KnownPreimage {
     }
 }
 
-fn copied(alloc: Global, slots: &[Slot]) -> Result<Slots, OutOfMemory>
+pub(crate) fn copied(alloc: Global, slots: &[Slot]) -> Result<Slots, OutOfMemory>
     ensures { IfOk result (λ s. s ≡ slots.now) }
 {
     let mut items = Vec::with_capacity(alloc, slots.len())?;
