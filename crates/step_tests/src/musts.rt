@@ -208,7 +208,7 @@ fn said_of(
     turn: &Turn,
 ) -> Result<Seen, Fail> {
     let must = path_of(alloc, &turn.says)?;
-    let said = by_must(alloc, memos, &calling(scene, exit), &must)?;
+    let said = by_must(alloc, memos, &calling(scene, exit), 0, &must)?;
     Ok(seen_by_must(&said, turn.rows))
 }
 
@@ -330,6 +330,61 @@ const FOUR_TIMES: Says = Says {
     ..ONCE
 };
 
+/// An argument of at most 9, and two more symbols, each one less than the one before, in 37 rows.
+const DEEP_ROWS: &[Row] = &[
+    (&[(1, 30_000)], -9),
+    (&[(1, 30_000), (-1, 30_001)], -1),
+    (&[(-1, 30_000), (1, 30_001)], 1),
+    (&[(1, 30_001), (-1, 30_002)], -1),
+    (&[(-1, 30_001), (1, 30_002)], 1),
+    (&[(1, 30_002)], -100),
+    (&[(1, 30_002)], -101),
+    (&[(1, 30_002)], -102),
+    (&[(1, 30_002)], -103),
+    (&[(1, 30_002)], -104),
+    (&[(1, 30_002)], -105),
+    (&[(1, 30_002)], -106),
+    (&[(1, 30_002)], -107),
+    (&[(1, 30_002)], -108),
+    (&[(1, 30_002)], -109),
+    (&[(1, 30_002)], -110),
+    (&[(1, 30_002)], -111),
+    (&[(1, 30_002)], -112),
+    (&[(1, 30_002)], -113),
+    (&[(1, 30_002)], -114),
+    (&[(1, 30_002)], -115),
+    (&[(1, 30_002)], -116),
+    (&[(1, 30_002)], -117),
+    (&[(1, 30_002)], -118),
+    (&[(1, 30_002)], -119),
+    (&[(1, 30_002)], -120),
+    (&[(1, 30_002)], -121),
+    (&[(1, 30_002)], -122),
+    (&[(1, 30_002)], -123),
+    (&[(1, 30_002)], -124),
+    (&[(1, 30_002)], -125),
+    (&[(1, 30_002)], -126),
+    (&[(1, 30_002)], -127),
+    (&[(1, 30_002)], -128),
+    (&[(1, 30_002)], -129),
+    (&[(1, 30_002)], -130),
+    (&[(1, 30_002)], -131),
+];
+
+/// It returns 7 and has many rows.
+const DEEP: Says = Says {
+    symbols: 3,
+    guard: DEEP_ROWS,
+    outcome: &[(&[], 7)],
+    ..ONCE
+};
+
+/// It returns four times its argument and 1, by its last symbol.
+const DEEP_FOUR_TIMES: Says = Says {
+    outcome: &[(&[(4, 30_002)], 9)],
+    ..DEEP
+};
+
 const FAILING: Says = Says {
     exit: ExitKind::Fail(7),
     outcome: &[],
@@ -431,10 +486,35 @@ fn a_must_serves_or_not(rt: HostRuntime) -> Result<(), Fail> {
     Ok(())
 }
 
+/// Musts with many rows, of which more is kept than the answers.
+const DEEP_TURNS: &[Turn] = &[
+    // nothing leads through
+    Turn {
+        case: NEITHER,
+        says: DEEP,
+        rows: &[],
+        seen: Seen::Neither,
+    },
+    // no integer returns 7; the target's rows name a symbol
+    Turn {
+        case: COMES,
+        says: DEEP_FOUR_TIMES,
+        rows: &[],
+        seen: Seen::Neither,
+    },
+    // it returns 7 at a point of four symbols
+    Turn {
+        case: PARTS,
+        says: DEEP,
+        rows: &[],
+        seen: Seen::Other,
+    },
+];
+
 /// How many of the musts say what they are to, where all are asked in turn.
-fn right_turns(alloc: Global, memos: &mut Memos) -> Result<u32, Fail> {
+fn right_turns(alloc: Global, memos: &mut Memos, turns: &[Turn]) -> Result<u32, Fail> {
     let mut right: u32 = 0;
-    for turn in TURNS {
+    for turn in turns {
         if said_with(alloc, memos, turn)? == turn.seen {
             right = right.wrapping_add(1);
         }
@@ -446,9 +526,19 @@ fn right_turns(alloc: Global, memos: &mut Memos) -> Result<u32, Fail> {
 #[test]
 fn what_is_remembered_says_the_same(rt: HostRuntime) -> Result<(), Fail> {
     let mut memos = Memos::new(rt.alloc())?;
-    let first = right_turns(rt.alloc(), &mut memos)?;
-    let second = right_turns(rt.alloc(), &mut memos)?;
+    let first = right_turns(rt.alloc(), &mut memos, TURNS)?;
+    let second = right_turns(rt.alloc(), &mut memos, TURNS)?;
     assert!(rt; (first, second) == (9, 9));
+    Ok(())
+}
+
+/// Musts with many rows, each under the same number and thus in the place of the one before.
+#[test]
+fn what_is_kept_of_musts_says_the_same(rt: HostRuntime) -> Result<(), Fail> {
+    let mut memos = Memos::new(rt.alloc())?;
+    let first = right_turns(rt.alloc(), &mut memos, DEEP_TURNS)?;
+    let second = right_turns(rt.alloc(), &mut memos, DEEP_TURNS)?;
+    assert!(rt; (first, second) == (3, 3));
     Ok(())
 }
 

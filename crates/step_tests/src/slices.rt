@@ -3,7 +3,7 @@
 ghost use Rattle.std.specs.Prelude.{[], IfOk};
 ghost use Rattle.step_tests.specs.Ready.{IsReady};
 
-use crate::made::{HALF, NEXT, SEVENTH, WIDE, chain};
+use crate::made::{HALF, MANY_ROWS, NEXT, SEVENTH, WIDE, chain};
 use crate::states::{advanced, begun};
 use flow_graph::graphs::Graphs;
 use punch_step::slice::{SliceEnd, Sliced};
@@ -117,6 +117,9 @@ const MIDDLES: &[Middle] = &[
     (HALF, 12, (5, End::NotMay)),
     // rationals meet the rows where no integer does, so the preimage isn't exact
     (SEVENTH, 29, (2, End::Stuck(LimitKind::Inexact))),
+    // with so many rows that their extreme ones are asked first
+    (MANY_ROWS, 5, (3, End::Must)),
+    (MANY_ROWS, 6, (5, End::NotMay)),
 ];
 
 fn sliced_over(alloc: Global, middle: &Middle) -> Result<Made, Fail> {
