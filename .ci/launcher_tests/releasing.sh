@@ -111,6 +111,11 @@ gates() {
     is 'a gate that builds other bytes: status' "$status" 1
     has 'a gate that builds other bytes' "$out" "isn't release/smash-x86_64-linux"
     has 'a gate that builds other bytes: what failed' "$out" 'run: failed: release'
+    echo 'kit 2' > "$room/kit/KIT-ID"
+    ci run
+    is 'a gate by another kit: status' "$status" 0
+    has 'a gate by another kit' "$out" 'it has other bytes'
+    echo 'kit 1' > "$room/kit/KIT-ID"
     rm "$room/kit/bin/other"
     echo '# more' >> "$here/release/smash-x86_64-linux"
     ci run
