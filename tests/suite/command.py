@@ -1,0 +1,173 @@
+"""The command ./test."""
+import argparse
+import concurrent.futures
+import os
+import signal
+import subprocess
+import sys
+from collections.abc import Iterable, Sequence
+from pathlib import Path
+from types import FrameType
+
+from suite.cases import Case, Outcome, Setting
+from suite.children import Children
+from suite.examples import example_cases
+from suite.folders import folder_cases
+from suite.labelled import labelled_cases
+from suite.refused import refused_cases
+from suite.rows import row_cases
+from suite.tally import Tally, check_floors, said
+
+# The status where there is no program to test, as the launcher has it.
+NO_PROGRAM = 70
+USAGE = "Tests smash: worked rows, examples, refused sources and labelled programs."
+MORE = """The last line is `N passed, N failed`, and the status 0 where nothing failed. Without --program it tests the
+program that ./smash would run; where there is none, the status is 70. tests/README.md says what is tested."""
+
+
+class Interrupted(Exception):
+    """A signal asks for an end."""
+
+
+def main(top: Path, arguments: Sequence[str]) -> int:
+    """Runs the tests, and returns the status."""
+    words = words_of(arguments)
+    children = Children()
+    listen()
+    try:
+        program = program_of(top, words.program)
+        if program is None:
+            return NO_PROGRAM
+        setting = Setting(top, program, words.graphs, words.limit, children)
+        return tested(setting, words)
+    except Interrupted as fault:
+        return int(fault.args[0]) + 128
+    finally:
+        deafen()
+        children.stop()
+
+
+def words_of(arguments: Sequence[str]) -> argparse.Namespace:
+    """Reads the words of the command line."""
+    parser = argparse.ArgumentParser(prog="test", description=USAGE, epilog=MORE)
+    parser.add_argument("--program", metavar="PATH", help="the program to test")
+    parser.add_argument("--graphs", metavar="PATH", help="the program that prints graphs, for the folders of tests/ that need it")
+    parser.add_argument("--jobs", metavar="N", type=positive, default=len(os.sched_getaffinity(0)), help="so many programs at once")
+    parser.add_argument("--only", metavar="TEXT", default="", help="only cases whose name contains this, such as rows/lock")
+    parser.add_argument("--limit", metavar="SECONDS", type=positive, default=120, help="for each run of the program (120)")
+    parser.add_argument("--all", action="store_true", help="then the gate from nothing: all proofs and tests, an hour or more")
+    return parser.parse_args(arguments)
+
+
+def positive(text: str) -> int:
+    """A number from 1 on."""
+    if int(text) < 1:
+        raise ValueError(text)
+    return int(text)
+
+
+def listen() -> None:
+    """Makes signals end the tests, unless they are ignored, as under nohup."""
+    for sign in (signal.SIGHUP, signal.SIGINT, signal.SIGTERM):
+        if signal.getsignal(sign) is not signal.SIG_IGN:
+            signal.signal(sign, interrupted)
+
+
+def deafen() -> None:
+    """Lets no further signal disturb the end."""
+    for sign in (signal.SIGHUP, signal.SIGINT, signal.SIGTERM):
+        signal.signal(sign, signal.SIG_IGN)
+
+
+def interrupted(sign: int, _: FrameType | None) -> None:
+    """What a signal does."""
+    raise Interrupted(sign)
+
+
+def program_of(top: Path, given: str | None) -> str | None:
+    """The path of the program to test. Where there is none, standard error says why."""
+    if given is None:
+        asked = subprocess.run([str(top / "smash"), "--which"], stdout=subprocess.PIPE, stdin=subprocess.DEVNULL, text=True, check=False)
+        if asked.returncode != 0:
+            return None
+        given = asked.stdout.removesuffix("\n")
+    path = os.path.abspath(given)
+    if not os.path.isfile(path) or not os.access(path, os.X_OK):
+        print(f"test: {given} isn't a program that can be run", file=sys.stderr)
+        return None
+    return path
+
+
+def tested(setting: Setting, words: argparse.Namespace) -> int:
+    """Runs all cases that are asked for, prints what came of them, and returns the status."""
+    cases = [case for case in all_cases(setting.tests) if words.only in case.name]
+    tally = Tally()
+    for case in cases:
+        tally.passed[case.group] += 0
+    run_cases(cases, setting, words.jobs, tally)
+    show("floors", check_floors(setting.tests, tally))
+    print("\n".join(said(setting.tests, tally)), flush=True)
+    if words.all:
+        run_gate(setting, tally)
+    passed, failed = sum(tally.passed.values()), sum(tally.failed.values())
+    print(f"{passed} passed, {failed} failed", flush=True)
+    return 1 if failed or not passed else 0
+
+
+def all_cases(tests: Path) -> Iterable[Case]:
+    """All cases, group by group."""
+    for cases in (row_cases, example_cases, refused_cases, labelled_cases, folder_cases):
+        yield from cases(tests)
+
+
+def run_cases(cases: Sequence[Case], setting: Setting, jobs: int, tally: Tally) -> None:
+    """Runs cases, several at once and dear ones first, and shows each that fails."""
+    dear = sorted(cases, key=lambda case: -case.cost)
+    with concurrent.futures.ThreadPoolExecutor(jobs) as pool:
+        running = {pool.submit(judged, case, setting): case for case in dear}
+        try:
+            for done, future in enumerate(concurrent.futures.as_completed(running), 1):
+                case, outcome = running[future], future.result()
+                tally.add(case, outcome)
+                show(case.name, outcome.faults)
+                progress(done, len(cases))
+        except BaseException:
+            deafen()
+            pool.shutdown(wait=False, cancel_futures=True)
+            setting.children.stop()
+            raise
+
+
+def judged(case: Case, setting: Setting) -> Outcome:
+    """What comes of a case. A program that the system can't run is a fault of each."""
+    try:
+        return case.judge(setting)
+    except (OSError, ValueError) as fault:
+        return Outcome([f"can't be tested: {fault}"])
+
+
+def show(name: str, faults: Sequence[str]) -> None:
+    """Prints what is wrong with a case."""
+    if faults:
+        text = "\n".join(faults).replace("\n", "\n  ")
+        print(f"FAILED {name}\n  {text}", flush=True)
+
+
+def progress(done: int, count: int) -> None:
+    """Says on a terminal how many cases are done."""
+    if sys.stderr.isatty():
+        print(f"\r{done} of {count}" if done < count else "\r\033[K", end="", file=sys.stderr, flush=True)
+
+
+def run_gate(setting: Setting, tally: Tally) -> None:
+    """Runs the gate, if all tests passed, and counts it."""
+    if any(tally.failed.values()):
+        print("the gate isn't run, since tests failed", flush=True)
+        return
+    try:
+        status = setting.children.follow(["rt", "ci"], setting.top)
+    except FileNotFoundError:
+        print("FAILED gate\n  rt, the kit's command that proves and builds, isn't on the path", flush=True)
+        status = None
+    tally.count("gate", status == 0)
+
