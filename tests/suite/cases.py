@@ -11,11 +11,11 @@ SHOWN = 12
 
 @dataclass(frozen=True)
 class Setting:
-    """The program at hand, and how it is run."""
+    """The program at hand, and how it is run. The path of the program that prints graphs is empty where none is given."""
 
     top: Path
     program: str
-    graphs: str | None
+    graphs: str
     limit: float
     children: Children
 

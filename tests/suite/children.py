@@ -1,9 +1,9 @@
 """Runs programs with a limit of seconds, several at once, and leaves none behind."""
-import contextlib
 import os
 import signal
 import subprocess
 import threading
+import time
 from collections.abc import Sequence
 from dataclasses import dataclass
 from pathlib import Path
@@ -80,18 +80,26 @@ def end_groups(children: Sequence[subprocess.Popen[bytes]]) -> None:
     """Asks the groups of these programs to end, and ends what is left of them a little later."""
     for child in children:
         tell(child, signal.SIGTERM)
-    for child in children:
-        with contextlib.suppress(subprocess.TimeoutExpired):
-            child.wait(GRACE)
+    until = time.monotonic() + GRACE
+    while time.monotonic() < until and any(is_left(child) for child in children):
+        time.sleep(0.02)
     for child in children:
         tell(child, signal.SIGKILL)
         child.wait()
 
 
-def tell(child: subprocess.Popen[bytes], sign: signal.Signals) -> None:
-    """Sends a signal to the group of a program, if there is one left."""
-    with contextlib.suppress(ProcessLookupError, PermissionError):
+def is_left(child: subprocess.Popen[bytes]) -> bool:
+    """Whether a program is running, or another one of its group."""
+    return child.poll() is None or tell(child, 0)
+
+
+def tell(child: subprocess.Popen[bytes], sign: int) -> bool:
+    """Sends a signal to the group of a program, and says whether there is one left."""
+    try:
         os.killpg(child.pid, sign)
+    except (ProcessLookupError, PermissionError):
+        return False
+    return True
 
 
 def rest_of(child: subprocess.Popen[bytes]) -> tuple[bytes, bytes]:

@@ -9,7 +9,7 @@ from collections.abc import Iterable, Sequence
 from pathlib import Path
 from types import FrameType
 
-from suite.cases import Case, Outcome, Setting
+from suite.cases import Case, Outcome, Setting, difference
 from suite.children import Children
 from suite.examples import example_cases
 from suite.folders import folder_cases
@@ -36,10 +36,10 @@ def main(top: Path, arguments: Sequence[str]) -> int:
     listen()
     try:
         program = program_of(top, words.program)
-        if program is None:
+        graphs = runnable(words.graphs) if words.graphs else ""
+        if program is None or graphs is None:
             return NO_PROGRAM
-        setting = Setting(top, program, words.graphs, words.limit, children)
-        return tested(setting, words)
+        return tested(Setting(top, program, graphs, words.limit, children), words)
     except Interrupted as fault:
         return int(fault.args[0]) + 128
     finally:
@@ -80,33 +80,44 @@ def deafen() -> None:
 
 
 def interrupted(sign: int, _: FrameType | None) -> None:
-    """What a signal does."""
+    """What the first signal does. Further ones don't disturb the end."""
+    deafen()
     raise Interrupted(sign)
 
 
 def program_of(top: Path, given: str | None) -> str | None:
-    """The path of the program to test. Where there is none, standard error says why."""
-    if given is None:
-        asked = subprocess.run([str(top / "smash"), "--which"], stdout=subprocess.PIPE, stdin=subprocess.DEVNULL, text=True, check=False)
-        if asked.returncode != 0:
-            return None
-        given = asked.stdout.removesuffix("\n")
-    path = os.path.abspath(given)
-    if not os.path.isfile(path) or not os.access(path, os.X_OK):
-        print(f"test: {given} isn't a program that can be run", file=sys.stderr)
+    """The path of the program to test: the one that is given, or that the launcher would run. Where there is none,
+    standard error says why."""
+    if given is not None:
+        return runnable(given)
+    launcher = runnable(str(top / "smash"))
+    if launcher is None:
         return None
-    return path
+    asked = subprocess.run([launcher, "--which"], stdout=subprocess.PIPE, stdin=subprocess.DEVNULL, text=True, check=False)
+    return runnable(asked.stdout.removesuffix("\n")) if asked.returncode == 0 else None
+
+
+def runnable(given: str) -> str | None:
+    """The whole path of a program. Where it can't be run, standard error says so."""
+    path = os.path.abspath(given)
+    if os.path.isfile(path) and os.access(path, os.X_OK):
+        return path
+    print(f"test: {given} isn't a program that can be run", file=sys.stderr)
+    return None
 
 
 def tested(setting: Setting, words: argparse.Namespace) -> int:
     """Runs all cases that are asked for, prints what came of them, and returns the status."""
     cases = [case for case in all_cases(setting.tests) if words.only in case.name]
+    if not cases:
+        print(f"test: no case has a name with '{words.only}'", file=sys.stderr)
     tally = Tally()
     for case in cases:
         tally.passed[case.group] += 0
     run_cases(cases, setting, words.jobs, tally)
     show("floors", check_floors(setting.tests, tally))
-    print("\n".join(said(setting.tests, tally)), flush=True)
+    for line in said(setting.tests, tally):
+        print(line, flush=True)
     if words.all:
         run_gate(setting, tally)
     passed, failed = sum(tally.passed.values()), sum(tally.failed.values())
@@ -124,8 +135,8 @@ def run_cases(cases: Sequence[Case], setting: Setting, jobs: int, tally: Tally) 
     """Runs cases, several at once and dear ones first, and shows each that fails."""
     dear = sorted(cases, key=lambda case: -case.cost)
     with concurrent.futures.ThreadPoolExecutor(jobs) as pool:
-        running = {pool.submit(judged, case, setting): case for case in dear}
         try:
+            running = {pool.submit(judged, case, setting): case for case in dear}
             for done, future in enumerate(concurrent.futures.as_completed(running), 1):
                 case, outcome = running[future], future.result()
                 tally.add(case, outcome)
@@ -166,8 +177,9 @@ def run_gate(setting: Setting, tally: Tally) -> None:
         return
     try:
         status = setting.children.follow(["rt", "ci"], setting.top)
+        show("gate", difference("status of rt ci", 0, status))
     except FileNotFoundError:
-        print("FAILED gate\n  rt, the kit's command that proves and builds, isn't on the path", flush=True)
         status = None
+        show("gate", ["rt, the kit's command that proves and builds, isn't on the path"])
     tally.count("gate", status == 0)
 
