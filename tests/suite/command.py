@@ -14,6 +14,7 @@ from suite.children import Children
 from suite.examples import example_cases
 from suite.folders import folder_cases
 from suite.labelled import labelled_cases
+from suite.pages import page_cases
 from suite.refused import refused_cases
 from suite.rows import row_cases
 from suite.tally import Tally, check_floors, said
@@ -35,11 +36,8 @@ def main(top: Path, arguments: Sequence[str]) -> int:
     children = Children()
     listen()
     try:
-        program = program_of(top, words.program)
-        graphs = runnable(words.graphs) if words.graphs else ""
-        if program is None or graphs is None:
-            return NO_PROGRAM
-        return tested(Setting(top, program, graphs, words.limit, children), words)
+        programs = programs_of(top, words)
+        return NO_PROGRAM if programs is None else tested(Setting(top, *programs, words.limit, children), words)
     except Interrupted as fault:
         return int(fault.args[0]) + 128
     finally:
@@ -85,15 +83,25 @@ def interrupted(sign: int, _: FrameType | None) -> None:
     raise Interrupted(sign)
 
 
-def program_of(top: Path, given: str | None) -> str | None:
-    """The path of the program to test: the one that is given, or that the launcher would run. Where there is none,
-    standard error says why."""
-    if given is not None:
-        return runnable(given)
+def programs_of(top: Path, words: argparse.Namespace) -> tuple[str, str] | None:
+    """The paths of the program to test and of the one that prints graphs: those that are given, or that the launcher would
+    run. The second is empty where there is none. Where the first can't be had, standard error says why."""
+    graphs = runnable(words.graphs) if words.graphs else ""
+    if words.program:
+        program = runnable(words.program)
+    else:
+        program = of_launcher(top, None)
+        graphs = graphs or of_launcher(top, subprocess.DEVNULL, "graphs") or ""
+    return None if program is None or graphs is None else (program, graphs)
+
+
+def of_launcher(top: Path, errors: int | None, *words: str) -> str | None:
+    """What the launcher would run, if it says that there is one."""
     launcher = runnable(str(top / "smash"))
     if launcher is None:
         return None
-    asked = subprocess.run([launcher, "--which"], stdout=subprocess.PIPE, stdin=subprocess.DEVNULL, text=True, check=False)
+    command = [launcher, "--which", *words]
+    asked = subprocess.run(command, stdin=subprocess.DEVNULL, stdout=subprocess.PIPE, stderr=errors, text=True, check=False)
     return runnable(asked.stdout.removesuffix("\n")) if asked.returncode == 0 else None
 
 
@@ -129,6 +137,7 @@ def all_cases(tests: Path) -> Iterable[Case]:
     """All cases, group by group."""
     for cases in (row_cases, example_cases, refused_cases, labelled_cases, folder_cases):
         yield from cases(tests)
+    yield from page_cases(tests.parent)
 
 
 def run_cases(cases: Sequence[Case], setting: Setting, jobs: int, tally: Tally) -> None:
