@@ -51,7 +51,7 @@ def words_of(arguments: Sequence[str]) -> argparse.Namespace:
     parser.add_argument("--program", metavar="PATH", help="the program to test")
     parser.add_argument("--graphs", metavar="PATH", help="the program that prints graphs, for the folders of tests/ that need it")
     parser.add_argument("--jobs", metavar="N", type=positive, default=len(os.sched_getaffinity(0)), help="so many programs at once")
-    parser.add_argument("--only", metavar="TEXT", default="", help="only cases whose name contains this, such as rows/lock")
+    parser.add_argument("--only", metavar="TEXT", action="append", help="only cases whose name contains this, as rows/lock; also twice")
     parser.add_argument("--limit", metavar="SECONDS", type=positive, default=120, help="for each run of the program (120)")
     parser.add_argument("--all", action="store_true", help="then the gate from nothing: all proofs and tests, an hour or more")
     return parser.parse_args(arguments)
@@ -86,13 +86,12 @@ def interrupted(sign: int, _: FrameType | None) -> None:
 def programs_of(top: Path, words: argparse.Namespace) -> tuple[str, str] | None:
     """The paths of the program to test and of the one that prints graphs: those that are given, or that the launcher would
     run. The second is empty where there is none. Where the first can't be had, standard error says why."""
-    graphs = runnable(words.graphs) if words.graphs else ""
     if words.program:
-        program = runnable(words.program)
+        program, graphs = runnable(words.program), ""
     else:
-        program = of_launcher(top, None)
-        graphs = graphs or of_launcher(top, subprocess.DEVNULL, "graphs") or ""
-    return None if program is None or graphs is None else (program, graphs)
+        program, graphs = of_launcher(top, None), of_launcher(top, subprocess.DEVNULL, "graphs") or ""
+    given = runnable(words.graphs) if words.graphs else graphs
+    return None if program is None or given is None else (program, given)
 
 
 def of_launcher(top: Path, errors: int | None, *words: str) -> str | None:
@@ -116,9 +115,10 @@ def runnable(given: str) -> str | None:
 
 def tested(setting: Setting, words: argparse.Namespace) -> int:
     """Runs all cases that are asked for, prints what came of them, and returns the status."""
-    cases = [case for case in all_cases(setting.tests) if words.only in case.name]
+    wanted = words.only or [""]
+    cases = [case for case in all_cases(setting.tests) if any(text in case.name for text in wanted)]
     if not cases:
-        print(f"test: no case has a name with '{words.only}'", file=sys.stderr)
+        print(f"test: no case has a name with '{' or '.join(wanted)}'", file=sys.stderr)
     tally = Tally()
     for case in cases:
         tally.passed[case.group] += 0
