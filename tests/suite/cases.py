@@ -1,4 +1,4 @@
-"""Cases, what came of them, and what all of them are judged with."""
+"""Cases, their outcomes, and the setting in which they are judged."""
 from collections.abc import Callable, Sequence
 from dataclasses import dataclass, field
 from pathlib import Path
@@ -31,7 +31,7 @@ class Setting:
 
 @dataclass
 class Outcome:
-    """What came of a case: its faults, and for a labelled program the assertions that were settled and those that were
+    """The outcome of a case: its faults, and for a labelled program the assertions that were settled and those that were
     answered wrongly. A folder of tests has counts of its own."""
 
     faults: list[str] = field(default_factory=list)

@@ -50,7 +50,7 @@ def words_of(arguments: Sequence[str]) -> argparse.Namespace:
     parser = argparse.ArgumentParser(prog="test", description=USAGE, epilog=MORE)
     parser.add_argument("--program", metavar="PATH", help="the program to test")
     parser.add_argument("--graphs", metavar="PATH", help="the program that prints graphs, for the folders of tests/ that need it")
-    parser.add_argument("--jobs", metavar="N", type=positive, default=len(os.sched_getaffinity(0)), help="so many programs at once")
+    parser.add_argument("--jobs", metavar="N", type=positive, default=len(os.sched_getaffinity(0)), help="how many programs run at once (one for each processor)")
     parser.add_argument("--only", metavar="TEXT", action="append", help="only cases whose name contains this, as rows/lock; also twice")
     parser.add_argument("--limit", metavar="SECONDS", type=positive, default=120, help="for each run of the program (120)")
     parser.add_argument("--all", action="store_true", help="then the gate from nothing: all proofs and tests, an hour or more")
@@ -114,7 +114,7 @@ def runnable(given: str) -> str | None:
 
 
 def tested(setting: Setting, words: argparse.Namespace) -> int:
-    """Runs all cases that are asked for, prints what came of them, and returns the status."""
+    """Runs all cases that are asked for, prints their outcomes, and returns the status."""
     wanted = words.only or [""]
     cases = [case for case in all_cases(setting.tests) if any(text in case.name for text in wanted)]
     if not cases:
@@ -150,7 +150,7 @@ def run_cases(cases: Sequence[Case], setting: Setting, jobs: int, tally: Tally) 
                 case, outcome = running[future], future.result()
                 tally.add(case, outcome)
                 show(case.name, outcome.faults)
-                progress(done, len(cases))
+                progress(f"{done} of {len(cases)}" if done < len(cases) else "")
         except BaseException:
             deafen()
             pool.shutdown(wait=False, cancel_futures=True)
@@ -159,7 +159,7 @@ def run_cases(cases: Sequence[Case], setting: Setting, jobs: int, tally: Tally) 
 
 
 def judged(case: Case, setting: Setting) -> Outcome:
-    """What comes of a case. A program that the system can't run is a fault of each."""
+    """The outcome of a case. A program that the system can't run is a fault of each."""
     try:
         return case.judge(setting)
     except (OSError, ValueError) as fault:
@@ -170,13 +170,14 @@ def show(name: str, faults: Sequence[str]) -> None:
     """Prints what is wrong with a case."""
     if faults:
         text = "\n".join(faults).replace("\n", "\n  ")
+        progress("")
         print(f"FAILED {name}\n  {text}", flush=True)
 
 
-def progress(done: int, count: int) -> None:
-    """Says on a terminal how many cases are done."""
+def progress(text: str) -> None:
+    """Puts a text into the last line of a terminal, if standard error is one, in place of what stood there."""
     if sys.stderr.isatty():
-        print(f"\r{done} of {count}" if done < count else "\r\033[K", end="", file=sys.stderr, flush=True)
+        print(f"\r\033[K{text}", end="", file=sys.stderr, flush=True)
 
 
 def run_gate(setting: Setting, tally: Tally) -> None:

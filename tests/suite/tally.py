@@ -1,4 +1,4 @@
-"""Counts what came of the cases, and says it."""
+"""Counts the outcomes of the cases, and makes the lines that are printed of them."""
 from collections import Counter
 from collections.abc import Mapping
 from dataclasses import dataclass, field
@@ -11,7 +11,7 @@ from suite.tables import read_table
 
 @dataclass
 class Tally:
-    """How many passed and failed by group, and what came of the labelled programs by folder."""
+    """How many passed and failed by group, and how many labelled assertions are settled by folder."""
 
     passed: Counter[str] = field(default_factory=Counter)
     failed: Counter[str] = field(default_factory=Counter)
