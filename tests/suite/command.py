@@ -52,7 +52,7 @@ def words_of(arguments: Sequence[str]) -> argparse.Namespace:
     parser.add_argument("--graphs", metavar="PATH", help="the program that prints graphs, for the folders of tests/ that need it")
     parser.add_argument("--jobs", metavar="N", type=positive, default=len(os.sched_getaffinity(0)), help="how many programs run at once (one for each processor)")
     parser.add_argument("--only", metavar="TEXT", action="append", help="only cases whose name contains this, as rows/lock; also twice")
-    parser.add_argument("--limit", metavar="SECONDS", type=positive, default=120, help="for each run of the program (120)")
+    parser.add_argument("--limit", metavar="SECONDS", type=positive, default=300, help="for each run of the program (300)")
     parser.add_argument("--all", action="store_true", help="then the gate from nothing: all proofs and tests, an hour or more")
     return parser.parse_args(arguments)
 
