@@ -1,0 +1,1 @@
+int main() { int x; int y; x = y = 3; }

@@ -1,0 +1,1 @@
+int main() { const int x = 3; }

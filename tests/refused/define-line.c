@@ -1,0 +1,2 @@
+#define N 10
+int main() { return N; }

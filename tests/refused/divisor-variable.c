@@ -1,0 +1,1 @@
+int main() { int x = input(); int y = input(); return x / y; }

@@ -1,0 +1,2 @@
+enum colour { RED, GREEN };
+int main() {}

@@ -1,0 +1,3 @@
+int f() { return 3; }
+int g = f();
+int main() {}

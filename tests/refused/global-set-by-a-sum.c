@@ -1,0 +1,2 @@
+int g = 1 + 1;
+int main() {}

@@ -1,0 +1,3 @@
+int g;
+int g;
+int main() {}

@@ -1,0 +1,2 @@
+int f(int i) { return i; }
+int main() { int i; f(i++); }

@@ -1,0 +1,5 @@
+/* one
+ two */ int main() {
+  // ä
+  return y;
+}

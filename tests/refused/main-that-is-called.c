@@ -1,0 +1,2 @@
+int f() { return main(); }
+int main() {}

@@ -1,0 +1,1 @@
+int main() { x = 1; int x; }

@@ -1,0 +1,1 @@
+int main() { x = 1; return } 

@@ -1,0 +1,2 @@
+void f() {}
+int main() { return 1 + f(); }
