@@ -3,10 +3,11 @@ use Rattle.std.proofs.Common.{◌≡◌, subst, ℕ, ◌+◌, ◌≤◌, List, [
 use Rattle.std.specs.Io.KnownBytes.{Consumes}
 use Rattle.std.proofs.KnownBytes.{Consumes-nil}
 use Rattle.outer_io.specs.Causes.{TookAtMost}
-use Rattle.smash_main.specs.Source.{source_limit}
+use Rattle.source_program.specs.Source.{source_limit}
 use Rattle.smash_main.specs.Analysis.{Witness}
 use Rattle.smash_main.specs.Words.{Command, check, replay, workload, bundle, recheck, sweep, edit}
-use Rattle.smash_main.specs.Run.{Change, limit_of, Obeys, ObeysSource, TakesAtMost}
+use Rattle.smash_main.specs.Run.{limit_of, Obeys, ObeysSource}
+use Rattle.source_program.specs.Ends.{Change, TakesAtMost}
 
 -- nothing is taken from what stays as it was
 pub took_none : (a : Option (List ℕ)) (most : ℕ) → TookAtMost a a most

@@ -22,7 +22,8 @@ use Rattle.smash_main.specs.Answers.{AnswersBundle, IsGood, Settles}
 use Rattle.smash_main.specs.Asked.{replay_status, status_of}
 use Rattle.smash_main.specs.Bundled.{HasFewer, IsBundled, IsRechecked, TellsProof, TellsVerdict, bundle_limit}
 use Rattle.smash_main.specs.Swept.{entries_of, unfound_at}
-use Rattle.smash_main.specs.Run.{Change, EndsWith, EndsWorkload, HasFault, Obeys, ObeysSource, Completes, CompletesSource, IsVerdictStatus}
+use Rattle.smash_main.specs.Run.{EndsWorkload, Obeys, ObeysSource, Completes, CompletesSource, IsVerdictStatus}
+use Rattle.source_program.specs.Ends.{Change, EndsWith, HasFault}
 
 -- what was read whole is all that there was
 whole : (before after : Option (List ℕ)) (all bytes : List ℕ) → before ≡ Some all → Consumes before after bytes → IsAtEnd after →

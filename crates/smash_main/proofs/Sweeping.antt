@@ -79,6 +79,7 @@ swept_is P fine opening gs are edges swept e status text w t = record {
   runs = are.runs;
   arities = same_arities P gs are.bounds;
   bounds = are.bounds;
+  built = are.built;
   swept = swept;
   ends = e;
   decided = swept_decided P fine opening gs are.runs edges swept e;

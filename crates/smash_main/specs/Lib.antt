@@ -5,7 +5,6 @@ pub mod Bundled
 pub mod Bundling
 pub mod Edited
 pub mod Run
-pub mod Source
 pub mod Swept
 pub mod Verdict
 pub mod Words

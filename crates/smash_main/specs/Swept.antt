@@ -3,6 +3,7 @@ use Rattle.std.specs.Prelude.{◌≡◌, ℕ, List, length, map, None, Option, S
 use Rattle.std.specs.List.{list_any}
 use Rattle.c_tree.specs.Meaning.{Reaches}
 use Rattle.c_tree.specs.Syntax.{PureProgram}
+use Rattle.flow_build.specs.Lowered.{AreLowered}
 use Rattle.flow_build.specs.Promises.{AreBounded}
 use Rattle.flow_graph.specs.ProgramGraphs.{SameRuns}
 use Rattle.flow_graph.specs.declared.graph.Graph.{Graph}
@@ -32,7 +33,7 @@ sweep_status others os =
     if list_any is_found_entry os then 1 else
     (if list_any (is_unknown_entry others) os then 2 else 0)
 
--- The sweep of graphs of the program that keep the bounds of what is built. Where all paths were
+-- The sweep of the graphs that the program is lowered to. Where all paths were
 -- counted, no inputs reach an assertion that wasn't found; the inputs of one that was found reach
 -- it.
 pub record IsSwept (P : PureProgram) (edges status : ℕ) (text : List ℕ) (w : Witness) : Type 0 where
@@ -40,6 +41,7 @@ pub record IsSwept (P : PureProgram) (edges status : ℕ) (text : List ℕ) (w :
   pub runs : SameRuns P graphs
   pub arities : SameArities P graphs
   pub bounds : AreBounded P graphs
+  pub built : AreLowered P graphs
   pub swept : Swept
   pub ends : EndsSo graphs P.main (length P.asserts) edges swept
   pub decided : swept.end ≡ how.Whole → (id : ℕ) → slice_get (entries_of swept) id ≡ Some None →

@@ -1,7 +1,6 @@
 //! The checker `smash`: the words of the command line, standard input and standard output.
 #![tactic(auto)]
 
-mod accept;
 mod analysis;
 mod bundles;
 mod bundling;
