@@ -4,6 +4,7 @@ pub mod Asked
 pub mod Bundled
 pub mod Bundling
 pub mod Edited
+pub mod Laws
 pub mod Run
 pub mod Swept
 pub mod Verdict

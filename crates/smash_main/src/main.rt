@@ -8,6 +8,7 @@ mod claiming;
 mod edits;
 mod kept;
 mod killing;
+pub mod laws;
 mod leads;
 mod listing;
 mod making;
