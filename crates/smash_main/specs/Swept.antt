@@ -9,7 +9,7 @@ use Rattle.flow_graph.specs.ProgramGraphs.{SameRuns}
 use Rattle.flow_graph.specs.declared.graph.Graph.{Graph}
 use Rattle.summary_form.specs.ProgramGraphs.{SameArities}
 use Rattle.shadow_elim.specs.LimitKinds.{kind_of}
-use Rattle.path_sweep.specs.Ends.{EndsSo}
+use Rattle.path_sweep.specs.Ends.{ComesWhole, EndsSo, HasRightLimit}
 use Rattle.path_sweep.specs.declared.swept.SweepEnd.{SweepEnd}
 use Rattle.path_sweep.specs.declared.swept.SweepEnd.TheVariants as how
 use Rattle.path_sweep.specs.declared.swept.Swept.{Swept}
@@ -44,6 +44,8 @@ pub record IsSwept (P : PureProgram) (edges status : ℕ) (text : List ℕ) (w :
   pub built : AreLowered P graphs
   pub swept : Swept
   pub ends : EndsSo graphs P.main (length P.asserts) edges swept
+  pub whole : ComesWhole graphs P.main edges swept.end
+  pub right : HasRightLimit swept.end
   pub decided : swept.end ≡ how.Whole → (id : ℕ) → slice_get (entries_of swept) id ≡ Some None →
       (ins : List ℤ) → ¬ Reaches P id ins
   pub reached : (id : ℕ) (ins : List ℤ) → slice_get (entries_of swept) id ≡ Some (Some ins) →
