@@ -2,6 +2,10 @@
 
 use super::tables::{DEEP, Row, SUM};
 
+/// A coefficient that is too wide.
+const WIDE: &str =
+    "int main(){ int x = input(); assert(2199023255552 * x != 2199023255552); return 0; }";
+
 pub const AFTERWARDS: &[Row] = &[
     // an assertion three calls deep
     (
@@ -65,6 +69,17 @@ pub const AFTERWARDS: &[Row] = &[
         "int main(){ assert(input()); }",
         "1 1:13: found [0]\n",
     ),
+    (
+        "bundle|1|--budget|1",
+        SUM,
+        "2 1:35: unknown (budget 1 spent)\n",
+    ),
+    ("bundle|1", WIDE, "2 1:30: unknown (solver limit: wide)\n"),
+    (
+        "sweep",
+        WIDE,
+        "2 1:30: unknown (solver limit: wide)\nsummary: 0 proved, 0 found, 1 unknown\n",
+    ),
     ("bundle|2", SUM, "3 refused: no such assertion\n"),
     ("bundle|1", "", "3 refused 1:1: no main\n"),
     // a source twice, and one that is changed
@@ -100,7 +115,25 @@ pub const AFTERWARDS: &[Row] = &[
         "int main(){ return 0;int main(){ int x = 3; x = x + 4; assert(x == 7); return 0; }",
         "3 old: refused 1:22: unexpected end of file\n",
     ),
+    (
+        "edit|21",
+        "int main(){ return 0;int",
+        "3 old: refused 1:22: unexpected end of file\n",
+    ),
     ("edit|61", SUM, "3 refused 1:1: no main\n"),
+];
+
+/// Words, a text, and what is written of it where its first read fails, and where there is room for
+/// three bytes.
+pub const FAULTY: &[Row] = &[
+    ("bundle|1", SUM, "5 ; 6 sma"),
+    ("sweep", SUM, "5 ; 6 1:3"),
+    (
+        "edit|61",
+        "int main(){ int x = 3; x = x + 4; assert(x == 7); return 0; }int main(){ int x = 3; x = x + 4; assert(x == 7); return 0; }",
+        "5 ; 6 1:3",
+    ),
+    ("recheck", "", "5 ; 6 ref"),
 ];
 
 /// The words that make a bundle, a source, and what is written of the bundle.
