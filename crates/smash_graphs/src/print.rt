@@ -1,12 +1,13 @@
 //! The top call: a source and a sink.
 
-ghost use Rattle.std.specs.Prelude.{◌≡◌, ◌≤◌, ◌⊎◌, IfOk, length};
+ghost use Rattle.std.specs.Prelude.{◌≡◌, ◌≤◌, ◌⊎◌, ℕ, List, IfOk, length};
 ghost use Rattle.c_tree.specs.WellFormed.{DividesByLiterals};
 ghost use Rattle.c_tree.specs.Whole.{program_of};
-ghost use Rattle.report_text.specs.Refused.{too_long_text};
-ghost use Rattle.smash_graphs.specs.Printed.{IsPrinted, Prints, PrintsAll};
+ghost use Rattle.report_text.specs.Refused.{IsOfSource, too_long_text};
+ghost use Rattle.smash_graphs.specs.Printed.{IsPrinted, IsTurnedDown, Prints, PrintsAll};
 ghost use Rattle.smash_graphs.specs.steps.Replies.{EndsAsAsked, EndsSilent, IsAsked, IsSettled};
-ghost use Rattle.source_program.specs.Ends.{EndsWith, StaysAsItWas, change};
+ghost use Rattle.source_program.specs.Ends.{EndsWith, change};
+ghost use Rattle.source_program.specs.Rejections.{IsRefusedFor};
 ghost use Rattle.source_program.specs.Source.{source_limit};
 
 use c_tree::tree::Program;
@@ -36,7 +37,11 @@ fn graphs_of(alloc: Global, program: &Program) -> Result<Reply, AllocError>
 }
 
 /// The refusal of a source.
-fn refused(alloc: Global, why: &Refusal) -> Result<Reply, AllocError> {
+fn refused(alloc: Global, why: &Refusal) -> Result<Reply, AllocError>
+    requires { IsOfSource why.now }
+    ensures { (bytes : List ℕ) → IsRefusedFor bytes why.now → IfOk result
+        (λ r. IsTurnedDown bytes r.status r.text.items) }
+{
     let text = refusal(alloc, why)?;
     Ok(Reply { status: 3, text })
 }

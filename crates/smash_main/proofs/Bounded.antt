@@ -8,13 +8,7 @@ use Rattle.smash_main.specs.Analysis.{Witness}
 use Rattle.smash_main.specs.Words.{Command, check, replay, workload, bundle, recheck, sweep, edit}
 use Rattle.smash_main.specs.Run.{limit_of, Obeys, ObeysSource}
 use Rattle.source_program.specs.Ends.{Change, TakesAtMost}
-
--- nothing is taken from what stays as it was
-pub took_none : (a : Option (List ℕ)) (most : ℕ) → TookAtMost a a most
-took_none a most = (0, omega arith, ([], Consumes-nil a, refl))
-
-pub took_whole : (a b : Option (List ℕ)) (bytes : List ℕ) (most : ℕ) → Consumes a b bytes → length bytes ≤ most → TookAtMost a b (most + 1)
-took_whole a b bytes most h fits = (length bytes, omega (arith, fits), (bytes, h, refl))
+use Rattle.source_program.proofs.Taking.{took_none, took_whole}
 
 source_bounded : (c : Command) (status : ℕ) (source sink : Change) (w : Witness) → ObeysSource c status source sink w →
     TakesAtMost source (limit_of c + 1)

@@ -24,24 +24,7 @@ use Rattle.smash_main.specs.Bundled.{HasFewer, IsBundled, IsRechecked, TellsProo
 use Rattle.smash_main.specs.Swept.{entries_of, unfound_at}
 use Rattle.smash_main.specs.Run.{EndsWorkload, Obeys, ObeysSource, Completes, CompletesSource, IsVerdictStatus}
 use Rattle.source_program.specs.Ends.{Change, EndsWith, HasFault}
-
--- what was read whole is all that there was
-whole : (before after : Option (List ℕ)) (all bytes : List ℕ) → before ≡ Some all → Consumes before after bytes → IsAtEnd after →
-    bytes ≡ all
-whole None after all bytes told h end = absurd (let k = told in cc)
-whole (Some xs) None all bytes told h end = absurd h
-whole (Some xs) (Some ys) all bytes told h end =
-    let same : xs ≡ all = cc in
-    sym (append-nil bytes) ∙ ap (λ z. bytes ++ z) (sym end) ∙ sym h ∙ same
-
--- no more is taken than there was
-at_most : (before after : Option (List ℕ)) (all bytes : List ℕ) → before ≡ Some all → Consumes before after bytes →
-    length bytes ≤ length all
-at_most None after all bytes told h = absurd (let k = told in cc)
-at_most (Some xs) None all bytes told h = absurd h
-at_most (Some xs) (Some ys) all bytes told h =
-    let same : xs ≡ all = cc in
-    omega (arith, length-append bytes ys, ap length h, ap length same)
+use Rattle.source_program.proofs.Taking.{whole, at_most}
 
 three_way : (found unknown : Bool) (status : ℕ) → status ≡ cond found 1 (cond unknown 2 0) → IsVerdictStatus status
 three_way true unknown status h = inr (inl h)

@@ -8,7 +8,7 @@ use Rattle.source_program.specs.Ends.{Change, EndsWith, StaysAsItWas}
 use Rattle.source_program.specs.Source.{IsAccepted}
 use Rattle.smash_main.specs.Words.{Command, check, replay, workload, bundle, recheck, sweep, edit}
 use Rattle.smash_main.specs.steps.Handing.{EndsAsked, EndsSilent}
-use Rattle.smash_main.proofs.Bounded.{took_none}
+use Rattle.source_program.proofs.Taking.{took_none}
 use Rattle.smash_main.proofs.WorkloadAccepted.{workload_accepted}
 
 -- memory ran out, and the source is as it was

@@ -1,5 +1,6 @@
 //! Bundles, sweeps and edits, each with its whole output.
 
+use super::analyses::{EVEN_ODD, REALISTIC};
 use super::tables::{DEEP, Row, SUM};
 
 /// A coefficient that is too wide.
@@ -162,4 +163,14 @@ pub const BUNDLED: &[Row] = &[
         "int main(){ int i = 0; while (input() > 0) { i = 0; } assert(i == 0); return 0; }",
         "0 accepted 1:55\n",
     ),
+    // recursion without an end: no call returns
+    (
+        "bundle|1",
+        "int f(int n) { return f(n); }\nint main() { assert(f(1) == 2); return 0; }\n",
+        "0 accepted 2:14\n",
+    ),
+    ("bundle|1|--budget|20000", EVEN_ODD, "0 accepted 4:37\n"),
+    ("bundle|1|--budget|20000", REALISTIC, "0 accepted 15:3\n"),
+    ("bundle|2|--budget|20000", REALISTIC, "0 accepted 26:3\n"),
+    ("bundle|4|--budget|20000", REALISTIC, "0 accepted 32:3\n"),
 ];

@@ -8,7 +8,8 @@ use Rattle.smash_main.specs.Words.{IsCommand, workload}
 use Rattle.smash_main.specs.Analysis.{handed_by}
 use Rattle.smash_main.specs.steps.Handing.{EndsSilent}
 use Rattle.smash_main.specs.steps.WordsView.{command_of}
-use Rattle.smash_main.proofs.Bounded.{bounded, took_none}
+use Rattle.source_program.proofs.Taking.{took_none}
+use Rattle.smash_main.proofs.Bounded.{bounded}
 use Rattle.smash_main.proofs.Completed.{completes}
 use Rattle.smash_main.proofs.Obeyed.{nothing_read}
 use Rattle.smash_main.proofs.WordsRuns.{some_at}
