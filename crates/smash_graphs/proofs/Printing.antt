@@ -25,7 +25,7 @@ module _ (status : ℕ) (source sink : Change) where
       Prints status source sink
   long_ends took (inl e) = inr (inl (record { taken = took; ends = e }))
   long_ends took (inr m) =
-      inr (inr (inr (record { taken = (source_limit + 1, (omega arith, took)); is_seven = m.is_seven; silent = m.silent })))
+      inr (inr (inr (record { taken = (source_limit + 1, omega arith, took); is_seven = m.is_seven; silent = m.silent })))
 
   -- where nothing fails, what is accepted is printed
   pub completes : Prints status source sink → PrintsAll status source sink
@@ -36,8 +36,8 @@ module _ (status : ℕ) (source sink : Change) where
 
       ended : EndsWith status sink k.due k.text → (status ≡ 0) ⊎ (status ≡ 7)
       ended (inl e) = inl (e.0 ∙ (k.settled P (subst (λ bytes. IsAccepted bytes P) (sym same) accepted)).is_zero)
-      ended (inr e) = absurd (write_well e.1.0)
+      ended (inr e) = absurd (write_well e.1)
   completes (inr (inl l)) all told fits P accepted read_well write_well =
-      absurd (omega (arith, at_most source.before source.after all l.taken.0 told l.taken.1.0, l.taken.1.1, fits))
+      absurd (omega (arith, at_most source.before source.after all l.taken.0 told l.taken.1, l.taken.2, fits))
   completes (inr (inr (inl b))) all told fits P accepted read_well write_well = absurd (read_well b.failed)
   completes (inr (inr (inr m))) all told fits P accepted read_well write_well = inr m.is_seven

@@ -1,3 +1,4 @@
+pub mod Accepting
 pub mod Appending
 pub mod Bounded
 pub mod Bounding

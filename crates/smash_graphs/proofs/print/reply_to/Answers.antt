@@ -6,7 +6,7 @@ use Rattle.smash_graphs.proofs.print.reply_to.Goals as goal
 
 pub returns-in-Ok-clause-asked : goal.returns-in-Ok-clause-asked
 returns-in-Ok-clause-asked c =
-    IfOk-weaker c.graphs_of.result _ _ (λ r h. inr (program_of c.in-Ok.program, (c.in-Ok.ensures.ok, h))) c.graphs_of.ensures
+    IfOk-weaker c.graphs_of.result _ _ (λ r h. inr (program_of c.in-Ok.program, c.in-Ok.ensures.ok, h)) c.graphs_of.ensures
 
 pub returns-in-Ok-clause-settled : goal.returns-in-Ok-clause-settled
 returns-in-Ok-clause-settled c =
