@@ -95,7 +95,7 @@ fn procedure(
 {
     let mut state = State {
         alloc,
-        scopes: Scopes::new(alloc),
+        scopes: Scopes::new(alloc, file.table.seed),
         next: 0,
         id: *id,
     };
