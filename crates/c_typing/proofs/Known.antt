@@ -1,4 +1,4 @@
--- What names mean behind entries, and that it agrees with the scopes.
+-- What names mean after entries, and that it agrees with the scopes.
 use Rattle.std.proofs.Common.{◌≡◌, ℕ, ◌+◌, ◌≤◌, Bool, true, false, ◌==◌, ◌||◌, Bor, List, [], ◌∷◌, ◌++◌, length, Option, Some, None, IsSome, is_some, option_map, Result, Ok, Err, IsOk, OnOk, OnErr, refl, ap, sym, ◌∙◌, subst, arith, bytes_eq, if◌then◌else◌}
 use Rattle.std.proofs.lemmas.Bool.Decides.{nat_tests}
 use Rattle.std.proofs.lemmas.Slice.Eq.{bytes_eq-Decides}
@@ -41,7 +41,7 @@ depth-within d [] = omega arith
 depth-within d (Opens ∷ es) = let h = depth-within (d + 1) es in omega arith
 depth-within d (Declares x slot before ∷ es) = let h = depth-within d es in omega arith
 
--- whether a meaning was declared while so many scopes were open
+-- whether a meaning was declared at this depth of scopes
 abbrev pub is_here : ℕ → Option Meaning → Bool
 is_here d None = false
 is_here d (Some m) = m.depth == d

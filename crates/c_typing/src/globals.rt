@@ -80,7 +80,7 @@ impl<'a> Globals<'a> {
         self.numbers.get(name).copied()
     }
 
-    /// The number of the first global of a name, if it is one of the first so many.
+    /// The number of the first global of a name, if it is one of the first `known`.
     pub fn number_of(&self, name: &str, known: usize) -> Option<usize>
         ensures { result ≡ global_of (take known (global_names (listed self.now.list.items)))
             name.now }

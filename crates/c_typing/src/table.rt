@@ -150,7 +150,7 @@ impl<'a> Table<'a> {
         }
     }
 
-    /// The number of the global of a name, where so many are known.
+    /// The number of the global of a name among the first `known` globals.
     pub fn global_of(&self, name: &str, known: usize) -> Option<usize>
         ensures { result ≡ global_of (take known (names_in self.now.items.now)) name.now }
     {
@@ -168,7 +168,8 @@ impl<'a> Table<'a> {
     }
 }
 
-/// What a procedure sees of its file: all procedures, and so many globals, those before it.
+/// What a procedure sees of its file: all procedures, and the first `globals` globals, which stand
+/// before it.
 #[derive(Clone, Copy)]
 pub struct FileScope<'t, 'a> {
     pub table: &'t Table<'a>,

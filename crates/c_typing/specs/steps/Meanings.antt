@@ -14,19 +14,19 @@ found_in m x = get_by (λ k. bytes_eq x k.now) m
 abbrev pub nothing_known : List ℕ → Option Meaning
 nothing_known x = None
 
--- a name means a slot that was declared while so many scopes were open
+-- a name means a slot that was declared at this depth of scopes
 abbrev pub with_meaning : (List ℕ → Option Meaning) → List ℕ → (slot depth : ℕ) → List ℕ →
     Option Meaning
 with_meaning f x slot depth y = if bytes_eq x y then Some (record { slot = slot; depth = depth })
     else f y
 
--- how many scopes are open behind entries
+-- how many scopes are open after entries
 abbrev pub depth_onto : ℕ → List Entry → ℕ
 depth_onto depth [] = depth
 depth_onto depth (Opens ∷ es) = depth_onto (depth + 1) es
 depth_onto depth (Declares x slot before ∷ es) = depth_onto depth es
 
--- what names mean behind entries
+-- what names mean after entries
 abbrev pub meanings_onto : ℕ → (List ℕ → Option Meaning) → List Entry → List ℕ → Option Meaning
 meanings_onto depth f [] = f
 meanings_onto depth f (Opens ∷ es) = meanings_onto (depth + 1) f es

@@ -46,7 +46,7 @@ IsLonger old new = take (length old.entries.items) new.entries.items ≡ old.ent
 abbrev pub procedures_in : List Item → List ProcedureTree
 procedures_in is = procedures_of (map item_of is)
 
--- behind globals of these names
+-- after globals of these names
 abbrev pub scoped_in : (known : List (List ℕ)) → List Item → List ScopedProcedure
 scoped_in known is = scoped_procedures known (map item_of is)
 
@@ -145,7 +145,7 @@ abbrev pub with_zeros : List Scope → List Identifier → List Scope
 with_zeros ss [] = ss
 with_zeros ss (n ∷ ns) = with_zeros (with_variable ss n.name 0) ns
 
--- behind a statement of a block
+-- after a statement of a block
 abbrev pub zeros_after : List Scope → StatementTree → List Scope
 zeros_after ss (declare ds) = with_zeros ss (names_of ds)
 zeros_after ss _ = ss
