@@ -96,11 +96,18 @@ fn heading(alloc: Global, edge: &Edge) -> Result<Line, AllocError> {
     Ok(line)
 }
 
-/// The lines of an edge.
-fn push_edge(lines: &mut Vec<Line>, alloc: Global, edge: &Edge) -> Result<(), AllocError> {
-    let mut line = heading(alloc, edge)?;
+fn rows_of(edge: &Edge) -> Option<&Cube> {
     match edge {
-        Edge::Entry { .. } | Edge::Input { .. } => lines.push(line),
+        Edge::Guard { rows, .. } | Edge::Pick { rows, .. } | Edge::Assert { rows, .. } => {
+            Some(rows)
+        }
+        _ => None,
+    }
+}
+
+/// Puts what else the line of an edge has at its end.
+fn push_rest(line: &mut Line, edge: &Edge) -> Result<(), AllocError> {
+    match edge {
         Edge::Assign { value, .. } => {
             line.numbers.push(value.parts.as_slice().len() as i128)?;
             for (coefficient, slot) in value.parts.as_slice() {
@@ -108,23 +115,30 @@ fn push_edge(lines: &mut Vec<Line>, alloc: Global, edge: &Edge) -> Result<(), Al
                 line.numbers.push(i128::from(*coefficient))?;
             }
             line.numbers.push(i128::from(value.constant))?;
-            lines.push(line)
-        }
-        Edge::Guard { rows, .. } | Edge::Pick { rows, .. } | Edge::Assert { rows, .. } => {
-            line.numbers.push(rows.atoms.as_slice().len() as i128)?;
-            lines.push(line)?;
-            push_rows(lines, alloc, rows)
         }
         Edge::Call { args, results, .. } => {
             line.push_slots(args.as_slice())?;
             line.push_slots(results.as_slice())?;
-            lines.push(line)
         }
-        Edge::Return { slots, .. } => {
-            line.push_slots(slots.as_slice())?;
-            lines.push(line)
+        Edge::Return { slots, .. } => line.push_slots(slots.as_slice())?,
+        _ => {
+            if let Some(rows) = rows_of(edge) {
+                line.numbers.push(rows.atoms.as_slice().len() as i128)?;
+            }
         }
     }
+    Ok(())
+}
+
+/// The lines of an edge: its own, and one for each of its rows.
+fn push_edge(lines: &mut Vec<Line>, alloc: Global, edge: &Edge) -> Result<(), AllocError> {
+    let mut line = heading(alloc, edge)?;
+    push_rest(&mut line, edge)?;
+    lines.push(line)?;
+    if let Some(rows) = rows_of(edge) {
+        push_rows(lines, alloc, rows)?;
+    }
+    Ok(())
 }
 
 /// The lines of graphs, of which this one is `main`'s.
