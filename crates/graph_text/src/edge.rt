@@ -1,6 +1,6 @@
 //! Edges.
 
-ghost use Rattle.std.specs.Prelude.{◌≡◌, ◌++◌, OnOk, flat_map, string_bytes};
+ghost use Rattle.std.specs.Prelude.{◌≡◌, ◌++◌, OnOk, string_bytes};
 ghost use Rattle.graph_text.specs.Text.{edge_text};
 
 use crate::row::{write_parts, write_rows, write_slots};

@@ -1,6 +1,6 @@
 //! Rows and lists of numbers.
 
-ghost use Rattle.std.specs.Prelude.{◌≡◌, ◌++◌, OnOk, flat_map, string_bytes};
+ghost use Rattle.std.specs.Prelude.{◌≡◌, ◌++◌, OnOk, string_bytes};
 ghost use Rattle.graph_text.specs.Text.{column_text, counted, number, part_text, row_text, rows_text};
 
 use c_tree::tree::Slot;

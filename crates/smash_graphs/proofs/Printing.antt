@@ -1,6 +1,5 @@
 -- How the program ends, put together.
-use Rattle.std.proofs.Common.{◌≡◌, ◌⊎◌, ℕ, ◌+◌, ◌≤◌, List, sym, ◌∙◌, subst, arith, inl, inr}
-use Rattle.c_tree.specs.Syntax.{PureProgram}
+use Rattle.std.proofs.Common.{◌≡◌, ◌⊎◌, ℕ, ◌+◌, List, sym, ◌∙◌, subst, arith, inl, inr}
 use Rattle.outer_io.specs.Causes.{Took}
 use Rattle.report_text.specs.Refused.{too_long_text}
 use Rattle.source_program.specs.Ends.{Change, EndsWith, IsWhole}

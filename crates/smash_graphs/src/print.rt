@@ -1,6 +1,6 @@
 //! The top call: a source and a sink.
 
-ghost use Rattle.std.specs.Prelude.{◌≡◌, ◌≤◌, ◌⊎◌, ℕ, List, IfOk, length};
+ghost use Rattle.std.specs.Prelude.{◌≤◌, ◌⊎◌, ℕ, List, IfOk, length};
 ghost use Rattle.c_tree.specs.WellFormed.{DividesByLiterals};
 ghost use Rattle.c_tree.specs.Whole.{program_of};
 ghost use Rattle.report_text.specs.Refused.{IsOfSource, too_long_text};

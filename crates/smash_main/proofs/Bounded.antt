@@ -1,7 +1,5 @@
 -- A command takes one byte more than it may read at most.
-use Rattle.std.proofs.Common.{◌≡◌, subst, ℕ, ◌+◌, ◌≤◌, List, [], length, Option, refl, arith, inl, inr}
-use Rattle.std.specs.Io.KnownBytes.{Consumes}
-use Rattle.std.proofs.KnownBytes.{Consumes-nil}
+use Rattle.std.proofs.Common.{◌≡◌, subst, ℕ, ◌+◌, refl, arith, inl, inr}
 use Rattle.outer_io.specs.Causes.{TookAtMost}
 use Rattle.source_program.specs.Source.{source_limit}
 use Rattle.smash_main.specs.Analysis.{Witness}

@@ -19,8 +19,8 @@ use Rattle.smash_main.specs.Bundled.{IsRechecked}
 use Rattle.smash_main.specs.steps.Handing.{TellsChecked}
 
 module _ (P : PureProgram) (b : PureBundle) (gs : List Graph) (runs : SameRuns P gs) (arities : SameArities P gs)
-    (bounds : AreBounded P gs) (built : AreLowered P gs) (place : AssertPlace) (at : slice_get P.asserts b.id ≡ Some place) (status : ℕ) (text : List ℕ)
-    (w : Witness) where
+    (bounds : AreBounded P gs) (built : AreLowered P gs) (place : AssertPlace) (at : slice_get P.asserts b.id ≡ Some place)
+    (status : ℕ) (text : List ℕ) (w : Witness) where
   pub rechecked : (c : Checked) → (c ≡ Right ↔ IsRightProof gs P.main b) → ((n : ℕ) → c ≡ Wrong n ↔ IsFirstWrong gs P.main b n) →
       (c ≡ Right → (ins : List ℤ) → ¬ Reaches P b.id ins) → TellsChecked place c status text w → IsRechecked P b status text w
   rechecked Right right wrong sound t = record {

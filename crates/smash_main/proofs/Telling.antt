@@ -12,7 +12,8 @@ use Rattle.smash_main.specs.steps.Handing.{IsTold}
 use Rattle.smash_main.proofs.Judging.{judged}
 
 pub bundled : (P : PureProgram) → IsWellFormed P → AreAllValues P.globals → (bytes : List ℕ) (number id budget : ℕ) → number ≡ suc id →
-    (board : Shown) → IsBoardOf P budget [] board → ((i : ℕ) → has_said board.core.history i ≡ false) → (t : Told) → IsTold P board bytes id t → (status : ℕ) (text : List ℕ) (w : Witness) →
+    (board : Shown) → IsBoardOf P budget [] board → ((i : ℕ) → has_said board.core.history i ≡ false) → (t : Told) →
+    IsTold P board bytes id t → (status : ℕ) (text : List ℕ) (w : Witness) →
     status ≡ t.status → text ≡ t.text.items → w ≡ board_alone board → IsBundled P bytes number budget status text w
 bundled P fine opening bytes number id budget counted board is unsaid t told status text w status_is text_is handed = record {
   id = id;

@@ -1,5 +1,5 @@
 -- From the faults of the lexer, the parser and the check of types to the refusal of a source.
-use Rattle.std.proofs.Common.{◌≡◌, List, ℕ, Result, Ok, Err, Vec, Global, refl, sym, subst, ◌∙◌}
+use Rattle.std.proofs.Common.{◌≡◌, List, ℕ, Result, Ok, Err, Vec, Global, refl, sym, subst}
 use Rattle.std.specs.Prelude.{IsErrAnd}
 use Rattle.c_tree.specs.declared.tree.Pos.{Pos}
 use Rattle.c_tree.specs.declared.tree.Program.{Program}
@@ -23,7 +23,6 @@ use Rattle.c_typing.specs.Answer.{IsFirstFault}
 use Rattle.c_typing.specs.Texts.{type_fault_text}
 use Rattle.report_text.specs.declared.fault.Refusal.{Refusal}
 use Rattle.report_text.specs.declared.fault.Refusal.TheVariants.{Lex, Parse, Types}
-use Rattle.report_text.specs.Refused.{refusal_text}
 use Rattle.source_program.specs.declared.accepting.Rejection.{Rejection}
 use Rattle.source_program.specs.declared.accepting.Rejection.TheVariants.{Refused, Memory}
 use Rattle.source_program.specs.Source.{bad_byte, open_comment, too_wide, unexpected, unfinished, too_deep, ill_typed}
