@@ -153,8 +153,8 @@ are-same x y e = (bytes_eq-Decides x y).0 e
 pub opens_depth : (old new : List Entry) (e : Entry) → old ≡ new ++ e ∷ [] → e ≡ Opens → depth_onto 0 old ≡ depth_onto 0 new + 1
 opens_depth old new e popped is = ap (depth_onto 0) (popped ∙ ap (λ x. new ++ x ∷ []) is) ∙ depth-append 0 new (Opens ∷ [])
 
-pub opens_linked : {S : Type 0} (old new : List Entry) (e : Entry) (m : IndexMap (Bor (List ℕ)) Meaning S) → old ≡ new ++ e ∷ [] → e ≡ Opens →
-    IsLinked old m → IsLinked new m
+pub opens_linked : {S : Type 0} (old new : List Entry) (e : Entry) (m : IndexMap (Bor (List ℕ)) Meaning S) → old ≡ new ++ e ∷ [] →
+    e ≡ Opens → IsLinked old m → IsLinked new m
 opens_linked old new e m popped is h =
     let k : IsLinked (new ++ Opens ∷ []) m = subst (λ es. IsLinked es m) (popped ∙ ap (λ x. new ++ x ∷ []) is) h in
     (λ x. k.0 x ∙ meanings-append 0 nothing_known new (Opens ∷ []) x, (saved-split 0 nothing_known new (Opens ∷ []) k.1).0)

@@ -51,8 +51,8 @@ pushed-names gs g x =
     (omega (arith, length-map (listed gs) (λ (g : Global). g.named.name), length-map gs (λ (g : Bor GlobalTree). tree_of_global g.now)))
 
 -- the name is new: it gets the next number
-pub new_numbered : {S : Type 0} (bs : List ℕ) (m n : IndexMap (Bor (List ℕ)) ℕ S) (gs hs : List (Bor GlobalTree)) (g : Bor GlobalTree) (k : ℕ) →
-    AreNumbered m gs → bs ≡ (tree_of_global g.now).named.name → k ≡ length gs → is_some (found_in m bs) ≡ false →
+pub new_numbered : {S : Type 0} (bs : List ℕ) (m n : IndexMap (Bor (List ℕ)) ℕ S) (gs hs : List (Bor GlobalTree)) (g : Bor GlobalTree)
+    (k : ℕ) → AreNumbered m gs → bs ≡ (tree_of_global g.now).named.name → k ≡ length gs → is_some (found_in m bs) ≡ false →
     UpdatesBy (λ x y. bytes_eq x.now y.now) (λ k. bytes_eq bs k.now) m n (Some k) → hs ≡ gs ++ g ∷ [] →
     AreNumbered n hs
 new_numbered bs m n gs hs g k old named count absent updates pushed x =
