@@ -39,7 +39,7 @@ first_asks main b x at r h = (
 -- One answer
 
 module _ (gs : List Graph) (main : ℕ) (b : PureBundle) where
-  right_not_wrong : (n : ℕ) → IsRightProof gs main b → IsFirstWrong gs main b n → ⊥
+  pub right_not_wrong : (n : ℕ) → IsRightProof gs main b → IsFirstWrong gs main b n → ⊥
   right_not_wrong n r w = ⊎_elim (λ k. k.0 r.begins) (λ k. k.1.wrong (r.right n k.1.claim k.1.at)) w
 
   lower : (m n : ℕ) → IsFirstWrongClaim gs b.claims m → IsFirstWrongClaim gs b.claims n → m < n → ⊥

@@ -1,9 +1,7 @@
 -- The table of procedures, name by name.
 use Rattle.std.proofs.Common.{◌≡◌, ℕ, ◌+◌, ◌<◌, Bool, true, false, Bor, List, [], ◌∷◌, length, drop, get_or, Option, Some, None, is_some, refl, ap, sym, ◌∙◌, bytes_eq, if◌then◌else◌}
 use Rattle.std.proofs.lemmas.List.{at_drop_more}
-use Rattle.std.specs.BTreeMap.{BTreeMap, UpdatesBy}
-use Rattle.std.specs.Cmp.Lexicographic.{slice_cmp}
-use Rattle.std.specs.Ordering.{nat_cmp}
+use Rattle.indexmap.specs.IndexMap.{IndexMap, UpdatesBy}
 use Rattle.c_tree.specs.declared.syntax_tree.ProcTree.{ProcTree}
 use Rattle.c_tree.specs.declared.syntax_tree.Item.{Item}
 use Rattle.c_tree.specs.declared.syntax_tree.Item.TheVariants.{Proto, Proc, Globals}
@@ -19,9 +17,9 @@ is_none : {T : Type 0} (o : Option T) → is_some o ≡ false → o ≡ None
 is_none None e = refl
 is_none (Some t) e = absurd cc
 
-pub added : (bs : List ℕ) (m n : BTreeMap (Bor (List ℕ)) Definition) (d : Definition) (p : ProcedureTree) (number : ℕ) → bs ≡ p.named.name →
-    d ≡ record { number = number; params = length p.params; void = p.void } →
-    is_some (found_in m bs) ≡ false → UpdatesBy (λ x y. slice_cmp nat_cmp x.now y.now) (λ k. slice_cmp nat_cmp bs k.now) m n (Some d) →
+pub added : {S : Type 0} (bs : List ℕ) (m n : IndexMap (Bor (List ℕ)) Definition S) (d : Definition) (p : ProcedureTree) (number : ℕ) →
+    bs ≡ p.named.name → d ≡ record { number = number; params = length p.params; void = p.void } →
+    is_some (found_in m bs) ≡ false → UpdatesBy (λ x y. bytes_eq x.now y.now) (λ k. bytes_eq bs k.now) m n (Some d) →
     (x : List ℕ) → found_in n x ≡ kept_or (found_in m x) p number x
 added bs m n d p number named is absent updates x = changed bs m n (Some d) (Some d) updates refl x ∙ go (bytes_eq bs x) refl (found_in m x)
     refl

@@ -117,7 +117,7 @@ number-append n (p ∷ ps) y x = go (bytes_eq p.named.name x) (number-append (n 
     go true h = refl
     go false h = h
 
--- no earlier procedure has the name of one behind
+-- no earlier procedure has the name of a later one
 fresh : (all earlier : List ProcedureTree) (qs : List ScopedProcedure) → procedures_faults all earlier qs ≡ [] → (j : ℕ)
     (q : ScopedProcedure) → slice_get qs j ≡ Some q → is_some (number_of earlier q.tree.named.name) ≡ false
 fresh all earlier [] e j q at = absurd cc

@@ -1,11 +1,9 @@
--- What names mean behind entries, and that it agrees with the scopes.
+-- What names mean after entries, and that it agrees with the scopes.
 use Rattle.std.proofs.Common.{◌≡◌, ℕ, ◌+◌, ◌≤◌, Bool, true, false, ◌==◌, ◌||◌, Bor, List, [], ◌∷◌, ◌++◌, length, Option, Some, None, IsSome, is_some, option_map, Result, Ok, Err, IsOk, OnOk, OnErr, refl, ap, sym, ◌∙◌, subst, arith, bytes_eq, if◌then◌else◌}
 use Rattle.std.proofs.lemmas.Bool.Decides.{nat_tests}
 use Rattle.std.proofs.lemmas.Slice.Eq.{bytes_eq-Decides}
-use Rattle.std.proofs.lemmas.Map.Text.{btree_map_updates_str}
-use Rattle.std.specs.BTreeMap.{BTreeMap, UpdatesBy}
-use Rattle.std.specs.Cmp.Lexicographic.{slice_cmp}
-use Rattle.std.specs.Ordering.{nat_cmp}
+use Rattle.std.proofs.lemmas.Map.Text.{hash_map_updates_str}
+use Rattle.indexmap.specs.IndexMap.{IndexMap, UpdatesBy}
 use Rattle.c_typing.specs.declared.scopes.Meaning.{Meaning}
 use Rattle.c_typing.specs.declared.scopes.Entry.{Entry}
 use Rattle.c_typing.specs.declared.scopes.Entry.TheVariants.{Opens, Declares}
@@ -43,7 +41,7 @@ depth-within d [] = omega arith
 depth-within d (Opens ∷ es) = let h = depth-within (d + 1) es in omega arith
 depth-within d (Declares x slot before ∷ es) = let h = depth-within d es in omega arith
 
--- whether a meaning was declared while so many scopes were open
+-- whether a meaning was declared at this depth of scopes
 abbrev pub is_here : ℕ → Option Meaning → Bool
 is_here d None = false
 is_here d (Some m) = m.depth == d
@@ -139,10 +137,10 @@ none_there None h e = absurd cc
 none_there (Some t) h e = absurd cc
 
 -- after a change at a name, that name has the new value, and each other one what it had
-pub changed : {V : Type 0} (bs : List ℕ) (m n : BTreeMap (Bor (List ℕ)) V) (w w' : Option V) →
-    UpdatesBy (λ x y. slice_cmp nat_cmp x.now y.now) (λ k. slice_cmp nat_cmp bs k.now) m n w → w' ≡ w →
+pub changed : {V S : Type 0} (bs : List ℕ) (m n : IndexMap (Bor (List ℕ)) V S) (w w' : Option V) →
+    UpdatesBy (λ x y. bytes_eq x.now y.now) (λ k. bytes_eq bs k.now) m n w → w' ≡ w →
     (x : List ℕ) → found_in n x ≡ (if bytes_eq bs x then w' else found_in m x)
-changed bs m n w w' h e x = btree_map_updates_str bs m n w h x ∙ sym (ap (λ v. if bytes_eq bs x then v else found_in m x) e)
+changed bs m n w w' h e x = hash_map_updates_str bs m n w h x ∙ sym (ap (λ v. if bytes_eq bs x then v else found_in m x) e)
 
 pub same-bytes : (x : List ℕ) → bytes_eq x x ≡ true
 same-bytes x = (bytes_eq-Decides x x).1 refl
@@ -155,8 +153,8 @@ are-same x y e = (bytes_eq-Decides x y).0 e
 pub opens_depth : (old new : List Entry) (e : Entry) → old ≡ new ++ e ∷ [] → e ≡ Opens → depth_onto 0 old ≡ depth_onto 0 new + 1
 opens_depth old new e popped is = ap (depth_onto 0) (popped ∙ ap (λ x. new ++ x ∷ []) is) ∙ depth-append 0 new (Opens ∷ [])
 
-pub opens_linked : (old new : List Entry) (e : Entry) (m : BTreeMap (Bor (List ℕ)) Meaning) → old ≡ new ++ e ∷ [] → e ≡ Opens →
-    IsLinked old m → IsLinked new m
+pub opens_linked : {S : Type 0} (old new : List Entry) (e : Entry) (m : IndexMap (Bor (List ℕ)) Meaning S) → old ≡ new ++ e ∷ [] →
+    e ≡ Opens → IsLinked old m → IsLinked new m
 opens_linked old new e m popped is h =
     let k : IsLinked (new ++ Opens ∷ []) m = subst (λ es. IsLinked es m) (popped ∙ ap (λ x. new ++ x ∷ []) is) h in
     (λ x. k.0 x ∙ meanings-append 0 nothing_known new (Opens ∷ []) x, (saved-split 0 nothing_known new (Opens ∷ []) k.1).0)
@@ -166,8 +164,8 @@ pub declares_depth : (old new : List Entry) (e : Entry) (y : Bor (List ℕ)) (sl
 declares_depth old new e y slot before popped is = ap (depth_onto 0) (popped ∙ ap (λ x. new ++ x ∷ []) is) ∙ depth-append 0 new
     (Declares y slot before ∷ [])
 
-module _ (old new : List Entry) (e : Entry) (y : Bor (List ℕ)) (slot : ℕ) (before : Option Meaning)
-    (m : BTreeMap (Bor (List ℕ)) Meaning) where
+module _ {S : Type 0} (old new : List Entry) (e : Entry) (y : Bor (List ℕ)) (slot : ℕ) (before : Option Meaning)
+    (m : IndexMap (Bor (List ℕ)) Meaning S) where
   kept-here : old ≡ new ++ e ∷ [] → e ≡ Declares y slot before → IsLinked old m → (x : List ℕ) → found_in m x
       ≡ with_meaning (meaning_in new)
       y.now slot (depth_onto 0 new) x
@@ -187,7 +185,7 @@ module _ (old new : List Entry) (e : Entry) (y : Bor (List ℕ)) (slot : ℕ) (b
       ap is_some (kept-here popped is h y.now)
       ∙ ap (λ b. is_some (if b then Some (record { slot = slot; depth = depth_onto 0 new }) else meaning_in new y.now)) (same-bytes y.now)
 
-  pub declares_linked : (m' : BTreeMap (Bor (List ℕ)) Meaning) → old ≡ new ++ e ∷ [] → e ≡ Declares y slot before → IsLinked old m →
+  pub declares_linked : (m' : IndexMap (Bor (List ℕ)) Meaning S) → old ≡ new ++ e ∷ [] → e ≡ Declares y slot before → IsLinked old m →
       ((x : List ℕ) → found_in m' x ≡ (if bytes_eq y.now x then before else found_in m x)) → IsLinked new m'
   declares_linked m' popped is h restored = (λ x. restored x ∙ go x (bytes_eq y.now x) refl, (saved-here popped is h).0)
     where
@@ -199,7 +197,8 @@ module _ (old new : List Entry) (e : Entry) (y : Bor (List ℕ)) (slot : ℕ) (b
 
 -- A new entry
 
-pub opened_linked : (old new : List Entry) (m : BTreeMap (Bor (List ℕ)) Meaning) → new ≡ old ++ Opens ∷ [] → IsLinked old m → IsLinked new m
+pub opened_linked : {S : Type 0} (old new : List Entry) (m : IndexMap (Bor (List ℕ)) Meaning S) → new ≡ old ++ Opens ∷ [] →
+    IsLinked old m → IsLinked new m
 opened_linked old new m pushed h =
     let k : IsLinked (old ++ Opens ∷ []) m = (
       λ x. h.0 x ∙ sym (meanings-append 0 nothing_known old (Opens ∷ []) x),
@@ -207,10 +206,10 @@ opened_linked old new m pushed h =
     ) in
     subst (λ es. IsLinked es m) (sym pushed) k
 
-pub declared_linked : (old new : List Entry) (y : Bor (List ℕ)) (slot depth : ℕ) (before : Option Meaning)
-    (m m1 : BTreeMap (Bor (List ℕ)) Meaning) → new ≡ old ++ Declares y slot before ∷ [] → before ≡ meaning_in old y.now →
+pub declared_linked : {S : Type 0} (old new : List Entry) (y : Bor (List ℕ)) (slot depth : ℕ) (before : Option Meaning)
+    (m m1 : IndexMap (Bor (List ℕ)) Meaning S) → new ≡ old ++ Declares y slot before ∷ [] → before ≡ meaning_in old y.now →
     depth ≡ depth_onto 0 old →
-    IsLinked old m → UpdatesBy (λ x y. slice_cmp nat_cmp x.now y.now) (λ k. slice_cmp nat_cmp y.now k.now) m m1
+    IsLinked old m → UpdatesBy (λ x y. bytes_eq x.now y.now) (λ k. bytes_eq y.now k.now) m m1
     (Some (record { slot = slot; depth = depth })) → IsLinked new m1
 declared_linked old new y slot depth before m m1 pushed saved deep h updates = subst (λ es. IsLinked es m1) (sym pushed)
     (known, saved-join 0 nothing_known old (Declares y slot before ∷ []) h.1 (saved, cc))

@@ -84,7 +84,7 @@ least-is_first is f e = record {
   first = (least-first None (all_faults is) f e).1;
 }
 
--- what is in a list and behind none of it is the least
+-- what is in a list and after none of it is the least
 pub least-only : (xs : List Fault) (f : Fault) → Contains xs f → ((g : Fault) → Contains xs g → IsBefore g f → ⊥) → least_from None xs
     ≡ Some f
 least-only xs f there first = go (least_from None xs) refl
@@ -98,7 +98,7 @@ least-only xs f there first = go (least_from None xs) refl
 pub first-is_least : (is : List FileItem) (f : Fault) → IsFirstOf is f → least_from None (all_faults is) ≡ Some f
 first-is_least is f h = least-only (all_faults is) f h.there h.first
 
--- the order in which two lists are told doesn't matter
+-- the order in which two lists are read doesn't matter
 pub least-same : (xs ys : List Fault) → ((f : Fault) → Contains xs f → Contains ys f) → ((f : Fault) → Contains ys f → Contains xs f) →
     least_from None xs ≡ least_from None ys
 least-same xs ys there back = go (least_from None xs) refl

@@ -52,7 +52,7 @@ pub noted_two : (n n1 n2 : Noted) (fs gs : List Fault) (ns ms : List Identifier)
     n2 ≡ noted n1 gs ms bs → n2 ≡ noted n (fs ++ gs) (ns ++ ms) (as_ ++ bs)
 noted_two n n1 n2 fs gs ns ms as_ bs p q = q ∙ ap (λ m. noted m gs ms bs) p ∙ noted-append n fs gs ns ms as_ bs
 
--- a product is told behind its operands
+-- a product is reported after its operands
 pub noted_product : (n n1 n2 n3 : Noted) (fs gs hs : List Fault) (as_ bs : List Pos) → n1 ≡ noted n fs [] as_ → n2 ≡ noted n1 gs [] bs →
     n3 ≡ noted n2 hs [] [] → n3 ≡ noted n (hs ++ (fs ++ gs)) [] (as_ ++ bs)
 noted_product n n1 n2 n3 fs gs hs as_ bs p q r =

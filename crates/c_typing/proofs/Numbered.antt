@@ -2,9 +2,7 @@
 use Rattle.std.proofs.Common.{◌≡◌, ℕ, ◌+◌, ◌^◌, ◌<◌, ◌≤◌, zero, suc, Bool, true, false, nat_lt, Bor, List, [], ◌∷◌, ◌++◌, length, map, take, drop, get_or, Option, Some, None, is_some, refl, ap, sym, ◌∙◌, arith, bytes_eq, append_assoc, if◌then◌else◌}
 use Rattle.std.proofs.lemmas.Bool.Decides.{nat_tests}
 use Rattle.std.proofs.lemmas.List.{append-nil, map-append, length-map, at_drop_more, at_drop_all}
-use Rattle.std.specs.BTreeMap.{BTreeMap, UpdatesBy}
-use Rattle.std.specs.Cmp.Lexicographic.{slice_cmp}
-use Rattle.std.specs.Ordering.{nat_cmp}
+use Rattle.indexmap.specs.IndexMap.{IndexMap, UpdatesBy}
 use Rattle.c_tree.specs.declared.syntax_tree.GlobalTree.{GlobalTree}
 use Rattle.c_tree.specs.declared.syntax_tree.Item.{Item}
 use Rattle.c_tree.specs.declared.syntax_tree.Item.TheVariants.{Proto, Proc, Globals}
@@ -53,9 +51,9 @@ pushed-names gs g x =
     (omega (arith, length-map (listed gs) (λ (g : Global). g.named.name), length-map gs (λ (g : Bor GlobalTree). tree_of_global g.now)))
 
 -- the name is new: it gets the next number
-pub new_numbered : (bs : List ℕ) (m n : BTreeMap (Bor (List ℕ)) ℕ) (gs hs : List (Bor GlobalTree)) (g : Bor GlobalTree) (k : ℕ) →
-    AreNumbered m gs → bs ≡ (tree_of_global g.now).named.name → k ≡ length gs → is_some (found_in m bs) ≡ false →
-    UpdatesBy (λ x y. slice_cmp nat_cmp x.now y.now) (λ k. slice_cmp nat_cmp bs k.now) m n (Some k) → hs ≡ gs ++ g ∷ [] →
+pub new_numbered : {S : Type 0} (bs : List ℕ) (m n : IndexMap (Bor (List ℕ)) ℕ S) (gs hs : List (Bor GlobalTree)) (g : Bor GlobalTree)
+    (k : ℕ) → AreNumbered m gs → bs ≡ (tree_of_global g.now).named.name → k ≡ length gs → is_some (found_in m bs) ≡ false →
+    UpdatesBy (λ x y. bytes_eq x.now y.now) (λ k. bytes_eq bs k.now) m n (Some k) → hs ≡ gs ++ g ∷ [] →
     AreNumbered n hs
 new_numbered bs m n gs hs g k old named count absent updates pushed x =
     changed bs m n (Some k) (Some k) updates refl x ∙ go (bytes_eq bs x) refl
@@ -72,7 +70,7 @@ new_numbered bs m n gs hs g k old named count absent updates pushed x =
         ∙ or_at-false (global_of (global_names (listed gs)) x) (length gs))
 
 -- an earlier one has the name
-pub old_numbered : (bs : List ℕ) (m n : BTreeMap (Bor (List ℕ)) ℕ) (gs hs : List (Bor GlobalTree)) (g : Bor GlobalTree) →
+pub old_numbered : {S : Type 0} (bs : List ℕ) (m n : IndexMap (Bor (List ℕ)) ℕ S) (gs hs : List (Bor GlobalTree)) (g : Bor GlobalTree) →
     AreNumbered m gs → bs ≡ (tree_of_global g.now).named.name → is_some (found_in m bs) ≡ true → n ≡ m → hs ≡ gs ++ g ∷ [] →
     AreNumbered n hs
 old_numbered bs m n gs hs g old named there same_map pushed x =

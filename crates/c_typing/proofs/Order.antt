@@ -69,7 +69,7 @@ is_before-false f g e h = lex-false f.at.line f.at.column (rank f.fault) g.at.li
 pub before-irrefl : (f : Fault) → IsBefore f f → ⊥
 before-irrefl f h = lex-irrefl f.at.line f.at.column (rank f.fault) h
 
--- where one is before another, a third is behind the one or before the other
+-- where one is before another, a third is after the one or before the other
 pub before-between : (f g h : Fault) → IsBefore f g → (IsBefore f h → ⊥) → (IsBefore h g → ⊥) → ⊥
 before-between f g h b n m = lex-between f.at.line f.at.column (rank f.fault) g.at.line g.at.column (rank g.fault) h.at.line h.at.column
     (rank h.fault) b n m

@@ -74,7 +74,7 @@ scoped_in-cons known (Proto n) xs = ap (λ k. scoped_in k xs) (sym (append-nil k
 scoped_in-cons known (Proc p) xs = ap (λ k. scoped_in known (Proc p ∷ []) ++ scoped_in k xs) (sym (append-nil known))
 scoped_in-cons known (Globals gs) xs = ap (λ r. scoped_in (known ++ global_names r) xs) (sym (append-nil (map tree_of_global gs.items)))
 
--- so many globals stand before the rest of the items
+-- `count` globals stand before the rest of the items
 pub record IsReached (items rest : List Item) (count : ℕ) : Type 0 where
   pub known : take count (names_in items) ++ names_in rest ≡ names_in items
   pub left : count + length (globals_in rest) ≡ length (globals_in items)
@@ -93,7 +93,7 @@ reached-low items x rest count h =
     in
     omega (arith, length-append (globals_in (x ∷ [])) (globals_in rest))
 
--- the globals that are known behind an item
+-- the globals that are known after an item
 pub known-cons : (items : List Item) (x : Item) (rest : List Item) (count after : ℕ) → IsReached items (x ∷ rest) count →
     after ≡ count + length (globals_in (x ∷ [])) → take after (names_in items) ≡ take count (names_in items) ++ names_in (x ∷ [])
 known-cons items x rest count after h next =

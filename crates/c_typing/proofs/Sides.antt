@@ -79,7 +79,7 @@ side-binary file ss o at a b s t r left right made =
     go And = refl
     go Or = refl
 
--- what is told of an operator
+-- what is reported of an operator
 pub told_of_operator : (file : FileScope) (ss : List Scope) (o : Op) (at : Pos) (constant : Bool) (b : ExpressionTree) (c : Bool)
     (t : Side) → c ≡ constant → t ≡ side_of file ss b →
     fault_if (is_product o && not_bool c) NotLinear at ++ fault_if (is_division o && not_bool (is_divisor_side t)) BadDivisor at

@@ -44,7 +44,7 @@ close_declares old new e y slot before popped is =
     sym (ap (λ r. outer_of (scopes_onto [] r)) (popped ∙ ap (λ x. new ++ x ∷ []) is)
     ∙ ap outer_of (scopes_onto-append [] new (Declares y slot before ∷ [])) ∙ outer-variable (scopes_onto [] new) y.now slot)
 
--- entries that came behind others, and their way back
+-- entries that came after others, and their way back
 
 pub longer-still : (a b c : List Entry) → take (length a) b ≡ a → take (length b) c ≡ b → take (length a) c ≡ a
 longer-still [] b c h k = refl

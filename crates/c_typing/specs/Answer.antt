@@ -15,7 +15,7 @@ use Rattle.c_typing.specs.Scope.{procedures_of, number_of}
 use Rattle.c_typing.specs.Faults.{Fault, all_faults}
 use Rattle.c_typing.specs.Lowering.{lowered_file}
 
--- the order in which faults at one place are told
+-- the order of faults at one place
 abbrev pub which_rank : Which → ℕ
 which_rank Procedures = 0
 which_rank Parameters = 1

@@ -1,4 +1,4 @@
--- All faults of a tree. They stand in any order; the one that is told is the first by position.
+-- All faults of a tree. They stand in any order; the one that is reported is the first by position.
 use Rattle.std.specs.Prelude.{ℕ, ℤ, ◌+◌, ◌==◌, Bool, true, false, ◌&&◌, ◌||◌, not as not_bool, List, [], ◌∷◌, ◌++◌, length, Option, Some, None, is_some, is_none, slice_get}
 use Rattle.c_tree.specs.declared.tree.Pos.{Pos}
 use Rattle.c_tree.specs.declared.tree.Op.{Op}
@@ -39,7 +39,7 @@ abbrev pub argument_count : ExpressionTrees → ℕ
 argument_count no_arguments = 0
 argument_count (argument e es) = 1 + argument_count es
 
--- a call with so many arguments; `used` says that its value is used
+-- a call with `count` arguments; `used` says that its value is used
 abbrev pub callee_faults : Callee → Identifier → ℕ → (used : Bool) → List Fault
 callee_faults input n count used = fault_if (not_bool (count == 0)) WrongCount n.at
 callee_faults assume n count used = fault_if (not_bool (count == 1)) WrongCount n.at
@@ -135,7 +135,7 @@ module _ (file : FileScope) where
   abbrev pub init_scopes : List Scope → ForInit → List Scope
   init_scopes scopes f = with_names ([] ∷ scopes) 0 (declared_by_init f)
 
-  -- behind a statement of a block
+  -- after a statement of a block
   abbrev pub scopes_after : List Scope → StatementTree → List Scope
   scopes_after scopes (declare ds) = with_names scopes 0 (names_of ds)
   scopes_after scopes _ = scopes

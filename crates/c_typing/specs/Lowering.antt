@@ -60,7 +60,7 @@ abbrev pub first_of : Expressions → Expression
 first_of no_expressions = program.literal (pos 0)
 first_of (expression e es) = e
 
--- a call that is a statement; so many assertions stand before it
+-- a call that is a statement; `id` assertions stand before it
 abbrev pub called_statement : Callee → ℕ → Expressions → Statement
 called_statement assume id es = program.assume (first_of es)
 called_statement assert id es = program.assert id (first_of es)
@@ -138,7 +138,7 @@ module _ (file : FileScope) where
       (program.statement (lowered_simple ([] ∷ scopes) id s)
       (program.statement whole program.no_statements))
 
-  -- behind a statement of a block
+  -- after a statement of a block
   abbrev pub scopes_after : List Scope → (next : ℕ) → StatementTree → List Scope
   scopes_after scopes next (declare ds) = with_names scopes next (names_of ds)
   scopes_after scopes next _ = scopes

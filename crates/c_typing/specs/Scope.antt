@@ -85,7 +85,7 @@ pub record ScopedProcedure : Type 0 where
   pub tree : ProcedureTree
   pub globals : List (List ℕ)
 
--- the procedures of a file behind globals of these names, in order
+-- the procedures of a file after globals of these names, in order
 abbrev pub scoped_procedures : (known : List (List ℕ)) → List FileItem → List ScopedProcedure
 scoped_procedures known [] = []
 scoped_procedures known (prototype n ∷ is) = scoped_procedures known is

@@ -5,22 +5,23 @@ ghost use Rattle.c_tree.specs.FileView.{global_of as tree_of_global};
 ghost use Rattle.c_typing.specs.Scope.{global_names, global_of};
 ghost use Rattle.c_typing.specs.steps.Listed.{globals_in, listed, AreNumbered, AreNumbered-prop};
 
+use crate::seed::NameHasher;
 use c_tree::syntax_tree::{GlobalTree, Item};
+use indexmap::IndexMap;
 use std::alloc::{AllocError, Global};
-use std::collections::BTreeMap;
 
 /// The globals of a file in source order, and the number of the first one of each name.
 #[derive(Drop)]
 pub struct Globals<'a> {
     pub list: Vec<&'a GlobalTree>,
-    numbers: BTreeMap<&'a str, usize>,
+    numbers: IndexMap<&'a str, usize, NameHasher>,
     ghost numbered: { AreNumbered numbers list.items } by { AreNumbered-prop numbers list.items },
 }
 
 /// Keeps a global, and its number where none has its name yet.
 fn keep<'a>(
     list: &mut Vec<&'a GlobalTree>,
-    numbers: &mut BTreeMap<&'a str, usize>,
+    numbers: &mut IndexMap<&'a str, usize, NameHasher>,
     tree: &'a GlobalTree,
 ) -> Result<(), AllocError>
     requires { AreNumbered numbers.old list.old.items }
@@ -39,7 +40,7 @@ fn keep<'a>(
 /// Keeps the globals of a declaration.
 fn keep_all<'a>(
     list: &mut Vec<&'a GlobalTree>,
-    numbers: &mut BTreeMap<&'a str, usize>,
+    numbers: &mut IndexMap<&'a str, usize, NameHasher>,
     trees: &'a [GlobalTree],
 ) -> Result<(), AllocError>
     requires { AreNumbered numbers.old list.old.items }
@@ -55,11 +56,15 @@ fn keep_all<'a>(
 
 impl<'a> Globals<'a> {
     /// The globals of the items of a file.
-    pub fn new(alloc: Global, items: &'a [Item]) -> Result<Globals<'a>, AllocError>
+    pub fn new(
+        alloc: Global,
+        seed: NameHasher,
+        items: &'a [Item],
+    ) -> Result<Globals<'a>, AllocError>
         ensures { IfOk result (λ globals. listed globals.list.items ≡ globals_in items.now) }
     {
         let mut list = Vec::new(alloc);
-        let mut numbers = BTreeMap::new(alloc);
+        let mut numbers = IndexMap::with_hasher(alloc, seed);
         for item in items {
             if let Item::Globals(trees) = item {
                 keep_all(&mut list, &mut numbers, trees)?;
@@ -75,7 +80,7 @@ impl<'a> Globals<'a> {
         self.numbers.get(name).copied()
     }
 
-    /// The number of the first global of a name, if it is one of the first so many.
+    /// The number of the first global of a name, if it is one of the first `known`.
     pub fn number_of(&self, name: &str, known: usize) -> Option<usize>
         ensures { result ≡ global_of (take known (global_names (listed self.now.list.items)))
             name.now }

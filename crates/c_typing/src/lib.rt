@@ -7,6 +7,7 @@ pub mod fault;
 mod globals;
 mod lower;
 mod scopes;
+mod seed;
 mod table;
 
 pub use check::check_types;

@@ -3,8 +3,9 @@
 ghost use Rattle.std.specs.Prelude.{◌≡◌, ℕ, List, bytes_eq, if◌then◌else◌, IsSome};
 ghost use Rattle.c_typing.specs.steps.Meanings.{depth_onto, found_in, IsLinked, IsLinked-prop};
 
+use crate::seed::NameHasher;
+use indexmap::IndexMap;
 use std::alloc::{AllocError, Global};
-use std::collections::BTreeMap;
 
 /// What a name means: a slot, and how many scopes were open where it was declared.
 #[derive(Clone, Copy)]
@@ -25,13 +26,17 @@ pub enum Entry<'a> {
 pub struct Scopes<'a> {
     pub entries: Vec<Entry<'a>>,
     depth: usize,
-    meanings: BTreeMap<&'a str, Meaning>,
+    meanings: IndexMap<&'a str, Meaning, NameHasher>,
     ghost depth_is: { depth ≡ depth_onto 0 entries.items },
     ghost linked: { IsLinked entries.items meanings } by { IsLinked-prop entries.items meanings },
 }
 
 /// A name means again what it meant before.
-fn restore<'a>(meanings: &mut BTreeMap<&'a str, Meaning>, name: &'a str, before: Option<Meaning>)
+fn restore<'a>(
+    meanings: &mut IndexMap<&'a str, Meaning, NameHasher>,
+    name: &'a str,
+    before: Option<Meaning>,
+)
     requires { IsSome (found_in meanings.old name.now) }
     ensures { (x : List ℕ) → found_in meanings.new x
         ≡ (if bytes_eq name.now x then before else found_in meanings.old x) }
@@ -41,7 +46,7 @@ fn restore<'a>(meanings: &mut BTreeMap<&'a str, Meaning>, name: &'a str, before:
             let _ = meanings.insert(name, meaning);
         }
         None => {
-            meanings.remove(name);
+            meanings.swap_remove(name);
         }
     }
 }
@@ -52,14 +57,14 @@ impl<'a> Scopes<'a> {
     ghost use Rattle.c_typing.specs.Scope.{slot_of, is_declared_here, with_variable};
     ghost use Rattle.c_typing.specs.steps.Tables.{scopes_of, outer_of, IsLonger};
 
-    /// No scope.
-    pub fn new(alloc: Global) -> Scopes<'a>
+    /// No scope. Names are found by this hash.
+    pub fn new(alloc: Global, seed: NameHasher) -> Scopes<'a>
         ensures { scopes_of result ≡ [] }
     {
         Scopes {
             entries: Vec::new(alloc),
             depth: 0,
-            meanings: BTreeMap::new(alloc),
+            meanings: IndexMap::with_hasher(alloc, seed),
         }
     }
 

@@ -8,9 +8,10 @@ ghost use Rattle.c_typing.specs.steps.Meanings.{found_in};
 ghost use Rattle.c_typing.specs.steps.Tables.{procedures_in, callee_from, number_in, is_defined, kept_or, AreDefined, AreDefined-prop};
 
 use crate::globals::Globals;
+use crate::seed::{NameHasher, seed_of};
 use c_tree::syntax_tree::{Item, ProcTree};
+use indexmap::IndexMap;
 use std::alloc::{AllocError, Global};
-use std::collections::BTreeMap;
 
 /// What is called by a name: a procedure by its number, how many parameters it has and whether it
 /// is `void`.
@@ -36,7 +37,8 @@ pub struct Definition {
 pub struct Table<'a> {
     pub items: &'a [Item],
     pub globals: Globals<'a>,
-    definitions: BTreeMap<&'a str, Definition>,
+    pub seed: NameHasher,
+    definitions: IndexMap<&'a str, Definition, NameHasher>,
     ghost listed: { AreListed globals.list.items items.now } by { AreListed-prop globals.list.items items.now },
     ghost linked: { AreDefined definitions items.now } by { AreDefined-prop definitions items.now },
 }
@@ -57,7 +59,7 @@ pub fn is_built_in(name: &str) -> bool
 
 /// Keeps a procedure of a number, where none has its name yet.
 fn add<'a>(
-    definitions: &mut BTreeMap<&'a str, Definition>,
+    definitions: &mut IndexMap<&'a str, Definition, NameHasher>,
     number: usize,
     procedure: &'a ProcTree,
 ) -> Result<(), AllocError>
@@ -80,11 +82,12 @@ fn add<'a>(
 /// The first procedure of each name.
 fn definitions_of<'a>(
     alloc: Global,
+    seed: NameHasher,
     items: &'a [Item],
-) -> Result<BTreeMap<&'a str, Definition>, AllocError>
+) -> Result<IndexMap<&'a str, Definition, NameHasher>, AllocError>
     ensures { IfOk result (λ definitions. AreDefined definitions items.now) }
 {
-    let mut definitions = BTreeMap::new(alloc);
+    let mut definitions = IndexMap::with_hasher(alloc, seed);
     let mut number = 0;
     for item in items {
         if let Item::Proc(procedure) = item {
@@ -100,11 +103,13 @@ impl<'a> Table<'a> {
     pub fn new(alloc: Global, items: &'a [Item]) -> Result<Table<'a>, AllocError>
         ensures { IfOk result (λ table. table.items.now ≡ items.now) }
     {
-        let globals = Globals::new(alloc, items)?;
-        let definitions = definitions_of(alloc, items)?;
+        let seed = seed_of(items);
+        let globals = Globals::new(alloc, seed, items)?;
+        let definitions = definitions_of(alloc, seed, items)?;
         Ok(Table {
             items,
             globals,
+            seed,
             definitions,
         })
     }
@@ -145,7 +150,7 @@ impl<'a> Table<'a> {
         }
     }
 
-    /// The number of the global of a name, where so many are known.
+    /// The number of the global of a name among the first `known` globals.
     pub fn global_of(&self, name: &str, known: usize) -> Option<usize>
         ensures { result ≡ global_of (take known (names_in self.now.items.now)) name.now }
     {
@@ -163,7 +168,8 @@ impl<'a> Table<'a> {
     }
 }
 
-/// What a procedure sees of its file: all procedures, and so many globals, those before it.
+/// What a procedure sees of its file: all procedures, and the first `globals` globals, which stand
+/// before it.
 #[derive(Clone, Copy)]
 pub struct FileScope<'t, 'a> {
     pub table: &'t Table<'a>,

@@ -44,3 +44,4 @@ mod AddingStatements
 mod Lowerable
 mod Making
 mod Whole
+mod OneLowering

@@ -12,6 +12,7 @@ ghost use Rattle.flow_build.specs.steps.Operands.{constant_lin};
 ghost use Rattle.flow_build.specs.steps.Blocks.{edges_of, opening_blocks};
 ghost use Rattle.flow_build.specs.steps.Layouts.{global_slots};
 ghost use Rattle.flow_build.specs.steps.Procedures.{IsGraphWith, IsGraphOf, Makes, Made};
+ghost use Rattle.flow_build.specs.Lowered.{AreLowered};
 ghost use Rattle.flow_build.specs.Promises.{AreBounded};
 ghost use Rattle.flow_graph.specs.ProgramGraphs.{SameRuns};
 
@@ -233,6 +234,7 @@ pub fn build(alloc: Global, program: &Program) -> Result<Graphs, OutOfMemory>
     requires divisors { DividesByLiterals (program_of program.now) }
     ensures runs { IfOk result (λ g. SameRuns (program_of program.now) g.graphs) }
     ensures bounds { IfOk result (λ g. AreBounded (program_of program.now) g.graphs) }
+    ensures built { IfOk result (λ g. AreLowered (program_of program.now) g.graphs) }
 {
     let mut graphs = Vec::with_capacity(alloc, program.procedures.len())?;
     push_graphs(&mut graphs, alloc, program)?;

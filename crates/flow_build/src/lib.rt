@@ -8,6 +8,7 @@ mod constant;
 mod division;
 mod expression;
 mod landing;
+pub mod laws;
 mod layout;
 mod linear;
 pub mod operand;

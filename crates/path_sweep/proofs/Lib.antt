@@ -1,4 +1,5 @@
-pub mod Following
+pub mod Answered
+mod Following
 pub mod Folding
 pub mod Stepping
 pub mod Fitting

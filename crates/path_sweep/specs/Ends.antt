@@ -1,10 +1,13 @@
 -- How a sweep ends, and what it found.
-use Rattle.std.specs.Prelude.{◌≡◌, ◌⊎◌, ℕ, ◌<◌, ◌≤◌, List, [], ◌∷◌, ◌++◌, length, Option, None, Some, slice_get, ℤ, Vec}
+use Rattle.std.specs.Prelude.{◌≡◌, ◌≢◌, ◌⊎◌, ℕ, ◌<◌, ◌≤◌, List, [], ◌∷◌, ◌++◌, length, Option, None, Some, slice_get, ℤ, Vec}
 use Rattle.std.specs.declared.alloc.Global.{Global}
 use Rattle.linear_formula.specs.declared.question.Question.TheVariants as asks
+use Rattle.shadow_elim.specs.LimitKinds.{kind_of}
 use Rattle.shadow_elim.specs.Plan.{solution, limit_met}
+use Rattle.shadow_elim.specs.RightLimit.{IsRight}
 use Rattle.shadow_elim.specs.Sums.{IsFirstWide, first_wide}
 use Rattle.shadow_elim.specs.declared.limit.Kept.{Kept}
+use Rattle.shadow_elim.specs.declared.limit.LimitKind.TheVariants as kind
 use Rattle.shadow_elim.specs.declared.sum.Sum.{Sum}
 use Rattle.flow_graph.specs.declared.graph.Graph.{Graph}
 use Rattle.flow_graph.specs.Runs.{failed}
@@ -98,3 +101,14 @@ pub record EndsSo (gs : List Graph) (main asserts edges : ℕ) (swept : Swept) :
   pub all : length swept.found.items ≡ asserts
   pub entries : (id : ℕ) (o : Option (Vec ℤ Global)) → slice_get swept.found.items id ≡ Some o →
       IsEntry gs main counted id (inputs_in o)
+
+-- where no question meets a limit, and the tree has at most so many edges, the sweep is whole
+abbrev pub ComesWhole : List Graph → (main edges : ℕ) → SweepEnd → Type 0
+ComesWhole gs main edges end =
+    ((q : List ℕ) → Undecided gs main q → ⊥) → (paths : List (List ℕ)) →
+    AreThose (IsFeasible gs main) paths → length paths ≤ edges → end ≡ how.Whole
+
+-- a limit at which it ends is that of its cube or sum, and not that of an inexact pair
+abbrev pub HasRightLimit : SweepEnd → Type 0
+HasRightLimit end =
+    (kept : Kept) → end ≡ how.Limit kept → IsRight kept × (kind_of kept.limit ≢ kind.Inexact)

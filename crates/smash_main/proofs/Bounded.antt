@@ -1,19 +1,12 @@
 -- A command takes one byte more than it may read at most.
-use Rattle.std.proofs.Common.{◌≡◌, subst, ℕ, ◌+◌, ◌≤◌, List, [], length, Option, refl, arith, inl, inr}
-use Rattle.std.specs.Io.KnownBytes.{Consumes}
-use Rattle.std.proofs.KnownBytes.{Consumes-nil}
+use Rattle.std.proofs.Common.{◌≡◌, subst, ℕ, ◌+◌, refl, arith, inl, inr}
 use Rattle.outer_io.specs.Causes.{TookAtMost}
-use Rattle.smash_main.specs.Source.{source_limit}
+use Rattle.source_program.specs.Source.{source_limit}
 use Rattle.smash_main.specs.Analysis.{Witness}
 use Rattle.smash_main.specs.Words.{Command, check, replay, workload, bundle, recheck, sweep, edit}
-use Rattle.smash_main.specs.Run.{Change, limit_of, Obeys, ObeysSource, TakesAtMost}
-
--- nothing is taken from what stays as it was
-pub took_none : (a : Option (List ℕ)) (most : ℕ) → TookAtMost a a most
-took_none a most = (0, omega arith, ([], Consumes-nil a, refl))
-
-pub took_whole : (a b : Option (List ℕ)) (bytes : List ℕ) (most : ℕ) → Consumes a b bytes → length bytes ≤ most → TookAtMost a b (most + 1)
-took_whole a b bytes most h fits = (length bytes, omega (arith, fits), (bytes, h, refl))
+use Rattle.smash_main.specs.Run.{limit_of, Obeys, ObeysSource}
+use Rattle.source_program.specs.Ends.{Change, TakesAtMost}
+use Rattle.source_program.proofs.Taking.{took_none, took_whole}
 
 source_bounded : (c : Command) (status : ℕ) (source sink : Change) (w : Witness) → ObeysSource c status source sink w →
     TakesAtMost source (limit_of c + 1)

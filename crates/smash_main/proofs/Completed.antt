@@ -1,6 +1,5 @@
 -- Where nothing fails, what is accepted is answered.
-use Rattle.std.proofs.Common.{◌≡◌, ◌⊎◌, ℕ, suc, ◌<◌, ◌≤◌, List, ◌++◌, length, Bool, leb, true, false, cond, Option, Some, None, sym, ap, ◌∙◌, subst, arith, append-nil, length-append}
-use Rattle.std.specs.Io.KnownBytes.{Consumes, IsAtEnd}
+use Rattle.std.proofs.Common.{◌≡◌, ◌⊎◌, ℕ, suc, ◌<◌, ◌≤◌, List, length, Bool, leb, true, false, cond, sym, subst, arith}
 use Rattle.std.specs.List.{list_any}
 use Rattle.std.proofs.lemmas.Bool.Decides.{leb_tells}
 use mathlib.Core.Logic.{inl, inr}
@@ -22,25 +21,9 @@ use Rattle.smash_main.specs.Answers.{AnswersBundle, IsGood, Settles}
 use Rattle.smash_main.specs.Asked.{replay_status, status_of}
 use Rattle.smash_main.specs.Bundled.{HasFewer, IsBundled, IsRechecked, TellsProof, TellsVerdict, bundle_limit}
 use Rattle.smash_main.specs.Swept.{entries_of, unfound_at}
-use Rattle.smash_main.specs.Run.{Change, EndsWith, EndsWorkload, HasFault, Obeys, ObeysSource, Completes, CompletesSource, IsVerdictStatus}
-
--- what was read whole is all that there was
-whole : (before after : Option (List ℕ)) (all bytes : List ℕ) → before ≡ Some all → Consumes before after bytes → IsAtEnd after →
-    bytes ≡ all
-whole None after all bytes told h end = absurd (let k = told in cc)
-whole (Some xs) None all bytes told h end = absurd h
-whole (Some xs) (Some ys) all bytes told h end =
-    let same : xs ≡ all = cc in
-    sym (append-nil bytes) ∙ ap (λ z. bytes ++ z) (sym end) ∙ sym h ∙ same
-
--- no more is taken than there was
-at_most : (before after : Option (List ℕ)) (all bytes : List ℕ) → before ≡ Some all → Consumes before after bytes →
-    length bytes ≤ length all
-at_most None after all bytes told h = absurd (let k = told in cc)
-at_most (Some xs) None all bytes told h = absurd h
-at_most (Some xs) (Some ys) all bytes told h =
-    let same : xs ≡ all = cc in
-    omega (arith, length-append bytes ys, ap length h, ap length same)
+use Rattle.smash_main.specs.Run.{EndsWorkload, Obeys, ObeysSource, Completes, CompletesSource, IsVerdictStatus}
+use Rattle.source_program.specs.Ends.{Change, EndsWith, HasFault}
+use Rattle.source_program.proofs.Taking.{whole, at_most}
 
 three_way : (found unknown : Bool) (status : ℕ) → status ≡ cond found 1 (cond unknown 2 0) → IsVerdictStatus status
 three_way true unknown status h = inr (inl h)

@@ -1,4 +1,4 @@
-pub mod Accepted
+pub mod Accepting
 pub mod Appending
 pub mod Bounded
 pub mod Bounding
@@ -21,6 +21,7 @@ pub mod Listings
 pub mod Obeyed
 pub mod Placed
 pub mod Rechecking
+pub mod Refusing
 pub mod Replying
 pub mod Sizing
 pub mod Sweeping

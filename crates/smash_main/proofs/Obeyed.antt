@@ -3,11 +3,12 @@ use Rattle.std.proofs.Common.{◌≡◌, ◌⊎◌, ℕ, ◌+◌, ◌≤◌, Lis
 use Rattle.outer_io.specs.Causes.{Took, TookAtMost}
 use Rattle.workload_gen.specs.Workload.{text_of, workload_lines}
 use Rattle.smash_main.specs.Analysis.{Witness, no_witness}
-use Rattle.smash_main.specs.Run.{Change, limit_of, long_text_of, EndsEmpty, EndsWith, EndsWorkload, Obeys, ObeysSource, StaysAsItWas}
-use Rattle.smash_main.specs.Source.{IsAccepted}
+use Rattle.smash_main.specs.Run.{limit_of, long_text_of, EndsEmpty, EndsWorkload, Obeys, ObeysSource}
+use Rattle.source_program.specs.Ends.{Change, EndsWith, StaysAsItWas}
+use Rattle.source_program.specs.Source.{IsAccepted}
 use Rattle.smash_main.specs.Words.{Command, check, replay, workload, bundle, recheck, sweep, edit}
 use Rattle.smash_main.specs.steps.Handing.{EndsAsked, EndsSilent}
-use Rattle.smash_main.proofs.Bounded.{took_none}
+use Rattle.source_program.proofs.Taking.{took_none}
 use Rattle.smash_main.proofs.WorkloadAccepted.{workload_accepted}
 
 -- memory ran out, and the source is as it was

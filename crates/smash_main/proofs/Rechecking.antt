@@ -5,6 +5,7 @@ use mathlib.Core.Logic.{inl, inr}
 use Rattle.c_tree.specs.Meaning.{Reaches}
 use Rattle.c_tree.specs.Syntax.{PureProgram}
 use Rattle.c_tree.specs.declared.tree.AssertPlace.{AssertPlace}
+use Rattle.flow_build.specs.Lowered.{AreLowered}
 use Rattle.flow_build.specs.Promises.{AreBounded}
 use Rattle.flow_graph.specs.ProgramGraphs.{SameRuns}
 use Rattle.flow_graph.specs.declared.graph.Graph.{Graph}
@@ -18,8 +19,8 @@ use Rattle.smash_main.specs.Bundled.{IsRechecked}
 use Rattle.smash_main.specs.steps.Handing.{TellsChecked}
 
 module _ (P : PureProgram) (b : PureBundle) (gs : List Graph) (runs : SameRuns P gs) (arities : SameArities P gs)
-    (bounds : AreBounded P gs) (place : AssertPlace) (at : slice_get P.asserts b.id ≡ Some place) (status : ℕ) (text : List ℕ)
-    (w : Witness) where
+    (bounds : AreBounded P gs) (built : AreLowered P gs) (place : AssertPlace) (at : slice_get P.asserts b.id ≡ Some place)
+    (status : ℕ) (text : List ℕ) (w : Witness) where
   pub rechecked : (c : Checked) → (c ≡ Right ↔ IsRightProof gs P.main b) → ((n : ℕ) → c ≡ Wrong n ↔ IsFirstWrong gs P.main b n) →
       (c ≡ Right → (ins : List ℤ) → ¬ Reaches P b.id ins) → TellsChecked place c status text w → IsRechecked P b status text w
   rechecked Right right wrong sound t = record {
@@ -27,6 +28,7 @@ module _ (P : PureProgram) (b : PureBundle) (gs : List Graph) (runs : SameRuns P
     runs = runs;
     arities = arities;
     bounds = bounds;
+    built = built;
     place = place;
     at = at;
     told = inl (right.0 refl, t.0, t.1);
@@ -38,6 +40,7 @@ module _ (P : PureProgram) (b : PureBundle) (gs : List Graph) (runs : SameRuns P
     runs = runs;
     arities = arities;
     bounds = bounds;
+    built = built;
     place = place;
     at = at;
     told = inr (n, (wrong n).0 refl, t.0, t.1);

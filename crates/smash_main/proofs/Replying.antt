@@ -4,7 +4,7 @@ use Rattle.c_tree.specs.Syntax.{PureProgram}
 use Rattle.smash_main.specs.Analysis.{Witness}
 use Rattle.smash_main.specs.Answers.{Answers, AsksAnswer, AsksFor, Settles}
 use Rattle.smash_main.specs.Asked.{AsksRefusal}
-use Rattle.smash_main.specs.Source.{IsAccepted}
+use Rattle.source_program.specs.Source.{IsAccepted}
 use Rattle.smash_main.specs.Words.{Command, check, replay, workload, bundle, recheck, sweep, edit}
 use Rattle.smash_main.specs.steps.Handing.{IsOfOneSource}
 

@@ -11,7 +11,7 @@ use Rattle.c_tree.specs.WellFormed.{IsWellFormed}
 use Rattle.flow_graph.specs.Columns.{AreAllValues}
 use Rattle.flow_graph.specs.ProgramGraphs.{SameRuns}
 use Rattle.flow_graph.specs.declared.graph.Graph.{Graph}
-use Rattle.path_sweep.specs.Ends.{EndsSo, IsEnd, IsEntry, inputs_in}
+use Rattle.path_sweep.specs.Ends.{ComesWhole, EndsSo, IsEnd, IsEntry, inputs_in, HasRightLimit}
 use Rattle.path_sweep.specs.declared.swept.SweepEnd.TheVariants as how
 use Rattle.path_sweep.specs.declared.swept.Swept.{Swept}
 use Rattle.path_sweep.proofs.Ending.{found_reaches, whole_decides}
@@ -72,15 +72,19 @@ module _ (P : PureProgram) (fine : IsWellFormed P) (opening : AreAllValues P.glo
       reaches_in_program P fine opening gs runs id ins f.0 f.1
 
 pub swept_is : (P : PureProgram) → IsWellFormed P → AreAllValues P.globals → (gs : List Graph) → AreGraphsFor P gs → (edges : ℕ)
-    (swept : Swept) → EndsSo gs P.main (length P.asserts) edges swept → (status : ℕ) (text : List ℕ) (w : Witness) →
+    (swept : Swept) → EndsSo gs P.main (length P.asserts) edges swept → ComesWhole gs P.main edges swept.end → HasRightLimit swept.end →
+    (status : ℕ) (text : List ℕ) (w : Witness) →
     TellsSwept P edges swept status text w → IsSwept P edges status text w
-swept_is P fine opening gs are edges swept e status text w t = record {
+swept_is P fine opening gs are edges swept e whole right status text w t = record {
   graphs = gs;
   runs = are.runs;
   arities = same_arities P gs are.bounds;
   bounds = are.bounds;
+  built = are.built;
   swept = swept;
   ends = e;
+  whole = whole;
+  right = right;
   decided = swept_decided P fine opening gs are.runs edges swept e;
   reached = swept_reached P fine opening gs are.runs edges swept e;
   ended = t.ended;

@@ -1,9 +1,10 @@
 -- What `bundle` answers, put together.
-use Rattle.std.proofs.Common.{◌≡◌, ℕ, suc, List, [], subst, sym}
+use Rattle.std.proofs.Common.{◌≡◌, ℕ, suc, false, List, [], subst, sym}
 use Rattle.c_tree.specs.Syntax.{PureProgram}
 use Rattle.c_tree.specs.WellFormed.{IsWellFormed}
 use Rattle.flow_graph.specs.Columns.{AreAllValues}
 use Rattle.bolt_core.specs.Boards.{Shown}
+use Rattle.bolt_core.specs.Histories.{has_said}
 use Rattle.smash_main.specs.Analysis.{IsBoardOf, Witness, board_alone}
 use Rattle.smash_main.specs.Bundled.{IsBundled, TellsVerdict}
 use Rattle.smash_main.specs.declared.bundles.Told.{Told}
@@ -11,15 +12,17 @@ use Rattle.smash_main.specs.steps.Handing.{IsTold}
 use Rattle.smash_main.proofs.Judging.{judged}
 
 pub bundled : (P : PureProgram) → IsWellFormed P → AreAllValues P.globals → (bytes : List ℕ) (number id budget : ℕ) → number ≡ suc id →
-    (board : Shown) → IsBoardOf P budget [] board → (t : Told) → IsTold P board bytes id t → (status : ℕ) (text : List ℕ) (w : Witness) →
+    (board : Shown) → IsBoardOf P budget [] board → ((i : ℕ) → has_said board.core.history i ≡ false) → (t : Told) →
+    IsTold P board bytes id t → (status : ℕ) (text : List ℕ) (w : Witness) →
     status ≡ t.status → text ≡ t.text.items → w ≡ board_alone board → IsBundled P bytes number budget status text w
-bundled P fine opening bytes number id budget counted board is t told status text w status_is text_is handed = record {
+bundled P fine opening bytes number id budget counted board is unsaid t told status text w status_is text_is handed = record {
   id = id;
   counted = counted;
   place = told.place;
   at = told.at;
   board = board;
   board_is = is;
+  unsaid = unsaid;
   handed = handed;
   verdict = told.verdict;
   right = judged P fine opening budget [] board is id told.verdict told.right;

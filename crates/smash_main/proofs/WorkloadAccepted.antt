@@ -4,7 +4,7 @@ use Rattle.c_tree.specs.Syntax.{PureProgram}
 use Rattle.c_parser.specs.Answer.{IsShallowFile}
 use Rattle.c_typing.specs.Lowering.{lowered_file}
 use Rattle.workload_gen.specs.Workload.{workload_lines, text_of}
-use Rattle.smash_main.specs.Source.{IsAccepted}
+use Rattle.source_program.specs.Source.{IsAccepted}
 use Rattle.smash_main.proofs.WorkloadTokens.{workload_has_tokens}
 use Rattle.smash_main.proofs.WorkloadTree.{workload_items}
 use Rattle.smash_main.proofs.WorkloadFile.{workload_reads}

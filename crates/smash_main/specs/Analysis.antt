@@ -1,6 +1,7 @@
 -- The verdicts of an analysis, and the board at which they were come to.
 use Rattle.std.specs.Prelude.{◌≡◌, ℕ, List, length, true, false, Option, None, Some, slice_get}
 use Rattle.c_tree.specs.Syntax.{PureProgram}
+use Rattle.flow_build.specs.Lowered.{AreLowered}
 use Rattle.flow_build.specs.Promises.{AreBounded}
 use Rattle.flow_graph.specs.ProgramGraphs.{SameRuns}
 use Rattle.summary_form.specs.declared.summary.Summary.{Summary}
@@ -17,6 +18,7 @@ use Rattle.smash_main.specs.Verdict.{VerdictSays}
 pub record IsBoardOf (P : PureProgram) (budget : ℕ) (kept : List Summary) (b : Shown) : Type 0 where
   pub runs : SameRuns P b.graphs
   pub bounds : AreBounded P b.graphs
+  pub built : AreLowered P b.graphs
   pub reached : IsBoard b
   pub main : b.main ≡ P.main
   pub roots : b.asserts ≡ length P.asserts

@@ -4,7 +4,7 @@ use Rattle.c_tree.specs.Syntax.{PureProgram}
 use Rattle.proof_bundle.specs.Claims.{PureBundle}
 use Rattle.report_text.specs.Bundles.{no_bundle_text}
 use Rattle.smash_main.specs.Words.{Command, check, replay, workload, bundle, recheck, sweep, edit}
-use Rattle.smash_main.specs.Source.{IsAccepted}
+use Rattle.source_program.specs.Source.{IsAccepted}
 use Rattle.smash_main.specs.Analysis.{Witness, no_witness}
 use Rattle.smash_main.specs.Asked.{AsksRefusal, IsReplayed, IsReported}
 use Rattle.smash_main.specs.Bundled.{HasFewer, IsBundled, IsRechecked, IsTextOf}

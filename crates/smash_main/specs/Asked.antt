@@ -9,7 +9,7 @@ use Rattle.bolt_core.specs.declared.job.Verdict.{Verdict}
 use Rattle.report_text.specs.Refused.{refusal_line}
 use Rattle.report_text.specs.Replay.{replay_text}
 use Rattle.report_text.specs.Report.{is_found, is_unknown, report_of}
-use Rattle.smash_main.specs.Source.{IsRefused}
+use Rattle.source_program.specs.Source.{IsRefused}
 use Rattle.smash_main.specs.Analysis.{IsAnalysis, Witness, board_alone, no_witness}
 
 -- the first refusal of the bytes

@@ -1,13 +1,15 @@
 -- What `bundle` and `recheck` answer.
-use Rattle.std.specs.Prelude.{◌≡◌, ◌⊎◌, ℕ, suc, ◌<◌, ◌≤◌, [], List, length, Some, slice_get, ℤ}
+use Rattle.std.specs.Prelude.{◌≡◌, ◌⊎◌, ℕ, suc, ◌<◌, ◌≤◌, false, [], List, length, Some, slice_get, ℤ}
 use Rattle.c_tree.specs.Meaning.{Reaches}
 use Rattle.c_tree.specs.Syntax.{PureProgram}
 use Rattle.c_tree.specs.declared.tree.AssertPlace.{AssertPlace}
+use Rattle.flow_build.specs.Lowered.{AreLowered}
 use Rattle.flow_build.specs.Promises.{AreBounded}
 use Rattle.flow_graph.specs.ProgramGraphs.{SameRuns}
 use Rattle.flow_graph.specs.declared.graph.Graph.{Graph}
 use Rattle.summary_form.specs.ProgramGraphs.{SameArities}
 use Rattle.bolt_core.specs.Boards.{Shown}
+use Rattle.bolt_core.specs.Histories.{has_said}
 use Rattle.bolt_core.specs.declared.job.Verdict.{Verdict}
 use Rattle.bolt_core.specs.declared.job.Verdict.TheVariants.{Proved, Found, Budget, Limit}
 use Rattle.proof_bundle.specs.Claims.{PureBundle}
@@ -62,7 +64,8 @@ TellsVerdict board bytes id place (Budget n) status text =
 TellsVerdict board bytes id place (Limit kind) status text =
     (status ≡ 2) × (text ≡ line_of place (Limit kind))
 
--- the assertion of this number, counted from 1, after an analysis by one worker
+-- the assertion of this number, counted from 1, after an analysis by one worker: no query's answer
+-- was published at the board while others worked
 pub record IsBundled (P : PureProgram) (bytes : List ℕ) (number budget status : ℕ) (text : List ℕ)
     (w : Witness) : Type 0 where
   pub id : ℕ
@@ -71,6 +74,7 @@ pub record IsBundled (P : PureProgram) (bytes : List ℕ) (number budget status 
   pub at : slice_get P.asserts id ≡ Some place
   pub board : Shown
   pub board_is : IsBoardOf P budget [] board
+  pub unsaid : (i : ℕ) → has_said board.core.history i ≡ false
   pub handed : w ≡ board_alone board
   pub verdict : Verdict
   pub right : IsVerdict P board id verdict
@@ -78,14 +82,15 @@ pub record IsBundled (P : PureProgram) (bytes : List ℕ) (number budget status 
 
 -- Bundles that are checked
 
--- The bundle is right over graphs of the program that keep the bounds of what is built, or this is
--- its first claim that isn't. Where it is right, no inputs reach its assertion.
+-- The bundle is right over the graphs that the program is lowered to, or this is its first claim
+-- that isn't. Where it is right, no inputs reach its assertion.
 pub record IsRechecked (P : PureProgram) (b : PureBundle) (status : ℕ) (text : List ℕ)
     (w : Witness) : Type 0 where
   pub graphs : List Graph
   pub runs : SameRuns P graphs
   pub arities : SameArities P graphs
   pub bounds : AreBounded P graphs
+  pub built : AreLowered P graphs
   pub place : AssertPlace
   pub at : slice_get P.asserts b.id ≡ Some place
   pub told : (IsRightProof graphs P.main b × (status ≡ 0) × (text ≡ accepted_line place))

@@ -10,7 +10,7 @@ use Rattle.report_text.specs.Report.{report_of}
 use Rattle.c_tree.specs.declared.tree.Pos.{Pos}
 use Rattle.smash_main.specs.Analysis.{IsAnalysis, IsBoardOf, Witness, no_witness}
 use Rattle.smash_main.specs.Asked.{status_of}
-use Rattle.smash_main.specs.Source.{IsRefused}
+use Rattle.source_program.specs.Source.{IsRefused}
 
 -- there are fewer bytes than the old source is to have
 pub record IsTooShort (old_length : ℕ) (bytes : List ℕ) (status : ℕ) (text : List ℕ) (w : Witness) :

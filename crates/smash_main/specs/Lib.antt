@@ -4,8 +4,8 @@ pub mod Asked
 pub mod Bundled
 pub mod Bundling
 pub mod Edited
+pub mod Laws
 pub mod Run
-pub mod Source
 pub mod Swept
 pub mod Verdict
 pub mod Words

@@ -1,46 +1,18 @@
 -- What the program owes to its words, its source and its sink.
 use Rattle.std.specs.Prelude.{◌≡◌, ℕ, ◌+◌, ◌≤◌, List, length, ◌⊎◌, Some}
-use Rattle.std.specs.declared.option.Option.{Option}
-use Rattle.std.specs.Io.KnownBytes.{Consumes, Appends, IsAtEnd, Keeps}
-use Rattle.outer_io.specs.Causes.{Rose, Took, TookAtMost, WritesFront}
+use Rattle.outer_io.specs.Causes.{Took}
 use Rattle.c_tree.specs.Syntax.{PureProgram}
 use Rattle.report_text.specs.Bundles.{long_bundle_text}
 use Rattle.report_text.specs.Refused.{too_long_text}
 use Rattle.report_text.specs.Usage.{usage_text}
 use Rattle.smash_main.specs.Words.{Command, workload, recheck, edit}
-use Rattle.smash_main.specs.Source.{IsAccepted, source_limit}
+use Rattle.source_program.specs.Ends.{Change, EndsWith, HasFault, IsWhole, StaysAsItWas, TakesAtMost}
+use Rattle.source_program.specs.Source.{IsAccepted, source_limit}
 use Rattle.smash_main.specs.Analysis.{Witness, no_witness}
 use Rattle.smash_main.specs.Answers.{AsksFor, IsGood, Settles}
 use Rattle.smash_main.specs.Asked.{IsReported}
 use Rattle.smash_main.specs.Bundled.{bundle_limit}
 use Rattle.workload_gen.specs.Workload.{text_of, workload_lines}
-
--- a source or a sink before and after: what is known of its bytes, and its count of faults
-pub record Change : Type 0 where
-  pub before : Option (List ℕ)
-  pub after : Option (List ℕ)
-  pub faults_before : ℕ
-  pub faults_after : ℕ
-
-abbrev pub change : (before after : Option (List ℕ)) → (faults_before faults_after : ℕ) → Change
-change b a fb fa = record { before = b; after = a; faults_before = fb; faults_after = fa }
-
-abbrev pub HasFault : Change → Type 0
-HasFault c = Rose c.faults_before c.faults_after
-
-abbrev pub StaysAsItWas : Change → Type 0
-StaysAsItWas c = Keeps c.before c.after
-
--- at most `most` bytes of the source were taken
-abbrev pub TakesAtMost : Change → ℕ → Type 0
-TakesAtMost c most = TookAtMost c.before c.after most
-
--- The status is this one, and the sink took this whole text. Or a write failed, the status is 6,
--- and the sink took a prefix of the text.
-abbrev pub EndsWith : ℕ → Change → ℕ → List ℕ → Type 0
-EndsWith status sink due text =
-    ((status ≡ due) × Appends sink.before sink.after text) ⊎
-    ((status ≡ 6) × HasFault sink × WritesFront sink.before sink.after text)
 
 -- the most bytes that a command reads of its source, beside one more that shows that it is longer
 abbrev pub limit_of : Command → ℕ
@@ -52,12 +24,6 @@ limit_of c = source_limit
 abbrev pub long_text_of : Command → List ℕ
 long_text_of recheck = long_bundle_text
 long_text_of c = too_long_text
-
--- all the bytes of the source, at most `most`, were read
-pub record IsWhole (most : ℕ) (source : Change) (bytes : List ℕ) : Type 0 where
-  pub consumed : Consumes source.before source.after bytes
-  pub at_end : IsAtEnd source.after
-  pub fits : length bytes ≤ most
 
 -- The source was read whole, and the end is what its bytes ask for, with what is handed back beside
 -- it. What is accepted is never refused.

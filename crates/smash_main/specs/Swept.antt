@@ -3,12 +3,13 @@ use Rattle.std.specs.Prelude.{◌≡◌, ℕ, List, length, map, None, Option, S
 use Rattle.std.specs.List.{list_any}
 use Rattle.c_tree.specs.Meaning.{Reaches}
 use Rattle.c_tree.specs.Syntax.{PureProgram}
+use Rattle.flow_build.specs.Lowered.{AreLowered}
 use Rattle.flow_build.specs.Promises.{AreBounded}
 use Rattle.flow_graph.specs.ProgramGraphs.{SameRuns}
 use Rattle.flow_graph.specs.declared.graph.Graph.{Graph}
 use Rattle.summary_form.specs.ProgramGraphs.{SameArities}
 use Rattle.shadow_elim.specs.LimitKinds.{kind_of}
-use Rattle.path_sweep.specs.Ends.{EndsSo}
+use Rattle.path_sweep.specs.Ends.{ComesWhole, EndsSo, HasRightLimit}
 use Rattle.path_sweep.specs.declared.swept.SweepEnd.{SweepEnd}
 use Rattle.path_sweep.specs.declared.swept.SweepEnd.TheVariants as how
 use Rattle.path_sweep.specs.declared.swept.Swept.{Swept}
@@ -32,7 +33,7 @@ sweep_status others os =
     if list_any is_found_entry os then 1 else
     (if list_any (is_unknown_entry others) os then 2 else 0)
 
--- The sweep of graphs of the program that keep the bounds of what is built. Where all paths were
+-- The sweep of the graphs that the program is lowered to. Where all paths were
 -- counted, no inputs reach an assertion that wasn't found; the inputs of one that was found reach
 -- it.
 pub record IsSwept (P : PureProgram) (edges status : ℕ) (text : List ℕ) (w : Witness) : Type 0 where
@@ -40,8 +41,11 @@ pub record IsSwept (P : PureProgram) (edges status : ℕ) (text : List ℕ) (w :
   pub runs : SameRuns P graphs
   pub arities : SameArities P graphs
   pub bounds : AreBounded P graphs
+  pub built : AreLowered P graphs
   pub swept : Swept
   pub ends : EndsSo graphs P.main (length P.asserts) edges swept
+  pub whole : ComesWhole graphs P.main edges swept.end
+  pub right : HasRightLimit swept.end
   pub decided : swept.end ≡ how.Whole → (id : ℕ) → slice_get (entries_of swept) id ≡ Some None →
       (ins : List ℤ) → ¬ Reaches P id ins
   pub reached : (id : ℕ) (ins : List ℤ) → slice_get (entries_of swept) id ≡ Some (Some ins) →

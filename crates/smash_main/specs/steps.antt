@@ -1,4 +1,3 @@
-pub mod Accepting
 pub mod Claims
 pub mod Growing
 pub mod Handing

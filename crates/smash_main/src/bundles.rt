@@ -8,7 +8,7 @@ ghost use Rattle.bolt_core.specs.States.{reads};
 ghost use Rattle.bolt_core.specs.Verdicts.{HasVerdict, IsProvedIn};
 ghost use Rattle.smash_main.specs.Analysis.{IsBoardOf};
 ghost use Rattle.smash_main.specs.Bundled.{HasFewer, IsBundled, TellsProof, TellsVerdict};
-ghost use Rattle.smash_main.specs.Source.{source_limit};
+ghost use Rattle.source_program.specs.Source.{source_limit};
 ghost use Rattle.smash_main.specs.steps.Handing.{IsTold, handed_in};
 ghost use Rattle.smash_main.specs.steps.Listing.{IsBare};
 ghost use Rattle.smash_main.specs.steps.WordsView.{FitsCheck};

@@ -1,7 +1,6 @@
 //! The checker `smash`: the words of the command line, standard input and standard output.
 #![tactic(auto)]
 
-mod accept;
 mod analysis;
 mod bundles;
 mod bundling;
@@ -9,6 +8,7 @@ mod claiming;
 mod edits;
 mod kept;
 mod killing;
+pub mod laws;
 mod leads;
 mod listing;
 mod making;

@@ -8,11 +8,10 @@ ghost use Rattle.proof_bundle.specs.Claims.{pure_of};
 ghost use Rattle.proof_bundle.specs.Text.{IsBundle};
 ghost use Rattle.smash_main.specs.Answers.{AnswersBundle, AsksFor, Settles};
 ghost use Rattle.smash_main.specs.Asked.{AsksRefusal};
-ghost use Rattle.smash_main.specs.Source.{IsAccepted};
+ghost use Rattle.source_program.specs.Source.{IsAccepted};
 ghost use Rattle.smash_main.specs.Words.{recheck};
 ghost use Rattle.smash_main.specs.steps.Handing.{TellsChecked, handed_in};
 
-use crate::accept::{Rejection, accept};
 use crate::analysis::graphs_of;
 use crate::replies::{Reply, bare_reply, refused, refused_as};
 use bundle_check::{Checked, check_bundle};
@@ -21,6 +20,7 @@ use proof_bundle::bundle::Bundle;
 use proof_bundle::error::BundleError;
 use proof_bundle::read_bundle;
 use report_text::{accepted, no_assertion, no_bundle, rejected};
+use source_program::{Rejection, accept};
 use std::alloc::{AllocError, Global};
 
 /// What is written of a bundle that was checked.

@@ -4,7 +4,7 @@ ghost use Rattle.std.specs.Prelude.{◌≡◌, ℕ, List, IfOk};
 ghost use Rattle.report_text.specs.Refused.{IsOfSource};
 ghost use Rattle.smash_main.specs.Analysis.{board_alone, no_witness};
 ghost use Rattle.smash_main.specs.Asked.{AsksRefusal};
-ghost use Rattle.smash_main.specs.steps.Accepting.{IsRefusedFor};
+ghost use Rattle.source_program.specs.Rejections.{IsRefusedFor};
 ghost use Rattle.smash_main.specs.steps.Handing.{handed_in};
 
 use bolt_core::board::Board;

@@ -6,22 +6,21 @@ ghost use Rattle.smash_main.specs.Analysis.{handed_by, no_witness};
 ghost use Rattle.smash_main.specs.Words.{IsCommand, IsNoCommand, Command as PureCommand, workload};
 ghost use Rattle.smash_main.specs.steps.Handing.{EndsAsked, EndsSilent, handed_in};
 ghost use Rattle.smash_main.specs.steps.WordsView.{FitsCommand, command_of};
-ghost use Rattle.smash_main.specs.Run.{change, limit_of, long_text_of, EndsWith, EndsUsage, StaysAsItWas, Obeys, ObeysSource, Completes};
+ghost use Rattle.smash_main.specs.Run.{limit_of, long_text_of, EndsUsage, Obeys, ObeysSource, Completes};
+ghost use Rattle.source_program.specs.Ends.{change, EndsWith, StaysAsItWas};
 
 use crate::replies::Reply;
 use crate::reply::reply_to;
 use crate::words::{Command, command_from};
 use bolt_core::board::Board;
-use outer_io::{Gate, ReadError, Sink, Source, read_all, write_all};
+use outer_io::{Gate, ReadError, Sink, Source, read_all};
 use report_text::fault::Refusal;
 use report_text::{long_bundle, refusal, usage};
+use source_program::{SOURCE_LIMIT, tell};
 use std::alloc::{AllocError, Global};
 use std::sync::Wait;
 use std::thread::Threads;
 use workload_gen::program_of;
-
-/// The most bytes that a source may have, `source_limit` of the clauses.
-const SOURCE_LIMIT: usize = 65_536;
 
 /// The most bytes that the text of a bundle may have, `bundle_limit` of the clauses.
 const BUNDLE_LIMIT: usize = 16_777_216;
@@ -46,17 +45,6 @@ fn end(status: u8) -> Finish
         status,
         board: None,
         old: None,
-    }
-}
-
-/// Writes a whole text, and gives the status with which to end.
-fn tell<K: Sink>(sink: &mut K, status: u8, text: &[u8]) -> u8
-    ensures { EndsWith result (change (K.taken sink.old) (K.taken sink.new)
-        (K.faults sink.old) (K.faults sink.new)) status text.now }
-{
-    match write_all(sink, text) {
-        Ok(_) => status,
-        Err(_) => 6,
     }
 }
 

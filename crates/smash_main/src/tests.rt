@@ -10,16 +10,16 @@ mod meeting;
 mod tables;
 mod worked;
 
-use self::afterwards::{AFTERWARDS, BUNDLED};
+use self::afterwards::{AFTERWARDS, BUNDLED, FAULTY};
 use self::agreement::{tally_alone, tally_calling, tally_dividing, tally_sharing};
 use self::analyses::{ANALYSES, CALLS, OPEN, Open};
 use self::command_lines::{AFTERWARDS_WORDS, CHECK_WORDS, REPLAY_WORDS, WORKLOAD_WORDS};
 use self::divisions::{DIVIDED, DIVISION_CHECKS, DIVISIONS};
 use self::globals::{GLOBAL_CHECKS, GLOBALS};
-use self::meeting::Meeting;
+use self::meeting::{Counting, Meeting};
 use self::tables::{
-    BLANKS, BODIES, CHECKS, FAULTS, Fault, LIMITS, Limit, NESTINGS, NO_COMMANDS, Nesting, REFUSALS,
-    REPLAYS, Row, SUM, SUM_REPORT, WORKLOADS,
+    BLANKS, BODIES, Blanks, CHECKS, FAULTS, Fault, LIMITS, Limit, NESTINGS, NO_COMMANDS, Nesting,
+    REFUSALS, REPLAYS, Row, SUM, SUM_REPORT, WORKLOADS,
 };
 use self::worked::WORKED;
 use crate::run::run;
@@ -231,6 +231,39 @@ fn answers_afterwards(rt: HostRuntime) -> Result<(), Fail> {
     agree(&rt, rt.alloc(), AFTERWARDS)
 }
 
+/// A bundle is made by one worker in the calling thread, which passes no gate.
+#[test]
+fn bundles_by_one_worker(rt: HostRuntime) -> Result<(), Fail> {
+    let words = words_in(rt.alloc(), "bundle|1")?;
+    let mut source = source_of(rt.alloc(), SUM, 4096, 1000)?;
+    let mut sink = MemSink::new(rt.alloc(), 4096, Vec::new(rt.alloc()), 7)?;
+    let gate = Counting::new();
+    let status = run(&rt, rt.alloc(), &words, &mut source, &mut sink, &gate).status;
+    assert_eq!(rt; (status, gate.passed()), (0, 0));
+    Ok(())
+}
+
+/// What is written where the first read fails, and where there is room for three bytes.
+fn of_both_faults<R: Threads + Wait + Sync>(
+    rt: &R,
+    alloc: Global,
+    line: &str,
+    text: &str,
+) -> Result<String, Fail> {
+    let unread = told(rt, alloc, line, source_of(alloc, text, 4096, 0)?, 4096)?;
+    let unwritten = told(rt, alloc, line, source_of(alloc, text, 4096, 1000)?, 3)?;
+    Ok(format!(in alloc; "{unread}; {unwritten}")?)
+}
+
+#[test]
+fn tells_of_faults_afterwards(rt: HostRuntime) -> Result<(), Fail> {
+    for &(line, text, wanted) in FAULTY {
+        let got = of_both_faults(&rt, rt.alloc(), line, text)?;
+        assert_eq!(&rt; got.as_str(), wanted, "{line} of {text}");
+    }
+    Ok(())
+}
+
 /// What is written of the bundle that words make of a text.
 fn rechecked<R: Threads + Wait + Sync>(
     rt: &R,
@@ -360,22 +393,23 @@ fn bounds_nesting(rt: HostRuntime) -> Result<(), Fail> {
 fn of_blanks<R: Threads + Wait + Sync>(
     rt: &R,
     alloc: Global,
+    line: &str,
     count: usize,
 ) -> Result<String, Fail> {
     let blanks = vec![in alloc; b' '; count]?;
     let source = MemSource::new(blanks, Vec::new(alloc), 4096);
-    told(rt, alloc, "check", source, 4096)
+    told(rt, alloc, line, source, 4096)
 }
 
 /// Each number of blanks is answered so.
 fn agree_on_blanks<R: Abort + Threads + Wait + Sync>(
     rt: &R,
     alloc: Global,
-    rows: &[(usize, &str)],
+    rows: &[Blanks],
 ) -> Result<(), Fail> {
-    for (count, wanted) in rows {
-        let got = of_blanks(rt, alloc, *count)?;
-        assert_eq!(rt; got.as_str(), *wanted, "{count} blanks");
+    for (line, count, wanted) in rows {
+        let got = of_blanks(rt, alloc, line, *count)?;
+        assert_eq!(rt; got.as_str(), *wanted, "{line} of {count} blanks");
     }
     Ok(())
 }

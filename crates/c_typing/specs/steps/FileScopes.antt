@@ -5,7 +5,7 @@ use Rattle.c_typing.specs.Scope.{FileScope}
 use Rattle.c_typing.specs.steps.Tables.{procedures_in}
 use Rattle.c_typing.specs.steps.Listed.{names_in}
 
--- all procedures of the file, and its first so many globals
+-- all procedures of the file, and its first globals
 abbrev pub file_scope : Shared → FileScope
 file_scope f = record {
   procedures = procedures_in f.table.now.items.now;

@@ -2,7 +2,7 @@
 use Rattle.std.specs.Prelude.{◌≡◌, ℕ, ℤ, List, map, Option, refl}
 use denote.Ref.{Bor}
 use Rattle.std.specs.Coded.{Coded, Coded-set, code_by, coded×, coded_ℕ, coded_ℤ, coded_list, coded_option, Π_prop}
-use Rattle.std.specs.BTreeMap.{BTreeMap}
+use Rattle.indexmap.specs.IndexMap.{IndexMap}
 use Rattle.c_tree.specs.declared.syntax_tree.GlobalTree.{GlobalTree}
 use Rattle.c_tree.specs.declared.syntax_tree.Item.{Item}
 use Rattle.c_tree.specs.SourceTree.{Global}
@@ -21,10 +21,10 @@ abbrev pub listed : List (Bor GlobalTree) → List Global
 listed gs = map (λ (g : Bor GlobalTree). tree_of_global g.now) gs
 
 -- the map has the number of the first global of each name
-abbrev pub AreNumbered : BTreeMap (Bor (List ℕ)) ℕ → List (Bor GlobalTree) → Type 0
+abbrev pub AreNumbered : {S : Type 0} → IndexMap (Bor (List ℕ)) ℕ S → List (Bor GlobalTree) → Type 0
 AreNumbered m gs = (x : List ℕ) → found_in m x ≡ global_of (global_names (listed gs)) x
 
-pub AreNumbered-prop : (m : BTreeMap (Bor (List ℕ)) ℕ) (gs : List (Bor GlobalTree)) →
+pub AreNumbered-prop : {S : Type 0} (m : IndexMap (Bor (List ℕ)) ℕ S) (gs : List (Bor GlobalTree)) →
     IsProp (AreNumbered m gs)
 AreNumbered-prop m gs = Π_prop (λ x. Coded-set (coded_option coded_ℕ) (found_in m x)
     (global_of (global_names (listed gs)) x))

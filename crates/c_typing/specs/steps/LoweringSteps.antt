@@ -52,7 +52,7 @@ abbrev mutual
   AreQuiet no_statements = Unit {0}
   AreQuiet (statement s ss) = IsQuiet s × AreQuiet ss
 
--- so many variables and assertions before a statement leave room for its own
+-- the variables and assertions before a statement leave room for its own
 pub record HasRoomFor (next id : ℕ) (s : StatementTree) : Type 0 where
   pub names : next + length (declared_by s) ≤ MAX_VARIABLES
   pub places : id + length (asserts_by s) ≤ MAX_ASSERTIONS
@@ -63,7 +63,7 @@ pub record HasRoomForAll (next id : ℕ) (ss : StatementTrees) : Type 0 where
   pub places : id + length (asserts_in ss) ≤ MAX_ASSERTIONS
   pub quiet : AreQuiet ss
 
--- what a statement becomes, and the numbers and scopes behind it
+-- what a statement becomes, and the numbers and scopes after it
 pub record IsLowered (file : FileScope) (before after : List Scope) (next id next' id' : ℕ)
     (s : StatementTree) (made : Statement) : Type 0 where
   pub statement_is : made ≡ lowered_statement file before next id s

@@ -2,7 +2,7 @@
 use Rattle.std.specs.Prelude.{◌≡◌, ℕ, ◌+◌, ◌==◌, Bool, true, false, ◌&&◌, ◌||◌, not as not_bool, nat_lt, length, take, slice_get, bytes_eq, if◌then◌else◌, refl, List, [], ◌∷◌, ◌++◌, map, Option, Some, None}
 use denote.Ref.{Bor}
 use Rattle.std.specs.Coded.{Coded-set, code_by, coded×, coded_ℕ, coded_bool, coded_option, Π_prop}
-use Rattle.std.specs.BTreeMap.{BTreeMap}
+use Rattle.indexmap.specs.IndexMap.{IndexMap}
 use Rattle.c_typing.specs.steps.Meanings.{found_in}
 use Rattle.c_tree.specs.declared.tree.Pos.{Pos}
 use Rattle.c_tree.specs.declared.syntax_tree.Item.{Item}
@@ -46,7 +46,7 @@ IsLonger old new = take (length old.entries.items) new.entries.items ≡ old.ent
 abbrev pub procedures_in : List Item → List ProcedureTree
 procedures_in is = procedures_of (map item_of is)
 
--- behind globals of these names
+-- after globals of these names
 abbrev pub scoped_in : (known : List (List ℕ)) → List Item → List ScopedProcedure
 scoped_in known is = scoped_procedures known (map item_of is)
 
@@ -91,10 +91,10 @@ defined_as None = unknown
 defined_as (Some d) = defined d.number d.params d.void
 
 -- the map has the first procedure of each name
-abbrev pub AreDefined : BTreeMap (Bor (List ℕ)) Definition → List Item → Type 0
+abbrev pub AreDefined : {S : Type 0} → IndexMap (Bor (List ℕ)) Definition S → List Item → Type 0
 AreDefined m is = (x : List ℕ) → defined_as (found_in m x) ≡ defined_from 0 (procedures_in is) x
 
-pub AreDefined-prop : (m : BTreeMap (Bor (List ℕ)) Definition) (is : List Item) →
+pub AreDefined-prop : {S : Type 0} (m : IndexMap (Bor (List ℕ)) Definition S) (is : List Item) →
     IsProp (AreDefined m is)
 AreDefined-prop m is = Π_prop
     (λ x. callee-set (defined_as (found_in m x)) (defined_from 0 (procedures_in is) x))
@@ -145,7 +145,7 @@ abbrev pub with_zeros : List Scope → List Identifier → List Scope
 with_zeros ss [] = ss
 with_zeros ss (n ∷ ns) = with_zeros (with_variable ss n.name 0) ns
 
--- behind a statement of a block
+-- after a statement of a block
 abbrev pub zeros_after : List Scope → StatementTree → List Scope
 zeros_after ss (declare ds) = with_zeros ss (names_of ds)
 zeros_after ss _ = ss

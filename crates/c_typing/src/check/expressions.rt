@@ -42,7 +42,7 @@ fn name(file: &FileScope<'_, '_>, scopes: &Scopes<'_>, notes: &mut Notes, name: 
     notes.found_if(unknown, TypeFault::UnknownName, name.at);
 }
 
-/// A call of what is called, with so many arguments. `used` says that its value is used.
+/// A call of what is called, with `count` arguments. `used` says that its value is used.
 fn called(notes: &mut Notes, called: Called, name: &Named, count: usize, used: bool)
     ensures { notes_of notes.new ≡ noted (notes_of notes.old)
         (callee_faults (callee_from called) (identifier_of name.now) count used) [] [] }
@@ -62,7 +62,7 @@ fn called(notes: &mut Notes, called: Called, name: &Named, count: usize, used: b
     }
 }
 
-/// The name of a call with so many arguments.
+/// The name of a call with `count` arguments.
 fn callee(
     file: &FileScope<'_, '_>,
     notes: &mut Notes,

@@ -85,7 +85,7 @@ fn body(
         (variables_of (procedure_tree_of tree.now))
         (asserts_in (procedure_tree_of tree.now).body)) }
 {
-    let mut scopes = Scopes::new(alloc);
+    let mut scopes = Scopes::new(alloc, file.table.seed);
     scopes.open()?;
     parameters(&mut scopes, notes, &tree.params)?;
     notes.limit(Which::Parameters, place_at(&tree.params, MAX_PARAMETERS));

@@ -136,7 +136,7 @@ fn first_of(values: Vec<Expr>) -> Expr
     }
 }
 
-/// A call that is a statement; so many assertions stand before it.
+/// A call that is a statement; `id` assertions stand before it.
 fn called_statement(called: Called, id: u32, values: Vec<Expr>) -> Stmt
     requires { number_in (callee_from called) < 2 ^ 32 }
     ensures { statement_of result ≡ called_statement (callee_from called) id
@@ -160,7 +160,7 @@ fn change(alloc: Global, variable: Variable, op: Op, value: Expr) -> Result<Stmt
     Ok(variable.set(Expr::Binary(op, left, right)))
 }
 
-/// A simple statement; so many assertions stand before it.
+/// A simple statement; `id` assertions stand before it.
 pub fn simple(
     alloc: Global,
     file: &FileScope<'_, '_>,

@@ -57,7 +57,7 @@ fn body<'a>(
     statements(file, state, &tree.body)
 }
 
-/// A procedure of so many variables, with its body.
+/// A procedure of `slots` variables, with its body.
 fn finished(tree: &ProcTree, slots: u32, body: Vec<Stmt>) -> Result<Procedure, AllocError>
     requires { length (procedure_tree_of tree.now).params ≤ MAX_VARIABLES }
     ensures { IfOk result (λ made. procedure_of made ≡ record {
@@ -78,7 +78,7 @@ fn finished(tree: &ProcTree, slots: u32, body: Vec<Stmt>) -> Result<Procedure, A
     })
 }
 
-/// A procedure; so many assertions stand before it. `id` is left after its own.
+/// A procedure. `id` counts the assertions before it, and at the end its own too.
 fn procedure(
     alloc: Global,
     file: &FileScope<'_, '_>,
@@ -95,7 +95,7 @@ fn procedure(
 {
     let mut state = State {
         alloc,
-        scopes: Scopes::new(alloc),
+        scopes: Scopes::new(alloc, file.table.seed),
         next: 0,
         id: *id,
     };

@@ -17,7 +17,7 @@ use Rattle.smash_main.specs.Analysis.{IsAnalysis, Witness, board_alone, no_witne
 use Rattle.smash_main.specs.Answers.{AsksFor, Settles}
 use Rattle.smash_main.specs.Asked.{status_of}
 use Rattle.smash_main.specs.Bundled.{TellsVerdict}
-use Rattle.smash_main.specs.Run.{Change, EndsWith, StaysAsItWas}
+use Rattle.source_program.specs.Ends.{Change, EndsWith, StaysAsItWas}
 use Rattle.smash_main.specs.Swept.{entries_of, sweep_status, unfound_at}
 use Rattle.smash_main.specs.Words.{Command, edit, recheck}
 use Rattle.smash_main.specs.declared.bundles.Told.{Told}

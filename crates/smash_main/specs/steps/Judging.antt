@@ -1,6 +1,7 @@
 -- What an analysis begins with, and the verdicts of a board's roots.
 use Rattle.std.specs.Prelude.{◌≡◌, ◌≤◌, ℕ, List, length, Option, Some, slice_get}
 use Rattle.c_tree.specs.Syntax.{PureProgram}
+use Rattle.flow_build.specs.Lowered.{AreLowered}
 use Rattle.flow_build.specs.Promises.{AreBounded}
 use Rattle.flow_graph.specs.ProgramGraphs.{SameRuns}
 use Rattle.flow_graph.specs.declared.graph.Graph.{Graph}
@@ -11,10 +12,11 @@ use Rattle.bolt_core.specs.Machine.{AllOf}
 use Rattle.bolt_core.specs.Verdicts.{HasVerdict}
 use Rattle.bolt_core.specs.declared.job.Verdict.{Verdict}
 
--- these are graphs of the program
+-- these are the graphs of the program
 pub record AreGraphsFor (P : PureProgram) (gs : List Graph) : Type 0 where
   pub runs : SameRuns P gs
   pub bounds : AreBounded P gs
+  pub built : AreLowered P gs
 
 -- a board of the program may begin with these summaries
 pub record MayBegin (P : PureProgram) (kept : List Summary) : Type 0 where

@@ -1,6 +1,11 @@
 //! Bundles, sweeps and edits, each with its whole output.
 
+use super::analyses::{EVEN_ODD, REALISTIC};
 use super::tables::{DEEP, Row, SUM};
+
+/// A coefficient that is too wide.
+const WIDE: &str =
+    "int main(){ int x = input(); assert(2199023255552 * x != 2199023255552); return 0; }";
 
 pub const AFTERWARDS: &[Row] = &[
     // an assertion three calls deep
@@ -65,6 +70,17 @@ pub const AFTERWARDS: &[Row] = &[
         "int main(){ assert(input()); }",
         "1 1:13: found [0]\n",
     ),
+    (
+        "bundle|1|--budget|1",
+        SUM,
+        "2 1:35: unknown (budget 1 spent)\n",
+    ),
+    ("bundle|1", WIDE, "2 1:30: unknown (solver limit: wide)\n"),
+    (
+        "sweep",
+        WIDE,
+        "2 1:30: unknown (solver limit: wide)\nsummary: 0 proved, 0 found, 1 unknown\n",
+    ),
     ("bundle|2", SUM, "3 refused: no such assertion\n"),
     ("bundle|1", "", "3 refused 1:1: no main\n"),
     // a source twice, and one that is changed
@@ -100,7 +116,25 @@ pub const AFTERWARDS: &[Row] = &[
         "int main(){ return 0;int main(){ int x = 3; x = x + 4; assert(x == 7); return 0; }",
         "3 old: refused 1:22: unexpected end of file\n",
     ),
+    (
+        "edit|21",
+        "int main(){ return 0;int",
+        "3 old: refused 1:22: unexpected end of file\n",
+    ),
     ("edit|61", SUM, "3 refused 1:1: no main\n"),
+];
+
+/// Words, a text, and what is written of it where its first read fails, and where there is room for
+/// three bytes.
+pub const FAULTY: &[Row] = &[
+    ("bundle|1", SUM, "5 ; 6 sma"),
+    ("sweep", SUM, "5 ; 6 1:3"),
+    (
+        "edit|61",
+        "int main(){ int x = 3; x = x + 4; assert(x == 7); return 0; }int main(){ int x = 3; x = x + 4; assert(x == 7); return 0; }",
+        "5 ; 6 1:3",
+    ),
+    ("recheck", "", "5 ; 6 ref"),
 ];
 
 /// The words that make a bundle, a source, and what is written of the bundle.
@@ -129,4 +163,14 @@ pub const BUNDLED: &[Row] = &[
         "int main(){ int i = 0; while (input() > 0) { i = 0; } assert(i == 0); return 0; }",
         "0 accepted 1:55\n",
     ),
+    // recursion without an end: no call returns
+    (
+        "bundle|1",
+        "int f(int n) { return f(n); }\nint main() { assert(f(1) == 2); return 0; }\n",
+        "0 accepted 2:14\n",
+    ),
+    ("bundle|1|--budget|20000", EVEN_ODD, "0 accepted 4:37\n"),
+    ("bundle|1|--budget|20000", REALISTIC, "0 accepted 15:3\n"),
+    ("bundle|2|--budget|20000", REALISTIC, "0 accepted 26:3\n"),
+    ("bundle|4|--budget|20000", REALISTIC, "0 accepted 32:3\n"),
 ];

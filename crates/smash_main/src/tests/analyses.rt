@@ -122,7 +122,7 @@ pub const ANALYSES: &[Row] = &[
 ];
 
 /// Each of two procedures calls the other one.
-const EVEN_ODD: &str = "\
+pub const EVEN_ODD: &str = "\
 int odd(int n);
 int even(int n) { if (n <= 0) return 1; return odd(n - 1); }
 int odd(int n) { if (n <= 0) return 0; return even(n - 1); }
@@ -138,7 +138,7 @@ if (k == 2) { assert(g(v) != -3); } return 0; }
 ";
 
 /// A file with comments, loops and calls.
-const REALISTIC: &str = "\
+pub const REALISTIC: &str = "\
 #include <assert.h>
 int input(void);
 void assume(int e);

@@ -1,4 +1,4 @@
-//! A gate at which workers meet.
+//! Gates: one at which workers meet, and one that counts them.
 
 use outer_io::Gate;
 use std::sync::atomic::{AtomicU64, Ordering};
@@ -45,5 +45,29 @@ impl Gate for Meeting {
         if call == 1 && after {
             self.wait();
         }
+    }
+}
+
+/// Counts how often it is passed.
+#[derive(Drop)]
+pub struct Counting {
+    passed: AtomicU64,
+}
+
+impl Counting {
+    pub fn new() -> Counting {
+        Counting {
+            passed: AtomicU64::new(0),
+        }
+    }
+
+    pub fn passed(&self) -> u64 {
+        self.passed.load(Ordering::SeqCst)
+    }
+}
+
+impl Gate for Counting {
+    fn pass(&self, _worker: u32, _call: u64, _after: bool) {
+        self.passed.fetch_add(1, Ordering::SeqCst);
     }
 }

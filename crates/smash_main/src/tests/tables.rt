@@ -423,6 +423,7 @@ pub const NO_COMMANDS: &[Row] = &[
     ("check|--help", SUM, USAGE),
     ("replay|5", SUM, USAGE),
     ("workload|61", SUM, USAGE),
+    ("check|--workers|17", SUM, USAGE),
 ];
 
 /// The call that fails of a source that gives 4 bytes a call, the room of the sink, and what is
@@ -719,8 +720,31 @@ pub const LIMITS: &[Limit] = &[
     ),
 ];
 
-/// How many blanks a source has, and what is written of it.
-pub const BLANKS: &[(usize, &str)] = &[
-    (65_536, "3 refused 1:1: no main\n"),
-    (65_537, "3 refused: source longer than 65536 bytes\n"),
+/// Words, how many blanks they are given, and what is written of them.
+pub type Blanks = (&'static str, usize, &'static str);
+
+pub const BLANKS: &[Blanks] = &[
+    ("check", 65_536, "3 refused 1:1: no main\n"),
+    (
+        "check",
+        65_537,
+        "3 refused: source longer than 65536 bytes\n",
+    ),
+    (
+        "edit|61",
+        60,
+        "3 refused: old source shorter than 61 bytes\n",
+    ),
+    ("edit|61", 65_597, "3 old: refused 1:1: no main\n"),
+    (
+        "edit|61",
+        65_598,
+        "3 refused: source longer than 65536 bytes\n",
+    ),
+    ("recheck", 16_777_216, "3 refused: not a bundle\n"),
+    (
+        "recheck",
+        16_777_217,
+        "3 refused: bundle longer than 16777216 bytes\n",
+    ),
 ];

@@ -8,4 +8,5 @@ returns-in-Some c =
     changed c.args.name.now c.args.meanings.now c.insert.new.self (Some c.in-Some.meaning) c.args.before updates c.in-Some.is
 
 pub returns-in-None : goal.returns-in-None
-returns-in-None c = changed c.args.name.now c.args.meanings.now c.remove.new.self _ c.args.before c.remove.ensures.updates c.in-None.is
+returns-in-None c =
+    changed c.args.name.now c.args.meanings.now c.swap_remove.new.self _ c.args.before c.swap_remove.ensures.updates c.in-None.is

@@ -1,9 +1,6 @@
-use Rattle.std.proofs.Common.{ap, ◌∙◌, arith, rules}
+use Rattle.std.proofs.Common.{ap, ◌∙◌, arith, rules, bytes_eq}
 use Rattle.std.proofs.Math.ListN.{drop_of_length-le}
 use Rattle.std.specs.Map.{lookup}
-use Rattle.std.specs.BTreeMap.{is_at}
-use Rattle.std.specs.Cmp.Lexicographic.{slice_cmp}
-use Rattle.std.specs.Ordering.{nat_cmp}
 use Rattle.c_typing.specs.Scope.{defined_from}
 use Rattle.c_typing.specs.steps.Meanings.{found_in}
 use Rattle.c_typing.specs.steps.Tables.{procedures_in}
@@ -14,8 +11,8 @@ use Rattle.c_typing.proofs.table.definitions_of.Goals as goal
 pub loop-item-init : goal.loop-item-init
 loop-item-init c = record {
   few = omega arith;
-  rest = λ x. ap (λ es. found_or (lookup (is_at (λ k. slice_cmp nat_cmp x k.now)) es) (defined_from 0 (procedures_in c.args.items.now) x))
-      c.new-definitions.ensures.empty;
+  rest = λ x. ap (λ es. found_or (lookup (λ k. bytes_eq x k.now) es) (defined_from 0 (procedures_in c.args.items.now) x))
+      c.with_hasher-definitions.ensures.empty;
 }
 
 pub loop-item-preserved : goal.loop-item-preserved

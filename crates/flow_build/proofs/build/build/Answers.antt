@@ -4,6 +4,7 @@ use Rattle.c_tree.specs.WellFormed.{DividesByLiterals}
 use Rattle.c_tree.specs.Whole.{program_of}
 use Rattle.flow_graph.specs.declared.graph.Graph.{Graph}
 use Rattle.flow_graph.specs.Linked.{AreGraphs}
+use Rattle.flow_build.specs.Lowered.{AreLowered}
 use Rattle.flow_build.specs.Promises.{AreBounded}
 use Rattle.flow_graph.specs.ProgramGraphs.{SameRuns}
 use Rattle.flow_build.specs.steps.Procedures.{Made}
@@ -28,6 +29,9 @@ module _ (program : Program) (divides : DividesByLiterals (program_of program)) 
       (all_graphs (program_of program) (length program.procedures.items) gs made all)
       (all_literals (program_of program) (length program.procedures.items) gs made all)
 
+  built : AreLowered (program_of program) gs
+  built = all_graphs (program_of program) (length program.procedures.items) gs made all
+
   runs : SameRuns (program_of program) gs
   runs = same_runs (program_of program) program.well_formed divides
       (all_opening (program_of program) (length program.procedures.items) gs made all program.well_formed.main_takes_none) gs
@@ -50,3 +54,9 @@ returns-clause-bounds c =
     let P : List Graph → Type 0 = AreBounded (program_of c.args.program.now) in
     subst P (sym (c.new.ensures ∙ c.from_vec.ensures))
     (bounds c.args.program.now c.requires.divisors c.push_graphs.new.graphs.items c.in_ok-push_graphs.ensures)
+
+pub returns-clause-built : goal.returns-clause-built
+returns-clause-built c =
+    let P : List Graph → Type 0 = AreLowered (program_of c.args.program.now) in
+    subst P (sym (c.new.ensures ∙ c.from_vec.ensures))
+    (built c.args.program.now c.requires.divisors c.push_graphs.new.graphs.items c.in_ok-push_graphs.ensures)

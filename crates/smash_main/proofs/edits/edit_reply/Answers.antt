@@ -6,8 +6,8 @@ use Rattle.lia_solver.proofs.Closing.{both-hold}
 use Rattle.report_text.specs.Refused.{IsOfSource}
 use Rattle.smash_main.specs.Answers.{AnswersNew}
 use Rattle.smash_main.specs.Edited.{IsEdited}
-use Rattle.smash_main.specs.Source.{IsAccepted}
-use Rattle.smash_main.specs.steps.Accepting.{IsRefusedFor}
+use Rattle.source_program.specs.Source.{IsAccepted}
+use Rattle.source_program.specs.Rejections.{IsRefusedFor}
 use Rattle.smash_main.specs.steps.Handing.{handed_in}
 use Rattle.smash_main.proofs.Editing.{all_behind}
 use Rattle.smash_main.proofs.edits.edit_reply.Goals as goal

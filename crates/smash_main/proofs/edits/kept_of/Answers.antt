@@ -15,7 +15,7 @@ keep-requires-clause-hold c =
     let program = c.args.old.now in
     subst (SummariesHold (program_of program)) (sym (c.all.ensures ∙ c.table.ensures))
     (hold_of_program (program_of program) c.args.board.now.graphs program.well_formed
-    (subst AreAllValues c.deref.ensures.value c.are_values.ensures) (record { runs = is.runs; bounds = is.bounds })
+    (subst AreAllValues c.deref.ensures.value c.are_values.ensures) (record { runs = is.runs; bounds = is.bounds; built = is.built })
     c.args.board.now.core.table (board_keeps c.args.board.now is.reached).holds)
 
 pub returns-clause-begins : goal.returns-clause-begins

@@ -4,7 +4,7 @@ use Rattle.std.proofs.lemmas.Result.{IfOk-weaker}
 use Rattle.c_tree.specs.Whole.{program_of}
 use Rattle.report_text.specs.Refused.{IsOfSource}
 use Rattle.smash_main.specs.Edited.{IsEdited}
-use Rattle.smash_main.specs.steps.Accepting.{IsRefusedFor}
+use Rattle.source_program.specs.Rejections.{IsRefusedFor}
 use Rattle.smash_main.specs.steps.Handing.{handed_in}
 use Rattle.smash_main.proofs.edits.new_reply.Goals as goal
 

@@ -4,8 +4,8 @@ use Rattle.std.proofs.lemmas.Result.{IfOk-weaker}
 use Rattle.proof_bundle.specs.Claims.{pure_of}
 use Rattle.report_text.specs.Refused.{IsOfSource}
 use Rattle.smash_main.specs.Answers.{AnswersBundle}
-use Rattle.smash_main.specs.Source.{IsAccepted}
-use Rattle.smash_main.specs.steps.Accepting.{IsRefusedFor}
+use Rattle.source_program.specs.Source.{IsAccepted}
+use Rattle.source_program.specs.Rejections.{IsRefusedFor}
 use Rattle.smash_main.specs.steps.Handing.{handed_in}
 use Rattle.smash_main.proofs.rechecks.recheck_bundle.Goals as goal
 

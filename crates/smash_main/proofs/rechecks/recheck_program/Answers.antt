@@ -4,6 +4,7 @@ use Rattle.std.proofs.lemmas.Option.{slice_get_read}
 use Rattle.std.proofs.lemmas.Result.{IfOk-weaker}
 use mathlib.Core.Logic.{inr}
 use Rattle.c_tree.specs.Whole.{program_of}
+use Rattle.flow_build.specs.Lowered.{AreLowered}
 use Rattle.flow_build.specs.Promises.{AreBounded}
 use Rattle.flow_graph.specs.ProgramGraphs.{SameRuns}
 use Rattle.proof_bundle.specs.Claims.{pure_of}
@@ -27,7 +28,8 @@ returns c =
     IfOk-weaker c.checked_reply.result _ _
     (λ a t. inr (rechecked (program_of program) (pure_of c.args.bundle.now) gs (subst (SameRuns (program_of program)) same are.runs)
     (subst (SameArities (program_of program)) same (same_arities (program_of program) c.in_ok-graphs.graphs.value.graphs are.bounds))
-    (subst (AreBounded (program_of program)) same are.bounds) place there a.status a.text.items (handed_in a)
+    (subst (AreBounded (program_of program)) same are.bounds)
+    (subst (AreLowered (program_of program)) same are.built) place there a.status a.text.items (handed_in a)
     c.in_ok-checked.checked c.in_ok-checked.ensures.right c.in_ok-checked.ensures.wrong
     c.in_ok-checked.ensures.sound t))
     c.checked_reply.ensures

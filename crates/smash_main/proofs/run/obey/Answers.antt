@@ -1,5 +1,6 @@
 use Rattle.std.proofs.Common.{◌⊎◌, ◌∙◌, subst, sym, refl, inr, rules}
-use Rattle.smash_main.specs.Run.{Change, Obeys, change}
+use Rattle.smash_main.specs.Run.{Obeys}
+use Rattle.source_program.specs.Ends.{Change, change}
 use Rattle.smash_main.specs.Analysis.{handed_by}
 use Rattle.smash_main.specs.steps.Handing.{EndsAsked, EndsSilent}
 use Rattle.smash_main.specs.Words.{workload}

@@ -1,6 +1,6 @@
 use Rattle.std.proofs.Common.{Err, ◌∙◌, ◌+◌, ap, subst}
 use Rattle.outer_io.specs.Causes.{Took}
-use Rattle.smash_main.specs.Run.{Change, change}
+use Rattle.source_program.specs.Ends.{Change, change}
 use Rattle.smash_main.specs.Analysis.{handed_by}
 use Rattle.smash_main.specs.steps.WordsView.{command_of}
 use Rattle.smash_main.proofs.Obeyed.{refused_long}

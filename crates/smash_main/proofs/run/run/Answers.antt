@@ -2,12 +2,14 @@ use Rattle.std.proofs.Common.{ap, refl, rules, subst, sym}
 use mathlib.Core.Logic.{inl}
 use Rattle.std.specs.Prelude.{map, string_bytes}
 use Rattle.report_text.specs.Usage.{usage_text}
-use Rattle.smash_main.specs.Run.{Change, change, EndsWith, Obeys}
+use Rattle.smash_main.specs.Run.{Obeys}
+use Rattle.source_program.specs.Ends.{Change, change, EndsWith}
 use Rattle.smash_main.specs.Words.{IsCommand, workload}
 use Rattle.smash_main.specs.Analysis.{handed_by}
 use Rattle.smash_main.specs.steps.Handing.{EndsSilent}
 use Rattle.smash_main.specs.steps.WordsView.{command_of}
-use Rattle.smash_main.proofs.Bounded.{bounded, took_none}
+use Rattle.source_program.proofs.Taking.{took_none}
+use Rattle.smash_main.proofs.Bounded.{bounded}
 use Rattle.smash_main.proofs.Completed.{completes}
 use Rattle.smash_main.proofs.Obeyed.{nothing_read}
 use Rattle.smash_main.proofs.WordsRuns.{some_at}

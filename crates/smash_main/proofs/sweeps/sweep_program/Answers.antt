@@ -4,7 +4,7 @@ use Rattle.std.proofs.lemmas.Result.{IfOk-weaker}
 use Rattle.c_tree.specs.Whole.{program_of}
 use Rattle.flow_graph.specs.Columns.{AreAllValues}
 use Rattle.flow_graph.specs.declared.graph.Graph.{Graph}
-use Rattle.path_sweep.specs.Ends.{EndsSo}
+use Rattle.path_sweep.specs.Ends.{ComesWhole, EndsSo}
 use Rattle.smash_main.specs.steps.Handing.{handed_in}
 use Rattle.smash_main.proofs.Judging.{main_graph}
 use Rattle.smash_main.proofs.Sweeping.{swept_is}
@@ -26,5 +26,7 @@ returns c =
     c.in_ok-graphs.graphs.value.graphs c.in_ok-graphs.ensures c.args.edges c.in_ok-paths.paths
     (subst (λ gs. EndsSo gs program.main (length program.asserts.items) c.args.edges c.in_ok-paths.paths)
     (ap (λ h. h.graphs) c.deref.ensures) (subst (λ (n : ℕ). EndsSo c.deref.result.now.graphs program.main n c.args.edges
-    c.in_ok-paths.paths) all c.in_ok-paths.ensures)) a.status a.text.items (handed_in a) t)
+    c.in_ok-paths.paths) all c.in_ok-paths.ensures.ends))
+    (subst (λ gs. ComesWhole gs program.main c.args.edges c.in_ok-paths.paths.end) (ap (λ h. h.graphs) c.deref.ensures)
+    c.in_ok-paths.ensures.whole) c.in_ok-paths.ensures.right a.status a.text.items (handed_in a) t)
     c.swept_reply.ensures

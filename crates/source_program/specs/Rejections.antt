@@ -13,9 +13,9 @@ use Rattle.c_typing.specs.declared.fault.TypeError.TheVariants as type_error
 use Rattle.report_text.specs.declared.fault.Refusal.{Refusal}
 use Rattle.report_text.specs.declared.fault.Refusal.TheVariants.{Lex, Parse, Types}
 use Rattle.report_text.specs.Refused.{IsOfSource, refusal_line, refusal_text}
-use Rattle.smash_main.specs.Source.{IsRefused}
-use Rattle.smash_main.specs.declared.accept.Rejection.{Rejection}
-use Rattle.smash_main.specs.declared.accept.Rejection.TheVariants.{Refused, Memory}
+use Rattle.source_program.specs.Source.{IsRefused}
+use Rattle.source_program.specs.declared.accepting.Rejection.{Rejection}
+use Rattle.source_program.specs.declared.accepting.Rejection.TheVariants.{Refused, Memory}
 
 abbrev pub lex_rejection : LexError → Rejection
 lex_rejection (lex_error.BadByte at) = Refused (Lex (lex_error.BadByte at))

@@ -1,6 +1,6 @@
 use Rattle.std.proofs.Common.{◌≡◌, ◌+◌, length}
 use Rattle.path_sweep.specs.steps.Walks.{IsWalk}
-use Rattle.path_sweep.proofs.sweeping.sweep.Given as goal
+use Rattle.path_sweep.proofs.sweeping.count_paths.Given as goal
 
 abbrev pub invariant-loop : goal.invariant-loop
 invariant-loop l = record {

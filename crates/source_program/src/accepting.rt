@@ -4,9 +4,9 @@ ghost use Rattle.std.specs.Prelude.{◌≡◌, ◌≤◌, length, IfOk, Err};
 ghost use Rattle.c_tree.specs.Syntax.{PureProgram};
 ghost use Rattle.c_tree.specs.WellFormed.{DividesByLiterals};
 ghost use Rattle.c_tree.specs.Whole.{program_of};
-ghost use Rattle.smash_main.specs.Source.{IsAccepted, source_limit};
-ghost use Rattle.smash_main.specs.steps.Accepting.{IsRefusedFor, lex_rejection, parse_rejection, type_rejection, Gives};
-ghost use Rattle.smash_main.specs.declared.accept.Rejection.TheVariants.{Memory};
+ghost use Rattle.source_program.specs.Source.{IsAccepted, source_limit};
+ghost use Rattle.source_program.specs.Rejections.{IsRefusedFor, lex_rejection, parse_rejection, type_rejection, Gives};
+ghost use Rattle.source_program.specs.declared.accepting.Rejection.TheVariants.{Memory};
 
 use c_lexer::scan::lex;
 use c_lexer::token::LexError;

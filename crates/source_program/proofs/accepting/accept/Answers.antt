@@ -4,10 +4,10 @@ use Rattle.c_lexer.specs.Lexing.{IsTokens}
 use Rattle.c_lexer.specs.Pure.{pure_tokens}
 use Rattle.c_parser.specs.Answer as parser
 use Rattle.c_typing.specs.Answer as typing
-use Rattle.smash_main.specs.declared.accept.Rejection.TheVariants.{Refused}
-use Rattle.smash_main.specs.steps.Accepting.{parse_rejection, type_rejection}
-use Rattle.smash_main.proofs.Accepted.{told, only_memory, lex_refused, parse_refused, type_refused}
-use Rattle.smash_main.proofs.accept.accept.Goals as goal
+use Rattle.source_program.specs.declared.accepting.Rejection.TheVariants.{Refused}
+use Rattle.source_program.specs.Rejections.{parse_rejection, type_rejection}
+use Rattle.source_program.proofs.Accepted.{told, only_memory, lex_refused, parse_refused, type_refused}
+use Rattle.source_program.proofs.accepting.accept.Goals as goal
 
 pub returns-in_err-tokens-clause-refused : goal.returns-in_err-tokens-clause-refused
 returns-in_err-tokens-clause-refused c why e =

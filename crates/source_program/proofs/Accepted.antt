@@ -1,5 +1,5 @@
 -- From the faults of the lexer, the parser and the check of types to the refusal of a source.
-use Rattle.std.proofs.Common.{◌≡◌, List, ℕ, Result, Ok, Err, Vec, Global, refl, sym, subst, ◌∙◌}
+use Rattle.std.proofs.Common.{◌≡◌, List, ℕ, Result, Ok, Err, Vec, Global, refl, sym, subst}
 use Rattle.std.specs.Prelude.{IsErrAnd}
 use Rattle.c_tree.specs.declared.tree.Pos.{Pos}
 use Rattle.c_tree.specs.declared.tree.Program.{Program}
@@ -23,13 +23,10 @@ use Rattle.c_typing.specs.Answer.{IsFirstFault}
 use Rattle.c_typing.specs.Texts.{type_fault_text}
 use Rattle.report_text.specs.declared.fault.Refusal.{Refusal}
 use Rattle.report_text.specs.declared.fault.Refusal.TheVariants.{Lex, Parse, Types}
-use Rattle.report_text.specs.Refused.{refusal_text}
-use Rattle.smash_main.specs.Analysis.{Witness, no_witness}
-use Rattle.smash_main.specs.Asked.{AsksRefusal}
-use Rattle.smash_main.specs.declared.accept.Rejection.{Rejection}
-use Rattle.smash_main.specs.declared.accept.Rejection.TheVariants.{Refused, Memory}
-use Rattle.smash_main.specs.Source.{bad_byte, open_comment, too_wide, unexpected, unfinished, too_deep, ill_typed}
-use Rattle.smash_main.specs.steps.Accepting.{IsRefusedFor, lex_rejection, parse_rejection, type_rejection, Gives}
+use Rattle.source_program.specs.declared.accepting.Rejection.{Rejection}
+use Rattle.source_program.specs.declared.accepting.Rejection.TheVariants.{Refused, Memory}
+use Rattle.source_program.specs.Source.{bad_byte, open_comment, too_wide, unexpected, unfinished, too_deep, ill_typed}
+use Rattle.source_program.specs.Rejections.{IsRefusedFor, lex_rejection, parse_rejection, type_rejection, Gives}
 
 -- what is known of an error is known of this one
 pub told : {A : Type 0} (res : Result A Rejection) (F : Rejection → Type 0) → IsErrAnd res F → (r : Rejection) → res ≡ Err r → F r
@@ -119,15 +116,3 @@ module _ (bytes : List ℕ) (tokens : List Token) (lexed : IsTokens bytes tokens
         of_source = tt;
       })
   type_refused type_error.Memory was why same = absurd (cc)
-
--- what is written of a refusal is what the bytes ask for
-pub asks_refusal : (bytes : List ℕ) (why : Refusal) → IsRefusedFor bytes why → (status : ℕ) (text : List ℕ) (w : Witness) → status ≡ 3 →
-    text ≡ refusal_text why → w ≡ no_witness → AsksRefusal bytes status text w
-asks_refusal bytes why h status text w three told nothing = record {
-  at = h.at;
-  why = h.text;
-  refused = h.refused;
-  is_three = three;
-  told = told ∙ h.told;
-  nothing = nothing;
-}

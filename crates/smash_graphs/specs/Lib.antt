@@ -1,0 +1,3 @@
+pub mod Printed
+-- Steps
+pub mod steps
