@@ -1,9 +1,8 @@
 -- What the end of a sweep says by itself.
-use Rattle.std.proofs.Common.{◌≡◌, ℕ, List, length, ◌≤◌, refl, subst}
+use Rattle.std.proofs.Common.{◌≡◌, ℕ, List, refl, subst}
 use Rattle.std.specs.Prelude.{◌≢◌}
 use Rattle.shadow_elim.specs.LimitKinds.{kind_of}
 use Rattle.shadow_elim.specs.RightLimit.{IsRight}
-use Rattle.shadow_elim.specs.declared.limit.Kept.{Kept}
 use Rattle.shadow_elim.specs.declared.limit.LimitKind.TheVariants as kind
 use Rattle.flow_graph.specs.declared.graph.Graph.{Graph}
 use Rattle.path_sweep.specs.Ends.{ComesWhole, EndsSo, HasRightLimit, IsEnd}
