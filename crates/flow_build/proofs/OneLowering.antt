@@ -25,8 +25,8 @@ same_graph g h n x f p k s e =
       slots = s i;
       edges = e i;
       well_formed =
-        is_prop→PathP (λ j. IsGraph (n j) (x j) (f j) (p j) (k j) (s j) (e j)) (λ j. graph_prop (n j) (x j) (f j) (p j) (k j) (s j) (e j))
-        g.well_formed h.well_formed i;
+          is_prop→PathP (λ j. IsGraph (n j) (x j) (f j) (p j) (k j) (s j) (e j)) (λ j. graph_prop (n j) (x j) (f j) (p j) (k j) (s j) (e j))
+          g.well_formed h.well_formed i;
     }
 
 one_graph : (n : ℕ) (opening : List ℤ) (entries : ℕ) (p : PureProcedure) (g h : Graph) → IsGraphWith n opening entries p g →
