@@ -1,0 +1,185 @@
+"""Claims and their moves, made of invariants.
+
+In a claim the region at the end of its query is bad. While a live edge leads from a good region to
+a bad one, it is killed by a certificate, or the part of the source that the bad region asks for
+becomes bad: where a clause of the source's invariant is violated, the part where its negation
+holds, and else the preimage. At a call the violated clause of the callee becomes a claim.
+"""
+
+import time
+from collections import deque
+from collections.abc import Sequence
+
+from outside.bundle import Bundle, Claim
+from outside.calls import CallEdges
+from outside.graphs import Assert, Call, Graphs, Input, Pick
+from outside.invariants import GaveUp, Invariants
+from outside.linear import Atom, Clause, Point, TooWide, holds, negated
+from outside.partition import Query, RegionEdge
+from outside.picks import refine_pick
+from outside.preimage import free_preimage, names_exit, preimage
+from outside.work import Work, ask
+
+MAX_MOVES = 200_000
+
+
+class NotInductive(GaveUp):
+    """The invariants don't tell why a step isn't possible."""
+
+
+def failing_procedures(graphs: Graphs, assertion: int) -> set[int]:
+    """The procedures with a path of calls to the assertion."""
+    failing: set[int] = set()
+    grows = True
+    while grows:
+        grows = False
+        for number, graph in enumerate(graphs.graphs):
+            may_fail = number not in failing and any(
+                (isinstance(e, Assert) and e.assertion == assertion)
+                or (isinstance(e, Call) and e.procedure in failing)
+                for e in graph.edges
+            )
+            if may_fail:
+                failing.add(number)
+                grows = True
+    return failing
+
+
+def violated(clauses: Sequence[Clause], point: Point) -> list[Clause]:
+    """The clauses that don't hold at the point, short ones first."""
+    found = [c for c in clauses if not any(holds(atom, point) for atom in c)]
+    return sorted(found, key=lambda c: (len(c), sum(len(atom.parts) for atom in c)))
+
+
+class Prover:
+    """The claims of one bundle."""
+
+    def __init__(
+        self,
+        graphs: Graphs,
+        assertion: int,
+        invariants: Invariants,
+        deadline: float,
+        with_ranges: bool,
+    ) -> None:
+        self.graphs = graphs
+        self.assertion = assertion
+        self.invariants = invariants
+        self.deadline = deadline
+        self.with_ranges = with_ranges
+        self.failing = failing_procedures(graphs, assertion)
+        self.queries: list[Query] = []
+        self.numbers: dict[Query, int] = {}
+        self.waiting: deque[int] = deque()
+        self.calls = CallEdges(self)
+
+    def claim_of(self, query: Query) -> int:
+        """The number of the claim with this query, which is made if there is none."""
+        if query not in self.numbers:
+            self.numbers[query] = len(self.queries)
+            self.waiting.append(len(self.queries))
+            self.queries.append(query)
+        return self.numbers[query]
+
+    def claim(self, procedure: int, returns: bool, cube: Sequence[Atom]) -> int:
+        """The claim that no run of the procedure meets the cube."""
+        start = tuple(atom for atom in cube if not names_exit(atom))
+        fails_at = None if returns else self.assertion
+        return self.claim_of(Query(procedure, fails_at, start, tuple(cube)))
+
+    def clauses(self, procedure: int, returns: bool) -> list[Clause]:
+        """What is known of the procedure's runs that return, or that fail."""
+        if returns:
+            return self.invariants.summary.get(procedure, [])
+        if procedure not in self.failing:
+            return [()]
+        return self.invariants.failure.get(procedure, [])
+
+    def prove(self) -> Bundle:
+        """The bundle with all claims."""
+        self.claim_of(Query(self.graphs.main, self.assertion, (), ()))
+        claims: dict[int, Claim] = {}
+        while self.waiting:
+            number = self.waiting.popleft()
+            claims[number] = self.proved(self.queries[number])
+        return Bundle(self.assertion, tuple(claims[n] for n in range(len(claims))))
+
+    def proved(self, query: Query) -> Claim:
+        """The claim of a query with its moves."""
+        work = Work(self.graphs.graphs[query.procedure], query)
+        if not self.closed_at_entry(work):
+            while work.dirty:
+                self.close_region(work, work.dirty.popleft())
+        return Claim(query, tuple(work.moves))
+
+    def closed_at_entry(self, work: Work) -> bool:
+        """Kills the entry edge where nothing meets the start."""
+        if not work.query.start:
+            return False
+        edge = RegionEdge(0, 0, work.graph.first_node() + 1)
+        outcome = ask(preimage(work.graph.edges[0], work.query.start))
+        if isinstance(outcome, dict):
+            return False
+        work.kill(edge, outcome)
+        return True
+
+    def close_region(self, work: Work, region: int) -> None:
+        """Goes on until no live edge leads from a good region to this bad one."""
+        while True:
+            if time.monotonic() > self.deadline:
+                raise GaveUp("out of time in the proof")
+            if len(work.moves) > MAX_MOVES:
+                raise GaveUp(f"more than {MAX_MOVES} moves")
+            into = work.partition.into[region]
+            edge = next((e for e in into if not work.bad[e.source]), None)
+            if edge is None:
+                return
+            if isinstance(work.graph.edges[edge.edge], Call):
+                self.calls.close(work, edge)
+            else:
+                self.close_edge(work, edge)
+
+    def close_edge(self, work: Work, edge: RegionEdge) -> None:
+        """Kills an edge that is no call, or makes a part of its source bad."""
+        graph_edge = work.graph.edges[edge.edge]
+        target = work.atoms(edge.target)
+        rows = preimage(graph_edge, target)
+        point = ask([*work.atoms(edge.source), *rows])
+        if not isinstance(point, dict):
+            work.kill(edge, point)
+            return
+        if isinstance(graph_edge, Pick) and refine_pick(work, edge, graph_edge):
+            return
+        if edge.source == 0:
+            raise NotInductive("the entry leads into a bad region")
+        if self.spoil_violated(work, edge.source, point):
+            return
+        if self.with_ranges and not isinstance(graph_edge, Input | Pick):
+            work.spoil_before(edge, rows, rows)
+        else:
+            work.spoil_before(edge, rows, free_preimage(graph_edge, target))
+
+    def spoil_violated(self, work: Work, region: int, point: Point) -> bool:
+        """Makes the part bad where a clause is violated as at the point, if the node has any."""
+        node = work.node(region)
+        clauses = self.invariants.node.get((work.query.procedure, node))
+        if clauses is None:
+            return False
+        found = violated(clauses, point)
+        if not found:
+            raise NotInductive(f"no clause at node {node} is violated")
+        work.spoil(region, [negated(atom) for atom in found[0]])
+        return True
+
+
+def prove(
+    graphs: Graphs, assertion: int, invariants: Invariants, deadline: float
+) -> Bundle:
+    """A bundle that no run fails at the assertion; raises `GaveUp`."""
+    try:
+        try:
+            return Prover(graphs, assertion, invariants, deadline, False).prove()
+        except NotInductive:
+            return Prover(graphs, assertion, invariants, deadline, True).prove()
+    except TooWide as wide:
+        raise GaveUp(f"a row beyond the limits: {wide}") from wide
