@@ -45,12 +45,6 @@ def failing_procedures(graphs: Graphs, assertion: int) -> set[int]:
     return failing
 
 
-def violated(clauses: Sequence[Clause], point: Point) -> list[Clause]:
-    """The clauses that don't hold at the point, short ones first."""
-    found = [c for c in clauses if not any(holds(atom, point) for atom in c)]
-    return sorted(found, key=lambda c: (len(c), sum(len(atom.parts) for atom in c)))
-
-
 class Prover:
     """The claims of one bundle."""
 
@@ -94,6 +88,11 @@ class Prover:
         if procedure not in self.failing:
             return [()]
         return self.invariants.failure.get(procedure, [])
+
+    def violated(self, clauses: Sequence[Clause], point: Point) -> list[Clause]:
+        """The clauses that don't hold at the point, short ones first."""
+        found = [c for c in clauses if not any(holds(atom, point) for atom in c)]
+        return sorted(found, key=lambda c: (len(c), sum(len(atom.parts) for atom in c)))
 
     def prove(self) -> Bundle:
         """The bundle with all claims."""
@@ -152,24 +151,25 @@ class Prover:
             return
         if edge.source == 0:
             raise NotInductive("the entry leads into a bad region")
-        if self.spoil_violated(work, edge.source, point):
+        if self.spoil_violated(work, edge.source, point, True):
             return
         if self.with_ranges and not isinstance(graph_edge, Input | Pick):
             work.spoil_before(edge, rows, rows)
         else:
             work.spoil_before(edge, rows, free_preimage(graph_edge, target))
 
-    def spoil_violated(self, work: Work, region: int, point: Point) -> bool:
+    def spoil_violated(self, work: Work, region: int, point: Point, must: bool) -> bool:
         """Makes the part bad where a clause is violated as at the point, if the node has any."""
         node = work.node(region)
         clauses = self.invariants.node.get((work.query.procedure, node))
         if clauses is None:
             return False
-        found = violated(clauses, point)
-        if not found:
+        found = self.violated(clauses, point)
+        if not found and must:
             raise NotInductive(f"no clause at node {node} is violated")
-        work.spoil(region, [negated(atom) for atom in found[0]])
-        return True
+        if found:
+            work.spoil(region, [negated(atom) for atom in found[0]])
+        return bool(found)
 
 
 def prove(

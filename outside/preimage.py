@@ -2,7 +2,6 @@
 
 from collections.abc import Callable, Sequence
 from math import gcd
-from typing import NamedTuple
 
 from outside.graphs import Assert, Assign, Call, Edge, Entry, Guard, Input, Pick, Return
 from outside.linear import (
@@ -126,13 +125,6 @@ def preimage(edge: Edge, target: Sequence[Atom]) -> list[Atom]:
             raise ValueError("a call has no preimage of its own")
 
 
-class Asked(NamedTuple):
-    """The rows that a call asks for, and those before the caller's columns are eliminated."""
-
-    rows: list[Atom]
-    before: list[Atom]
-
-
 def argument_columns(call: Call) -> dict[int, int]:
     """Each argument's slot by the column of its first place."""
     columns: dict[int, int] = {}
@@ -176,14 +168,14 @@ def names_exit(atom: Atom) -> bool:
 
 def asked(
     call: Call, returns: bool, source: Sequence[Atom], target: Sequence[Atom]
-) -> Asked:
+) -> list[Atom]:
     """The query that a call asks: its start's rows, and then those of its end."""
     before = call_rows(call, returns, source, target)
     caller = [column for column in columns_of(before) if column < FIRST_EXIT]
     rows = as_entry(projected(caller, before))
     start = [row for row in rows if not names_exit(row)]
     end = [row for row in rows if names_exit(row)]
-    return Asked(start + end, before)
+    return start + end
 
 
 def free_preimage(edge: Edge, target: Sequence[Atom]) -> list[Atom]:
