@@ -11,7 +11,8 @@ from outside.horn import horn_text
 from outside.invariants import GaveUp, Invariants
 from outside.model import Clauses, invariants_of, readable
 from outside.plan import Plan
-from outside.solving import SolverFault, TimeOver, ask
+from outside.processes import TimeOver
+from outside.solving import SolverFault, ask
 from outside.texts import Unreadable
 
 ENGINE = "fp.engine=spacer"
