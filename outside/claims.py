@@ -12,11 +12,11 @@ from collections.abc import Sequence
 
 from outside.bundle import Bundle, Claim
 from outside.calls import CallEdges
+from outside.cuts import Cuts
 from outside.graphs import Assert, Call, Graphs, Input, Pick
 from outside.invariants import GaveUp, Invariants
 from outside.linear import Atom, Clause, Point, TooWide, holds, negated
 from outside.partition import Query, RegionEdge
-from outside.picks import refine_pick
 from outside.preimage import free_preimage, names_exit, preimage
 from outside.work import Work, ask
 
@@ -106,6 +106,8 @@ class Prover:
     def proved(self, query: Query) -> Claim:
         """The claim of a query with its moves."""
         work = Work(self.graphs.graphs[query.procedure], query)
+        nodes = self.invariants.node
+        self.cuts = Cuts(work, {n: c for (p, n), c in nodes.items() if p == query.procedure})
         if not self.closed_at_entry(work):
             while work.dirty:
                 self.close_region(work, work.dirty.popleft())
@@ -131,7 +133,7 @@ class Prover:
                 raise GaveUp(f"more than {MAX_MOVES} moves")
             into = work.partition.into[region]
             edge = next((e for e in into if not work.bad[e.source]), None)
-            if edge is None:
+            if edge is None or not work.bad[region]:
                 return
             if isinstance(work.graph.edges[edge.edge], Call):
                 self.calls.close(work, edge)
@@ -147,26 +149,32 @@ class Prover:
         if not isinstance(point, dict):
             work.kill(edge, point)
             return
-        if isinstance(graph_edge, Pick) and refine_pick(work, edge, graph_edge):
+        known = self.node_clauses(work, edge.source)
+        if edge.source == 0 or (known is not None and not self.violated(known, point)):
+            if not self.cuts.refine(edge, point):
+                raise NotInductive(f"no clause at node {work.node(edge.source)} is violated")
             return
-        if edge.source == 0:
-            raise NotInductive("the entry leads into a bad region")
         if self.spoil_violated(work, edge.source, point, True):
+            return
+        if isinstance(graph_edge, Pick) and self.cuts.refine_step(edge):
             return
         if self.with_ranges and not isinstance(graph_edge, Input | Pick):
             work.spoil_before(edge, rows, rows)
         else:
             work.spoil_before(edge, rows, free_preimage(graph_edge, target))
 
+    def node_clauses(self, work: Work, region: int) -> list[Clause] | None:
+        """The clauses of a region's node, if it has an invariant."""
+        return self.invariants.node.get((work.query.procedure, work.node(region)))
+
     def spoil_violated(self, work: Work, region: int, point: Point, must: bool) -> bool:
         """Makes the part bad where a clause is violated as at the point, if the node has any."""
-        node = work.node(region)
-        clauses = self.invariants.node.get((work.query.procedure, node))
+        clauses = self.node_clauses(work, region)
         if clauses is None:
             return False
         found = self.violated(clauses, point)
         if not found and must:
-            raise NotInductive(f"no clause at node {node} is violated")
+            raise NotInductive(f"no clause at node {work.node(region)} is violated")
         if found:
             work.spoil(region, [negated(atom) for atom in found[0]])
         return bool(found)

@@ -39,6 +39,7 @@ class Work:
         self.query = query
         self.partition = Partition(graph, query)
         self.bad = [False] * len(self.partition.regions)
+        self.soft: set[int] = set()
         self.dirty: deque[int] = deque()
         self.moves: list[Move] = []
         self.mark(self.partition.target)
@@ -66,15 +67,18 @@ class Work:
         self.partition.kill(edge)
         self.moves.append(KillCall(edge, claim, tuple(proofs)))
 
-    def split(self, edge: RegionEdge, atoms: Sequence[Atom]) -> None:
-        """Divides the edge's source; its pieces are as bad as it was."""
+    def split(self, edge: RegionEdge, atoms: Sequence[Atom]) -> range:
+        """Divides the edge's source; its pieces, the new ones of which are told, stay as bad."""
         new = self.partition.split(edge, atoms)
         self.moves.append(Split(edge, tuple(atoms)))
         was_bad = self.bad[edge.source]
         for piece in new:
             self.bad.append(was_bad)
+            if edge.source in self.soft:
+                self.soft.add(piece)
             if was_bad:
                 self.dirty.append(piece)
+        return new
 
     def part(self, region: int, atoms: Sequence[Atom]) -> None:
         """Divides a region by atoms of any kind."""
@@ -89,13 +93,26 @@ class Work:
 
     def spoil_before(self, edge: RegionEdge, rows: Sequence[Atom], atoms: Sequence[Atom]) -> None:
         """The part of the source where these rows of the preimage hold becomes bad."""
+        self.soft.add(edge.source)
         if any(atom not in rows or divisor_of(atom) > 1 for atom in atoms):
             self.spoil(edge.source, atoms)
             return
         keep = self.missing(edge.source, atoms)
         if keep:
-            self.split(edge, keep)
+            good = self.split(edge, keep)
+            self.soft.difference_update(good)
         self.mark(edge.source)
+
+    def retract(self, regions: Sequence[int]) -> None:
+        """These regions, and the others made bad by preimages of them, are good again."""
+        waiting = list(regions)
+        while waiting:
+            region = waiting.pop()
+            if not self.bad[region] or region not in self.soft:
+                continue
+            self.bad[region] = False
+            waiting.extend(edge.source for edge in self.partition.into[region])
+            self.dirty.extend({edge.target for edge in self.partition.out[region]})
 
     def missing(self, region: int, atoms: Sequence[Atom]) -> list[Atom]:
         """The atoms that the region doesn't entail, each beside those before it."""

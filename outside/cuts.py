@@ -1,0 +1,229 @@
+"""Cuts: where a preimage is larger than the truth, a region is split so that it isn't.
+
+The preimage over an edge that picks a value holds of all states that have a real number for it. So
+a path of bad regions may seem to be open at a point where no integers go along it. The certificate
+that none do has steps that hold of integers alone. The first of these is a cut: the region behind
+the picked value is split by it, and what was made bad by the larger preimage is good again.
+"""
+
+from collections.abc import Iterator, Sequence
+from dataclasses import dataclass, field
+
+from outside.certificates import Branch, Certificate, at_least, at_most, base_rows
+from outside.graphs import Assert, Assign, Call, Edge, Entry, Guard, Input, Pick, Return
+from outside.linear import (
+    FIRST_ASKED,
+    FIRST_ENTRY,
+    FIRST_EXIT,
+    FIRST_SYMBOL,
+    Atom,
+    Clause,
+    Point,
+    Term,
+    column_term,
+    columns_of,
+    combination,
+    holds,
+    negated,
+    substituted,
+    term_of,
+)
+from outside.partition import RegionEdge
+from outside.preimage import entry_term, range_of
+from outside.solver import SolverLimit, solve
+from outside.work import Work
+
+MAX_CUTS = 3000
+MAX_STEPS = 400
+
+
+@dataclass
+class _Path:
+    """Steps over region edges, with the terms of slots behind each, and what holds along them."""
+
+    edges: list[RegionEdge] = field(default_factory=list)
+    terms: list[dict[int, Term]] = field(default_factory=list)
+    rows: list[Atom] = field(default_factory=list)
+    symbols: int = 0
+
+    def now(self) -> dict[int, Term]:
+        return self.terms[-1] if self.terms else {}
+
+    def read(self, atoms: Sequence[Atom]) -> list[Atom]:
+        """The atoms with the terms of the path's end in the places of slots."""
+        terms = self.now()
+        return [substituted(atom, terms.get) for atom in atoms]
+
+
+def _step(path: _Path, edge: RegionEdge, graph_edge: Edge, slots: int) -> _Path:
+    """The path with one edge more; its rows are those of the edge, not of the region behind."""
+    longer = _Path([*path.edges, edge], [*path.terms, dict(path.now())], [*path.rows], path.symbols)
+    terms = longer.now()
+    match graph_edge:
+        case Entry():
+            by = entry_term(graph_edge.params)
+            terms.update((x, by(x) or column_term(x)) for x in range(slots))
+        case Assign():
+            value = longer.read([graph_edge.value()])[0]
+            terms[graph_edge.slot] = value
+            longer.rows.extend(range_of(value))
+        case Guard() | Assert():
+            longer.rows.extend(longer.read(graph_edge.rows))
+        case Input() | Pick():
+            terms[graph_edge.slot] = column_term(FIRST_SYMBOL + longer.symbols)
+            longer.symbols += 1
+            if isinstance(graph_edge, Pick):
+                longer.rows.extend(longer.read(graph_edge.rows))
+        case Return():
+            exits = longer.read([column_term(x) for x in graph_edge.slots])
+            terms.update((FIRST_EXIT + i, exit_term) for i, exit_term in enumerate(exits))
+        case Call():
+            raise ValueError("a call isn't on a path")
+    return longer
+
+
+def _may_hold(rows: Sequence[Atom], point: Point) -> bool:
+    """Whether rationals for the symbols meet the rows at the point."""
+    left = []
+    for row in rows:
+        constant = row.constant
+        parts = {}
+        for x, a in row.parts:
+            if FIRST_SYMBOL <= x < FIRST_ASKED:
+                parts[x] = a
+            else:
+                constant += a * point.get(x, 0)
+        left.append(term_of(parts, constant))
+    for symbol in columns_of(left):
+        upper = [row for row in left if row.coefficient(symbol) > 0]
+        lower = [row for row in left if row.coefficient(symbol) < 0]
+        kept = [row for row in left if row.coefficient(symbol) == 0]
+        for high in upper:
+            for low in lower:
+                times = (-low.coefficient(symbol), high), (high.coefficient(symbol), low)
+                kept.append(combination(times))
+        left = list(dict.fromkeys(kept))
+    return all(row.constant <= 0 for row in left)
+
+
+def cuts_of(atoms: Sequence[Atom], certificate: Certificate) -> Iterator[Atom]:
+    """What the certificate derives that holds of integers alone, in order; branches too."""
+    yield from _cuts(base_rows(atoms), certificate)
+
+
+def _cuts(rows: list[Atom], certificate: Certificate) -> Iterator[Atom]:
+    rows = list(rows)
+    for step in certificate.derived:
+        rows.append(step.row)
+        total = sum(times * rows[number].constant for number, times in step.parts)
+        if total % step.divide:
+            yield step.row
+    if isinstance(certificate, Branch):
+        low = at_most(certificate.column, certificate.at)
+        high = at_least(certificate.column, certificate.at + 1)
+        yield low
+        yield from _cuts([*rows, low], certificate.low)
+        yield from _cuts([*rows, high], certificate.high)
+
+
+def _inverse(terms: dict[int, Term]) -> dict[int, Term]:
+    """For each column that a slot's term is, up to a sign and a constant, the term of slots."""
+    found: dict[int, Term] = {}
+    for slot, term in terms.items():
+        if len(term.parts) == 1 and abs(term.parts[0][1]) == 1 and slot < FIRST_ENTRY:
+            column, sign = term.parts[0]
+            made = term_of({slot: sign}, -sign * term.constant)
+            if column not in found or len(made.parts) + abs(made.constant) < 2:
+                found[column] = made
+    return found
+
+
+def _at_region(atom: Atom, terms: dict[int, Term], from_outside: bool) -> Atom | None:
+    """The atom over the columns of a region of the path, if they tell it."""
+    by = _inverse(terms)
+    for column, _ in atom.parts:
+        if FIRST_ENTRY <= column < FIRST_EXIT:
+            by.pop(column, None)
+        elif column < FIRST_ENTRY and column not in terms and not from_outside:
+            by.pop(column, None)
+        elif column not in by:
+            return None
+    return substituted(atom, by.get)
+
+
+class Cuts:
+    """The cuts of one claim."""
+
+    def __init__(self, work: Work, clauses: dict[int, list[Clause]]) -> None:
+        self.work = work
+        self.clauses = clauses
+        self.count = 0
+        self.steps = 0
+
+    def refine(self, edge: RegionEdge, point: Point) -> bool:
+        """Splits a region on a path from the edge's source that is open at this point alone."""
+        start = list(self.work.atoms(edge.source))
+        for clause in self.clauses.get(self.work.node(edge.source), ()):
+            true = [atom for atom in clause if holds(atom, point)]
+            start.extend(true[:1])
+        self.count += 1
+        self.steps = 0
+        found = self.paths(_Path(rows=start), edge, point)
+        return self.count <= MAX_CUTS and any(self.cut(path) for path in found)
+
+    def refine_step(self, edge: RegionEdge) -> bool:
+        """The same of the edge alone."""
+        self.count += 1
+        path = _Path(rows=list(self.work.atoms(edge.source)))
+        return self.count <= MAX_CUTS and self.cut(self.stepped(path, edge))
+
+    def stepped(self, path: _Path, edge: RegionEdge) -> _Path:
+        """The path into the region behind the edge."""
+        work = self.work
+        longer = _step(path, edge, work.graph.edges[edge.edge], work.graph.slots)
+        longer.rows.extend(longer.read(work.atoms(edge.target)))
+        return longer
+
+    def paths(self, path: _Path, edge: RegionEdge, point: Point) -> Iterator[_Path]:
+        """The paths over this edge to an end that the point may take."""
+        work = self.work
+        self.steps += 1
+        if isinstance(work.graph.edges[edge.edge], Call) or self.steps > MAX_STEPS:
+            return
+        longer = self.stepped(path, edge)
+        if not _may_hold(longer.rows, point):
+            return
+        if edge.target not in work.soft:
+            yield longer
+            return
+        for following in list(work.partition.out[edge.target]):
+            if work.bad[following.target]:
+                yield from self.paths(longer, following, point)
+
+    def cut(self, path: _Path) -> bool:
+        """Splits a region of the path by a cut, if its rows are refuted and a region tells one."""
+        try:
+            certificate = solve(path.rows)
+        except SolverLimit:
+            return False
+        if isinstance(certificate, dict):
+            return False
+        for atom in cuts_of(path.rows, certificate):
+            for place, edge in enumerate(path.edges):
+                if self.split(path, place, atom):
+                    return True
+        return False
+
+    def split(self, path: _Path, place: int, atom: Atom) -> bool:
+        """Splits the region behind this edge of the path by the atom, if it names its columns."""
+        work = self.work
+        region = path.edges[place].target
+        if work.node(region) in (work.graph.exit, work.graph.fail):
+            return False
+        made = _at_region(atom, path.terms[place], path.edges[0].source == 0)
+        known = work.atoms(region)
+        if made is None or not made.parts or made in known or negated(made) in known:
+            return False
+        work.retract([edge.source for edge in work.partition.into[region]])
+        work.part(region, [made])
+        return True
