@@ -1,42 +1,37 @@
 """Edges of calls: what a call asks is answered by a claim of the callee.
 
-A point of the call tells which clause of the callee is violated. Its negation is claimed, where the
-asked query entails it; until then the source is split by what names arguments, and the target by
-what names exit values and slots that the call keeps.
+Where the asked query entails the negation of one clause of the callee's summary, that is claimed, so
+that claims are few. Where it contradicts several clauses together, the rows that do are claimed.
 """
 
 from collections.abc import Sequence
 from dataclasses import dataclass
 from typing import TYPE_CHECKING
 
-from outside.certificates import Certificate
+from outside.certificates import Certificate, used_rows
 from outside.graphs import Call
 from outside.invariants import GaveUp
 from outside.linear import (
     FIRST_ENTRY,
     FIRST_EXIT,
     Atom,
+    Clause,
     Point,
-    Term,
-    column_term,
     columns_of,
-    combination,
     constant_term,
     holds,
     negated,
     renamed,
-    substituted,
-    tightened,
-    value_of,
 )
 from outside.partition import RegionEdge
-from outside.preimage import after_column, asked, names_exit, result_columns
+from outside.preimage import after_column, asked, result_columns
 from outside.work import Work, ask, entails
 
 if TYPE_CHECKING:
     from outside.claims import Prover
 
 NEVER = constant_term(1)
+MAX_STEPS = 2000
 
 
 @dataclass
@@ -55,14 +50,9 @@ class _Site:
         names = {FIRST_ENTRY + i: slot for i, slot in enumerate(self.call.arguments)}
         return renamed(atom, names)
 
-    def at_target(self, atom: Atom) -> Atom:
-        """An atom over slots and exit values with results in the places of these."""
-        names = {FIRST_EXIT + i: slot for i, slot in enumerate(self.call.results)}
-        return renamed(atom, names)
-
-    def is_kept(self, column: int) -> bool:
-        """Whether the call leaves the column as it is."""
-        return column >= FIRST_EXIT or not self.returns or column not in self.call.results
+    def clause_at_source(self, clause: Clause) -> Clause:
+        """A clause of the callee in the same way."""
+        return tuple(self.at_source(atom) for atom in clause)
 
 
 def _site(work: Work, edge: RegionEdge) -> _Site:
@@ -83,6 +73,38 @@ def without(atoms: Sequence[Atom], columns: Sequence[int]) -> list[Atom]:
     return [row for row in rows if row.parts]
 
 
+def meet(atoms: Sequence[Atom], clauses: Sequence[Clause]) -> dict[int, int] | set[int]:
+    """A point that meets the atoms and the clauses, or the atoms that tell that there is none."""
+    return _Meeting(atoms, clauses).search(list(atoms))
+
+
+class _Meeting:
+    """The search for a point: where one violates a clause, each of its atoms is tried."""
+
+    def __init__(self, atoms: Sequence[Atom], clauses: Sequence[Clause]) -> None:
+        self.given = len(atoms)
+        self.clauses = clauses
+        self.steps = 0
+
+    def search(self, rows: list[Atom]) -> dict[int, int] | set[int]:
+        self.steps += 1
+        if self.steps > MAX_STEPS:
+            raise GaveUp("too many cases at a call")
+        outcome = ask(rows)
+        if not isinstance(outcome, dict):
+            return {number for number in used_rows(outcome) if number < self.given}
+        violated = [c for c in self.clauses if not any(holds(atom, outcome) for atom in c)]
+        if not violated:
+            return outcome
+        core: set[int] = set()
+        for atom in min(violated, key=len):
+            found = self.search([*rows, atom])
+            if isinstance(found, dict):
+                return found
+            core |= found
+        return core
+
+
 class CallEdges:
     """Closes edges of calls for a prover."""
 
@@ -95,33 +117,29 @@ class CallEdges:
         if not isinstance(ask(site.have), dict):
             self.kill(site, [NEVER])
             return
-        point = ask(site.joint)
-        if not isinstance(point, dict):
-            raise GaveUp("a call that can't be made asks something that can be met")
         clauses = self.prover.clauses(site.call.procedure, site.returns)
-        best: list[Atom] | None = None
-        least: list[Atom] = []
-        for clause in self.prover.violated(clauses, self.called(site, point)):
-            cube = [negated(atom) for atom in clause]
-            open_atoms = [atom for atom in cube if not entails(site.have, atom)]
-            if not open_atoms:
-                self.kill(site, cube)
-                return
-            if best is None or len(open_atoms) < len(least):
-                best, least = cube, open_atoms
-        if self.prover.spoil_violated(work, edge.source, point, best is None):
+        if self.kill_by_clause(site, clauses):
             return
-        if best is None:
-            self.spoil_before(site, clauses, point)
-        else:
-            self.split(site, least, point)
+        outcome = meet(site.joint, [site.clause_at_source(clause) for clause in clauses])
+        if isinstance(outcome, dict):
+            if not self.prover.spoil_violated(work, edge.source, outcome, True):
+                self.spoil_before(site, clauses, outcome)
+            return
+        core = meet(site.have, clauses)
+        if isinstance(core, dict):
+            raise GaveUp("a call that can't be made asks something that can be met")
+        self.kill(site, [site.have[number] for number in sorted(core)])
 
-    def called(self, site: _Site, point: Point) -> dict[int, int]:
-        """The entry and exit values of the call at a point."""
-        called = {x: value for x, value in point.items() if x >= FIRST_EXIT}
-        for place, slot in enumerate(site.call.arguments):
-            called[FIRST_ENTRY + place] = point.get(slot, 0)
-        return called
+    def kill_by_clause(self, site: _Site, clauses: Sequence[Clause]) -> bool:
+        """Kills the edge where the asked query entails the negation of one clause."""
+        point = ask(site.have)
+        assert isinstance(point, dict)
+        for clause in self.prover.violated(clauses, point):
+            cube = [negated(atom) for atom in clause]
+            if all(entails(site.have, atom) for atom in cube):
+                self.kill(site, cube)
+                return True
+        return False
 
     def kill(self, site: _Site, cube: Sequence[Atom]) -> None:
         """Kills the edge by the claim that the callee has no run that meets the cube."""
@@ -146,94 +164,3 @@ class CallEdges:
             rows.append(min(met, key=lambda a: sum(x >= FIRST_EXIT for x in a.columns())))
         exits = [x for x in columns_of(rows) if x >= FIRST_EXIT]
         site.work.spoil(site.edge.source, without(rows, exits))
-
-    def split(self, site: _Site, atoms: Sequence[Atom], point: Point) -> None:
-        """Splits the source or the target so that one of these atoms is entailed at the point."""
-        ways = (self.split_source, self.split_target, self.spoil_where_untrue)
-        for way in (*ways, self.split_target_by_bound, self.split_source_by_bound, self.split_at):
-            for atom in atoms:
-                if way(site, atom, point):
-                    return
-        raise GaveUp("an atom over a slot that the call sets")
-
-    def split_source(self, site: _Site, atom: Atom, _point: Point) -> bool:
-        """By an atom of arguments alone."""
-        if names_exit(atom):
-            return False
-        site.work.part(site.edge.source, [site.at_source(atom)])
-        return True
-
-    def split_target(self, site: _Site, atom: Atom, _point: Point) -> bool:
-        """By an atom of exit values and of slots that the call keeps."""
-        before = site.at_source(atom)
-        if not all(site.is_kept(x) for x in before.columns()):
-            return False
-        site.work.part(site.edge.target, [site.at_target(before)])
-        return True
-
-    def spoil_where_untrue(self, site: _Site, atom: Atom, _point: Point) -> bool:
-        """A point where the atom doesn't hold may violate the source's invariant."""
-        other = ask([*site.joint, negated(site.at_source(atom))])
-        if not isinstance(other, dict):
-            return False
-        return self.prover.spoil_violated(site.work, site.edge.source, other, False)
-
-    def split_target_by_bound(self, site: _Site, atom: Atom, point: Point) -> bool:
-        """By a bound that the source has for what the call sets."""
-        before, behind = self.sides(site, atom)
-        rows = [*site.work.atoms(site.edge.source)]
-        for bound in self.bounds(site, rows, before):
-            made = combination([(1, bound), (1, behind)])
-            if holds(made, point):
-                site.work.part(site.edge.target, [site.at_target(tightened(made))])
-                return True
-        return False
-
-    def split_source_by_bound(self, site: _Site, atom: Atom, point: Point) -> bool:
-        """By a bound that the target has for what the call returns."""
-        before, behind = self.sides(site, atom)
-        rows = site.joint[len(site.work.atoms(site.edge.source)) :]
-        for bound in self.bounds(site, rows, behind):
-            made = combination([(1, bound), (1, before)])
-            if holds(made, point):
-                site.work.part(site.edge.source, [tightened(made)])
-                return True
-        return False
-
-    def split_at(self, site: _Site, atom: Atom, point: Point) -> bool:
-        """Both sides by the values at the point."""
-        before, behind = self.sides(site, atom)
-        value = value_of(before, point)
-        source = combination([(1, before)], -value)
-        if not entails(site.work.atoms(site.edge.source), source):
-            site.work.part(site.edge.source, [source])
-            return True
-        target = site.at_target(combination([(1, behind)], value))
-        if not entails(site.work.atoms(site.edge.target), target):
-            site.work.part(site.edge.target, [target])
-            return True
-        return False
-
-    def sides(self, site: _Site, atom: Atom) -> tuple[Term, Term]:
-        """The atom's part over slots, and its part over exit values with the constant."""
-        whole = site.at_source(atom)
-        before = Term(tuple(p for p in whole.parts if p[0] < FIRST_EXIT), 0)
-        behind = Term(tuple(p for p in whole.parts if p[0] >= FIRST_EXIT), whole.constant)
-        return before, behind
-
-    def bounds(self, site: _Site, rows: Sequence[Atom], term: Term) -> list[Term]:
-        """Upper bounds of the term over columns that are kept and no exit values."""
-        name = max([FIRST_EXIT, *columns_of(rows), *term.columns()]) + 1
-        named = combination([(1, column_term(name)), (-1, term)])
-        all_rows = [*rows, named, combination([(-1, named)])]
-        lost = [
-            x
-            for x in columns_of(all_rows)
-            if x != name and (x >= FIRST_EXIT or not site.is_kept(x))
-        ]
-        found = []
-        for row in without(all_rows, lost):
-            if row.coefficient(name) == 1:
-                rest = substituted(row, lambda x: constant_term(0) if x == name else None)
-                found.append(combination([(-1, rest)]))
-        return sorted(found, key=lambda bound: len(bound.parts))

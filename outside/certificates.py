@@ -123,3 +123,11 @@ def _is_right(rows: list[Atom], certificate: Certificate, depth: int) -> bool:
 def refutes(atoms: Sequence[Atom], certificate: Certificate) -> bool:
     """Whether the certificate shows that no values of 64 bits meet the atoms."""
     return _is_right(base_rows(atoms), certificate, 0)
+
+
+def used_rows(certificate: Certificate) -> set[int]:
+    """The numbers that its steps name."""
+    used = {number for step in certificate.derived for number, _ in step.parts}
+    if isinstance(certificate, Branch):
+        used |= used_rows(certificate.low) | used_rows(certificate.high)
+    return used
