@@ -12,11 +12,13 @@ class Style:
     """Which clauses are made: with the ranges of 64 bits or over all integers, and the cut nodes.
 
     `joins` is 0 where only heads of loops and the ends of calls are cut, 1 where joins are cut too,
-    and 2 where also the nodes from which a value is picked are.
+    and 2 where also the nodes from which a value is picked are. Where calls are `inlined`, those of
+    procedures without loops and recursion are taken along their paths, and aren't cut.
     """
 
     ranges: bool
     joins: int
+    inlined: bool = False
 
 
 @dataclass(frozen=True)
@@ -42,6 +44,7 @@ class Plan:
     style: Style
     reached: set[int]
     failing: set[int]
+    inlined: set[int] = field(default_factory=set)
     cuts: dict[tuple[int, int], Predicate] = field(default_factory=dict)
     returns: dict[int, Predicate] = field(default_factory=dict)
     failures: dict[int, Predicate] = field(default_factory=dict)
@@ -180,14 +183,28 @@ def loop_heads(graph: Graph) -> tuple[set[int], set[int]]:
     return heads, seen
 
 
-def cut_nodes(graph: Graph, joins: int) -> list[int]:
+def straight_procedures(graphs: Graphs) -> set[int]:
+    """The procedures without loops and recursion, whose callees are such too."""
+    straight: set[int] = set()
+    heads = [loop_heads(graph)[0] for graph in graphs.graphs]
+    before = -1
+    while before != len(straight):
+        before = len(straight)
+        for number, graph in enumerate(graphs.graphs):
+            callees = {e.procedure for e in graph.edges if isinstance(e, Call)}
+            if not heads[number] and callees <= straight and number != graphs.main:
+                straight.add(number)
+    return straight
+
+
+def cut_nodes(graph: Graph, joins: int, inlined: set[int]) -> list[int]:
     """The nodes that get a predicate, ascending."""
     heads, seen = loop_heads(graph)
     chosen = set(heads)
     ways_in = [0] * graph.nodes
     for edge in graph.edges:
         ways_in[edge.target] += not isinstance(edge, Assert)
-        if isinstance(edge, Call):
+        if isinstance(edge, Call) and edge.procedure not in inlined:
             chosen |= {edge.source, edge.target}
         if isinstance(edge, Pick) and joins == 2:
             chosen.add(edge.source)
@@ -200,18 +217,24 @@ def make_plan(graphs: Graphs, assertion: int, style: Style) -> Plan:
     """The predicates for an assertion, counted from 0."""
     reached = reached_procedures(graphs)
     failing = failing_procedures(graphs, assertion) & reached
-    plan = Plan(graphs, assertion, style, reached, failing)
+    inlined = straight_procedures(graphs) if style.inlined else set()
+    plan = Plan(graphs, assertion, style, reached - inlined, failing - inlined, inlined)
     live = Liveness(graphs, assertion, reached, style.ranges)
-    for number in sorted(reached):
-        graph = graphs.graphs[number]
-        entries = tuple(range(FIRST_ENTRY, FIRST_ENTRY + graph.params))
-        for node in cut_nodes(graph, style.joins):
-            columns = tuple(sorted(live.live[number][node])) + entries
-            name = f"n{number}_{node}"
-            plan.cuts[number, node] = Predicate(name, "node", number, node, columns)
-        if number != graphs.main:
-            columns = entries + tuple(FIRST_EXIT + i for i in sorted(live.exits[number]))
-            plan.returns[number] = Predicate(f"r{number}", "summary", number, 0, columns)
-        if number in failing:
-            plan.failures[number] = Predicate(f"f{number}", "failure", number, 0, entries)
+    for number in sorted(plan.reached):
+        add_predicates(plan, number, live)
     return plan
+
+
+def add_predicates(plan: Plan, number: int, live: Liveness) -> None:
+    """The predicates of a procedure."""
+    graph = plan.graphs.graphs[number]
+    entries = tuple(range(FIRST_ENTRY, FIRST_ENTRY + graph.params))
+    for node in cut_nodes(graph, plan.style.joins, plan.inlined):
+        columns = tuple(sorted(live.live[number][node])) + entries
+        name = f"n{number}_{node}"
+        plan.cuts[number, node] = Predicate(name, "node", number, node, columns)
+    if number != plan.graphs.main:
+        columns = entries + tuple(FIRST_EXIT + i for i in sorted(live.exits[number]))
+        plan.returns[number] = Predicate(f"r{number}", "summary", number, 0, columns)
+    if number in plan.failing:
+        plan.failures[number] = Predicate(f"f{number}", "failure", number, 0, entries)
