@@ -42,8 +42,12 @@ class _Site:
     edge: RegionEdge
     call: Call
     returns: bool
-    have: list[Atom]
     joint: list[Atom]
+
+    def asked(self) -> list[Atom]:
+        """The rows of the query that the call asks."""
+        source, target = self.work.atoms(self.edge.source), self.work.atoms(self.edge.target)
+        return asked(self.call, self.returns, source, target)
 
     def at_source(self, atom: Atom) -> Atom:
         """An atom of the callee with arguments in the places of entry values."""
@@ -62,7 +66,7 @@ def _site(work: Work, edge: RegionEdge) -> _Site:
     source, target = work.atoms(edge.source), work.atoms(edge.target)
     behind = result_columns(call) if returns else {}
     joint = [*source, *(renamed(atom, behind) for atom in target)]
-    return _Site(work, edge, call, returns, asked(call, returns, source, target), joint)
+    return _Site(work, edge, call, returns, joint)
 
 
 def without(atoms: Sequence[Atom], columns: Sequence[int]) -> list[Atom]:
@@ -111,56 +115,56 @@ class CallEdges:
     def __init__(self, prover: "Prover") -> None:
         self.prover = prover
 
-    def close(self, work: Work, edge: RegionEdge) -> None:
-        """Kills the edge by a claim, or splits its source or target, or makes a part bad."""
+    def kill(self, work: Work, edge: RegionEdge) -> Point | None:
+        """Kills the edge by a claim, or gives a point of a call that the summary allows."""
         site = _site(work, edge)
-        if not isinstance(ask(site.have), dict):
-            self.kill(site, [NEVER])
-            return
         clauses = self.prover.clauses(site.call.procedure, site.returns)
-        if self.kill_by_clause(site, clauses):
-            return
         outcome = meet(site.joint, [site.clause_at_source(clause) for clause in clauses])
         if isinstance(outcome, dict):
-            if not self.prover.spoil_violated(work, edge.source, outcome, True):
-                self.spoil_before(site, clauses, outcome)
-            return
-        core = meet(site.have, clauses)
-        if isinstance(core, dict):
-            raise GaveUp("a call that can't be made asks something that can be met")
-        self.kill(site, [site.have[number] for number in sorted(core)])
+            return outcome
+        have = site.asked()
+        point = ask(have)
+        if not isinstance(point, dict):
+            self.claim(site, have, [NEVER])
+        elif not self.kill_by_clause(site, have, self.prover.violated(clauses, point)):
+            core = meet(have, clauses)
+            if isinstance(core, dict):
+                raise GaveUp("a call that can't be made asks something that can be met")
+            self.claim(site, have, [have[number] for number in sorted(core)])
+        return None
 
-    def kill_by_clause(self, site: _Site, clauses: Sequence[Clause]) -> bool:
+    def kill_by_clause(
+        self, site: _Site, have: Sequence[Atom], clauses: Sequence[Clause]
+    ) -> bool:
         """Kills the edge where the asked query entails the negation of one clause."""
-        point = ask(site.have)
-        assert isinstance(point, dict)
-        for clause in self.prover.violated(clauses, point):
+        for clause in clauses:
             cube = [negated(atom) for atom in clause]
-            if all(entails(site.have, atom) for atom in cube):
-                self.kill(site, cube)
+            if all(entails(have, atom) for atom in cube):
+                self.claim(site, have, cube)
                 return True
         return False
 
-    def kill(self, site: _Site, cube: Sequence[Atom]) -> None:
+    def claim(self, site: _Site, have: Sequence[Atom], cube: Sequence[Atom]) -> None:
         """Kills the edge by the claim that the callee has no run that meets the cube."""
         number = self.prover.claim(site.call.procedure, site.returns, cube)
         query = self.prover.queries[number]
         proofs: list[Certificate] = []
         for atom in (*query.start, *query.end):
-            if atom not in site.have:
-                proof = ask([*site.have, negated(atom)])
+            if atom not in have:
+                proof = ask([*have, negated(atom)])
                 if isinstance(proof, dict):
                     raise GaveUp("a claim that the asked query doesn't entail")
                 proofs.append(proof)
         site.work.kill_call(site.edge, number, proofs)
 
-    def spoil_before(
-        self, site: _Site, clauses: Sequence[Sequence[Atom]], point: Point
-    ) -> None:
-        """Makes the states bad from which the callee's summary allows a step to the target."""
-        rows = site.joint[len(site.work.atoms(site.edge.source)) :]
-        for clause in clauses:
+    def before(self, work: Work, edge: RegionEdge, point: Point) -> list[Atom]:
+        """The states from which the callee's summary allows a step to the target as at the point."""
+        site = _site(work, edge)
+        known = len(work.atoms(edge.source))
+        rows = list(site.joint)
+        for clause in self.prover.clauses(site.call.procedure, site.returns):
             met = [a for atom in clause if holds(a := site.at_source(atom), point)]
-            rows.append(min(met, key=lambda a: sum(x >= FIRST_EXIT for x in a.columns())))
+            if not any(entails(rows, atom) for atom in met):
+                rows.append(min(met, key=lambda a: sum(x >= FIRST_EXIT for x in a.columns())))
         exits = [x for x in columns_of(rows) if x >= FIRST_EXIT]
-        site.work.spoil(site.edge.source, without(rows, exits))
+        return without(rows[known:], exits)

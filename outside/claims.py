@@ -105,13 +105,37 @@ class Prover:
 
     def proved(self, query: Query) -> Claim:
         """The claim of a query with its moves."""
-        work = Work(self.graphs.graphs[query.procedure], query)
-        nodes = self.invariants.node
-        self.cuts = Cuts(work, {n: c for (p, n), c in nodes.items() if p == query.procedure})
+        graph = self.graphs.graphs[query.procedure]
+        known = {n: c for (p, n), c in self.invariants.node.items() if p == query.procedure}
+        hard = known.keys() | {graph.exit, graph.fail}
+        work = Work(graph, query, lambda node: node not in hard)
+        self.cuts = Cuts(work, known)
         if not self.closed_at_entry(work):
-            while work.dirty:
-                self.close_region(work, work.dirty.popleft())
+            self.close_all(work)
         return Claim(query, tuple(work.moves))
+
+    def close_all(self, work: Work) -> None:
+        """Goes on until no live edge leads from a good region to a bad one.
+
+        First edges are killed, and only then regions split, so that fewer pieces are looked at.
+        """
+        while True:
+            if time.monotonic() > self.deadline:
+                raise GaveUp("out of time in the proof")
+            if len(work.moves) > MAX_MOVES:
+                raise GaveUp(f"more than {MAX_MOVES} moves")
+            edge = work.next_waiting()
+            if edge is not None:
+                is_call = isinstance(work.graph.edges[edge.edge], Call)
+                kill = self.calls.kill if is_call else self.kill
+                point = kill(work, edge)
+                if point is not None:
+                    work.opened(edge, point)
+                continue
+            found = work.next_open()
+            if found is None:
+                return
+            self.spoil(work, *found)
 
     def closed_at_entry(self, work: Work) -> bool:
         """Kills the entry edge where nothing meets the start."""
@@ -124,40 +148,35 @@ class Prover:
         work.kill(edge, outcome)
         return True
 
-    def close_region(self, work: Work, region: int) -> None:
-        """Goes on until no live edge leads from a good region to this bad one."""
-        while True:
-            if time.monotonic() > self.deadline:
-                raise GaveUp("out of time in the proof")
-            if len(work.moves) > MAX_MOVES:
-                raise GaveUp(f"more than {MAX_MOVES} moves")
-            into = work.partition.into[region]
-            edge = next((e for e in into if not work.bad[e.source]), None)
-            if edge is None or not work.bad[region]:
-                return
-            if isinstance(work.graph.edges[edge.edge], Call):
-                self.calls.close(work, edge)
-            else:
-                self.close_edge(work, edge)
+    def kill(self, work: Work, edge: RegionEdge) -> Point | None:
+        """Kills an edge that is no call, or gives a point that goes over it."""
+        rows = preimage(work.graph.edges[edge.edge], work.atoms(edge.target))
+        outcome = ask([*work.atoms(edge.source), *rows])
+        if isinstance(outcome, dict):
+            return outcome
+        work.kill(edge, outcome)
+        return None
 
-    def close_edge(self, work: Work, edge: RegionEdge) -> None:
-        """Kills an edge that is no call, or makes a part of its source bad."""
+    def spoil(self, work: Work, edge: RegionEdge, point: Point) -> None:
+        """Makes a part of the source bad, or splits a region by a cut."""
+        graph_edge = work.graph.edges[edge.edge]
+        known = self.node_clauses(work, edge.source)
+        found = self.violated(known or (), point)
+        if found:
+            work.spoil(edge.source, [negated(atom) for atom in found[0]])
+        elif edge.source == 0 or known is not None:
+            if not self.cuts.refine(edge, point):
+                raise NotInductive(f"no clause at node {work.node(edge.source)} is violated")
+        elif isinstance(graph_edge, Call):
+            work.spoil(edge.source, self.calls.before(work, edge, point))
+        elif not (isinstance(graph_edge, Pick) and self.cuts.refine_step(edge)):
+            self.spoil_before(work, edge)
+
+    def spoil_before(self, work: Work, edge: RegionEdge) -> None:
+        """Makes the preimage bad at a node without an invariant."""
         graph_edge = work.graph.edges[edge.edge]
         target = work.atoms(edge.target)
         rows = preimage(graph_edge, target)
-        point = ask([*work.atoms(edge.source), *rows])
-        if not isinstance(point, dict):
-            work.kill(edge, point)
-            return
-        known = self.node_clauses(work, edge.source)
-        if edge.source == 0 or (known is not None and not self.violated(known, point)):
-            if not self.cuts.refine(edge, point):
-                raise NotInductive(f"no clause at node {work.node(edge.source)} is violated")
-            return
-        if self.spoil_violated(work, edge.source, point, True):
-            return
-        if isinstance(graph_edge, Pick) and self.cuts.refine_step(edge):
-            return
         if self.with_ranges and not isinstance(graph_edge, Input | Pick):
             work.spoil_before(edge, rows, rows)
         else:
@@ -166,18 +185,6 @@ class Prover:
     def node_clauses(self, work: Work, region: int) -> list[Clause] | None:
         """The clauses of a region's node, if it has an invariant."""
         return self.invariants.node.get((work.query.procedure, work.node(region)))
-
-    def spoil_violated(self, work: Work, region: int, point: Point, must: bool) -> bool:
-        """Makes the part bad where a clause is violated as at the point, if the node has any."""
-        clauses = self.node_clauses(work, region)
-        if clauses is None:
-            return False
-        found = self.violated(clauses, point)
-        if not found and must:
-            raise NotInductive(f"no clause at node {work.node(region)} is violated")
-        if found:
-            work.spoil(region, [negated(atom) for atom in found[0]])
-        return bool(found)
 
 
 def prove(

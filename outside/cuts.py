@@ -193,7 +193,7 @@ class Cuts:
         longer = self.stepped(path, edge)
         if not _may_hold(longer.rows, point):
             return
-        if edge.target not in work.soft:
+        if not work.is_soft(edge.target):
             yield longer
             return
         for following in list(work.partition.out[edge.target]):

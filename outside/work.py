@@ -1,13 +1,14 @@
-"""A claim in the making: its partition, which regions are bad, and the moves so far."""
+"""A claim in the making: its partition, which regions are bad, and which edges are to be closed."""
 
+import heapq
 from collections import deque
-from collections.abc import Sequence
+from collections.abc import Callable, Sequence
 
 from outside.bundle import Kill, KillCall, Move, Split
 from outside.certificates import Certificate
 from outside.graphs import Graph
 from outside.invariants import GaveUp
-from outside.linear import Atom, divisor_of, negated, tightened
+from outside.linear import Atom, Point, divisor_of, holds_all, negated, tightened
 from outside.partition import Partition, Query, RegionEdge
 from outside.solver import SolverLimit, solve
 
@@ -31,23 +32,56 @@ def entails(atoms: Sequence[Atom], atom: Atom) -> bool:
         return False
 
 
-class Work:
-    """From bad regions the claim's target can be reached; the others are good so far."""
+def ranks(graph: Graph) -> list[int]:
+    """A number for each node: nodes from which a walk comes later to the end have greater ones."""
+    following: list[list[int]] = [[] for _ in range(graph.nodes)]
+    for edge in graph.edges:
+        if edge.source is not None:
+            following[edge.source].append(edge.target)
+    order = [0] * graph.nodes
+    seen = {graph.first_node()}
+    stack = [(graph.first_node(), iter(following[graph.first_node()]))]
+    count = 0
+    while stack:
+        node, rest = stack[-1]
+        found = next((n for n in rest if n not in seen), None)
+        if found is not None:
+            seen.add(found)
+            stack.append((found, iter(following[found])))
+        else:
+            stack.pop()
+            count += 1
+            order[node] = count
+    return order
 
-    def __init__(self, graph: Graph, query: Query) -> None:
+
+class Work:
+    """From bad regions the claim's target can be reached; the others are good so far.
+
+    `waiting` has the edges from good regions to bad ones that were not looked at, and `open` those
+    that can't be killed, with a point that goes over each. A region at a node without an invariant
+    is soft: it is bad by a preimage, which may be too large.
+    """
+
+    def __init__(self, graph: Graph, query: Query, is_soft: Callable[[int], bool]) -> None:
         self.graph = graph
         self.query = query
         self.partition = Partition(graph, query)
+        self.is_soft_node = is_soft
         self.bad = [False] * len(self.partition.regions)
-        self.soft: set[int] = set()
-        self.dirty: deque[int] = deque()
+        self.waiting: deque[RegionEdge] = deque()
+        self.open: dict[RegionEdge, Point] = {}
+        self.heap: list[tuple[int, int, RegionEdge]] = []
+        self.ranks = ranks(graph)
         self.moves: list[Move] = []
         self.mark(self.partition.target)
 
     def mark(self, region: int) -> None:
         """The region is bad from now on."""
         self.bad[region] = True
-        self.dirty.append(region)
+        for edge in self.partition.into[region]:
+            self.open.pop(edge, None)
+            self.waiting.append(edge)
 
     def atoms(self, region: int) -> tuple[Atom, ...]:
         """The atoms of a region."""
@@ -56,6 +90,38 @@ class Work:
     def node(self, region: int) -> int:
         """The node of a region."""
         return self.partition.regions[region].node
+
+    def is_soft(self, region: int) -> bool:
+        """Whether only preimages make the region bad."""
+        return region != 0 and self.is_soft_node(self.node(region))
+
+    def is_open(self, edge: RegionEdge) -> bool:
+        """Whether the edge is live, and leads from a good region to a bad one."""
+        live = self.partition.is_live(edge)
+        return live and self.bad[edge.target] and not self.bad[edge.source]
+
+    def next_waiting(self) -> RegionEdge | None:
+        """The next edge that wasn't looked at."""
+        while self.waiting:
+            edge = self.waiting.popleft()
+            if edge not in self.open and self.is_open(edge):
+                return edge
+        return None
+
+    def opened(self, edge: RegionEdge, point: Point) -> None:
+        """The edge can't be killed: the point goes over it."""
+        self.open[edge] = point
+        rank = self.ranks[self.node(edge.target)]
+        heapq.heappush(self.heap, (rank, len(self.moves), edge))
+
+    def next_open(self) -> tuple[RegionEdge, Point] | None:
+        """An edge that can't be killed, with its point; those near the end come first."""
+        while self.heap:
+            _, _, edge = heapq.heappop(self.heap)
+            point = self.open.pop(edge, None)
+            if point is not None and self.is_open(edge):
+                return edge, point
+        return None
 
     def kill(self, edge: RegionEdge, by: Certificate) -> None:
         """No step leads over the edge."""
@@ -67,22 +133,31 @@ class Work:
         self.partition.kill(edge)
         self.moves.append(KillCall(edge, claim, tuple(proofs)))
 
-    def split(self, edge: RegionEdge, atoms: Sequence[Atom]) -> range:
-        """Divides the edge's source; its pieces, the new ones of which are told, stay as bad."""
+    def split(self, edge: RegionEdge, atoms: Sequence[Atom]) -> None:
+        """Divides the edge's source; its pieces stay as bad as it was."""
+        source = edge.source
         new = self.partition.split(edge, atoms)
         self.moves.append(Split(edge, tuple(atoms)))
-        was_bad = self.bad[edge.source]
-        for piece in new:
-            self.bad.append(was_bad)
-            if edge.source in self.soft:
-                self.soft.add(piece)
-            if was_bad:
-                self.dirty.append(piece)
-        return new
+        self.bad.extend([self.bad[source]] * len(new))
+        for piece in (source, *new):
+            self.look_again(piece, source)
 
     def part(self, region: int, atoms: Sequence[Atom]) -> None:
         """Divides a region by atoms of any kind."""
         self.split(RegionEdge(0, region, region), atoms)
+
+    def look_again(self, piece: int, whole: int) -> None:
+        """The edges at a piece of a region are to be looked at; points in it still go over them."""
+        if self.bad[piece]:
+            self.mark(piece)
+            return
+        for edge in self.partition.out[piece]:
+            before = RegionEdge(edge.edge, whole, edge.target)
+            point = self.open.get(before)
+            if point is not None and holds_all(self.atoms(piece), point):
+                self.opened(edge, point)
+            elif self.bad[edge.target]:
+                self.waiting.append(edge)
 
     def spoil(self, region: int, atoms: Sequence[Atom]) -> None:
         """The part of a region where the atoms hold becomes bad."""
@@ -93,26 +168,23 @@ class Work:
 
     def spoil_before(self, edge: RegionEdge, rows: Sequence[Atom], atoms: Sequence[Atom]) -> None:
         """The part of the source where these rows of the preimage hold becomes bad."""
-        self.soft.add(edge.source)
         if any(atom not in rows or divisor_of(atom) > 1 for atom in atoms):
             self.spoil(edge.source, atoms)
             return
         keep = self.missing(edge.source, atoms)
         if keep:
-            good = self.split(edge, keep)
-            self.soft.difference_update(good)
+            self.split(edge, keep)
         self.mark(edge.source)
 
     def retract(self, regions: Sequence[int]) -> None:
         """These regions, and the others made bad by preimages of them, are good again."""
-        waiting = list(regions)
-        while waiting:
-            region = waiting.pop()
-            if not self.bad[region] or region not in self.soft:
-                continue
-            self.bad[region] = False
-            waiting.extend(edge.source for edge in self.partition.into[region])
-            self.dirty.extend({edge.target for edge in self.partition.out[region]})
+        stack = list(regions)
+        while stack:
+            region = stack.pop()
+            if self.bad[region] and self.is_soft(region):
+                self.bad[region] = False
+                stack.extend(edge.source for edge in self.partition.into[region])
+                self.waiting.extend(self.partition.out[region])
 
     def missing(self, region: int, atoms: Sequence[Atom]) -> list[Atom]:
         """The atoms that the region doesn't entail, each beside those before it."""
