@@ -12,8 +12,8 @@ class Style:
     """Which clauses are made: with the ranges of 64 bits or over all integers, and the cut nodes.
 
     `joins` is 0 where only heads of loops and the ends of calls are cut, 1 where joins are cut too,
-    and 2 where also the nodes from which a value is picked are. Where calls are `inlined`, those of
-    procedures without loops and recursion are taken along their paths, and aren't cut.
+    and 2 where also the nodes from which a value is picked are. Where calls are `inlined`, heads of
+    loops alone are cut, and calls of procedures without loops and recursion go along their paths.
     """
 
     ranges: bool
@@ -197,14 +197,16 @@ def straight_procedures(graphs: Graphs) -> set[int]:
     return straight
 
 
-def cut_nodes(graph: Graph, joins: int, inlined: set[int]) -> list[int]:
+def cut_nodes(graph: Graph, style: Style) -> list[int]:
     """The nodes that get a predicate, ascending."""
-    heads, seen = loop_heads(graph)
-    chosen = set(heads)
+    chosen, seen = loop_heads(graph)
+    if style.inlined:
+        return sorted(chosen)
+    joins = style.joins
     ways_in = [0] * graph.nodes
     for edge in graph.edges:
         ways_in[edge.target] += not isinstance(edge, Assert)
-        if isinstance(edge, Call) and edge.procedure not in inlined:
+        if isinstance(edge, Call):
             chosen |= {edge.source, edge.target}
         if isinstance(edge, Pick) and joins == 2:
             chosen.add(edge.source)
@@ -229,7 +231,7 @@ def add_predicates(plan: Plan, number: int, live: Liveness) -> None:
     """The predicates of a procedure."""
     graph = plan.graphs.graphs[number]
     entries = tuple(range(FIRST_ENTRY, FIRST_ENTRY + graph.params))
-    for node in cut_nodes(graph, plan.style.joins, plan.inlined):
+    for node in cut_nodes(graph, plan.style):
         columns = tuple(sorted(live.live[number][node])) + entries
         name = f"n{number}_{node}"
         plan.cuts[number, node] = Predicate(name, "node", number, node, columns)

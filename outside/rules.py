@@ -74,6 +74,22 @@ def range_guards(term: Term) -> tuple[Atom, ...]:
     return combination([(1, term)], -MAX_VALUE), combination([(-1, term)], MIN_VALUE)
 
 
+def with_guards(guards: tuple[Atom, ...], new: tuple[Atom, ...]) -> tuple[Atom, ...]:
+    """Guards and new ones: without those that others imply, and false alone where two can't hold."""
+    bounds = {guard.parts: guard.constant for guard in guards}
+    for guard in new:
+        if not guard.parts:
+            if guard.constant > 0:
+                return (constant_term(1),)
+            continue
+        bound = max(guard.constant, bounds.get(guard.parts, guard.constant))
+        opposite = bounds.get(tuple((x, -a) for x, a in guard.parts))
+        if opposite is not None and bound + opposite > 0:
+            return (constant_term(1),)
+        bounds[guard.parts] = bound
+    return tuple(Term(parts, constant) for parts, constant in bounds.items())
+
+
 def _is_column(term: Term) -> bool:
     return len(term.parts) == 1 and term.parts[0][1] == 1 and term.constant == 0
 
@@ -118,8 +134,7 @@ class Maker:
             return
         if len(self.rules) >= MAX_RULES:
             raise GaveUp("too many Horn clauses")
-        guards = tuple(guard for guard in dict.fromkeys(path.guards) if guard.parts)
-        self.rules.append(Rule(path.calls, guards, head))
+        self.rules.append(Rule(path.calls, path.guards, head))
 
     def paths_through(self, number: int) -> list[Through]:
         """The paths through an inlined procedure, made once."""
@@ -205,8 +220,7 @@ class Throughs:
         if path.is_possible():
             if len(self.found) >= MAX_RULES:
                 raise GaveUp("too many paths through a procedure")
-            guards = tuple(guard for guard in dict.fromkeys(path.guards) if guard.parts)
-            self.found.append(Through(exits, guards))
+            self.found.append(Through(exits, path.guards))
 
 
 class Walk:
@@ -261,14 +275,14 @@ class Walk:
     def guarded(self, path: Path, node: int, rows: tuple[Atom, ...]) -> Path:
         """The path to a node where rows hold."""
         new = tuple(substituted(row, path.slots.get) for row in rows)
-        return replace(path, node=node, guards=path.guards + new)
+        return replace(path, node=node, guards=with_guards(path.guards, new))
 
     def assign(self, path: Path, edge: Assign) -> None:
         """A value; with ranges it is one of 64 bits."""
         value = substituted(edge.value(), path.slots.get)
         guards = path.guards
         if self.plan.style.ranges and not _is_column(value):
-            guards += range_guards(value)
+            guards = with_guards(guards, range_guards(value))
         slots = {**path.slots, edge.slot: value}
         self.arrive(replace(path, node=edge.target, slots=slots, guards=guards))
 
@@ -311,7 +325,9 @@ class Walk:
         """The paths through a callee."""
         for known in self.maker.paths_through(edge.procedure):
             through = self.maker.fresh(known, entries)
-            further = replace(path, guards=path.guards + through.guards)
+            further = replace(path, guards=with_guards(path.guards, through.guards))
+            if not further.is_possible():
+                continue
             if through.exits is None:
                 self.ends.fail(further)
                 continue

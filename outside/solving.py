@@ -1,6 +1,5 @@
 """Asking z3, which is run as a program."""
 
-import os
 import shutil
 from collections.abc import Sequence
 
@@ -17,8 +16,8 @@ class SolverFault(Exception):
 
 
 def solver_path() -> str:
-    """Where z3 is; the environment's SMASH_Z3 may name another one."""
-    path = os.environ.get("SMASH_Z3") or shutil.which("z3")
+    """Where z3 is."""
+    path = shutil.which("z3")
     if not path:
         raise SolverFault(f"z3 isn't there: it is {PACKAGE}")
     return path
@@ -48,11 +47,16 @@ def version_note(path: str) -> str:
     return f"z3 is {found}; this was tried with {TRIED}, {PACKAGE}"
 
 
-def ask(text: str, options: Sequence[str], seconds: float) -> tuple[str, str]:
-    """Z3's answer, `sat` or `unsat`, and what it prints after it."""
+def printed_by_solver(text: str, options: Sequence[str], seconds: float) -> str:
+    """What z3 prints for a text of SMT-LIB."""
     limit = max(1, int(seconds + 1))
     words = [solver_path(), f"-T:{limit}", f"-memory:{MEMORY_MEGABYTES}", *options, "-in"]
-    first, _, rest = printed(words, text, seconds).partition("\n")
+    return printed(words, text, seconds)
+
+
+def ask(text: str, options: Sequence[str], seconds: float) -> tuple[str, str]:
+    """Z3's answer, `sat` or `unsat`, and what it prints after it."""
+    first, _, rest = printed_by_solver(text, options, seconds).partition("\n")
     match first.strip():
         case "sat" | "unsat" as verdict:
             return verdict, rest
