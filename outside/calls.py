@@ -17,13 +17,18 @@ from outside.linear import (
     Atom,
     Clause,
     Point,
+    column_term,
     columns_of,
+    combination,
     constant_term,
+    equality,
     holds,
     negated,
     renamed,
+    substituted,
 )
 from outside.partition import RegionEdge
+from outside.paths import Meeting, State, exit_rows
 from outside.preimage import after_column, asked, result_columns
 from outside.work import Work, ask, entails
 
@@ -73,16 +78,28 @@ def without(atoms: Sequence[Atom], columns: Sequence[int]) -> list[Atom]:
     """What the atoms say of the other columns."""
     rows = list(atoms)
     for column in columns:
-        rows = after_column(rows, column)
+        rows = replaced(rows, column) or after_column(rows, column)
     return [row for row in rows if row.parts]
+
+
+def replaced(rows: Sequence[Atom], column: int) -> list[Atom] | None:
+    """The rows with an equality in the column's place, if they have one with the coefficient 1."""
+    for row in rows:
+        if row.coefficient(column) == 1:
+            opposite = combination([(-1, row)])
+            if opposite in rows:
+                value = combination([(1, column_term(column)), (-1, row)])
+                left = [substituted(r, lambda x: value if x == column else None) for r in rows]
+                return list(dict.fromkeys(r for r in left if r.parts or r.constant > 0))
+    return None
 
 
 def meet(atoms: Sequence[Atom], clauses: Sequence[Clause]) -> dict[int, int] | set[int]:
     """A point that meets the atoms and the clauses, or the atoms that tell that there is none."""
-    return _Meeting(atoms, clauses).search(list(atoms))
+    return _Cases(atoms, clauses).search(list(atoms))
 
 
-class _Meeting:
+class _Cases:
     """The search for a point: where one violates a clause, each of its atoms is tried."""
 
     def __init__(self, atoms: Sequence[Atom], clauses: Sequence[Clause]) -> None:
@@ -119,19 +136,37 @@ class CallEdges:
         """Kills the edge by a claim, or gives a point of a call that the summary allows."""
         site = _site(work, edge)
         clauses = self.prover.clauses(site.call.procedure, site.returns)
-        outcome = meet(site.joint, [site.clause_at_source(clause) for clause in clauses])
+        outcome = self.meet_joint(site, clauses)
         if isinstance(outcome, dict):
             return outcome
         have = site.asked()
         point = ask(have)
         if not isinstance(point, dict):
             self.claim(site, have, [NEVER])
-        elif not self.kill_by_clause(site, have, self.prover.violated(clauses, point)):
-            core = meet(have, clauses)
+        elif not self.kill_by_clause(site, have, self.prover.violated(clauses or (), point)):
+            core = self.meet_asked(site, have, clauses)
             if isinstance(core, dict):
                 raise GaveUp("a call that can't be made asks something that can be met")
             self.claim(site, have, [have[number] for number in sorted(core)])
         return None
+
+    def meet_joint(self, site: _Site, clauses: list[Clause] | None) -> dict[int, int] | set[int]:
+        """A point of a call from the source into the target that the callee allows, or no point."""
+        if clauses is not None:
+            return meet(site.joint, [site.clause_at_source(clause) for clause in clauses])
+        arguments = [column_term(slot) for slot in site.call.arguments]
+        meeting = Meeting(self.prover.graphs, self.prover.assertion, site.joint)
+        return meeting.run(site.call.procedure, arguments, site.returns)
+
+    def meet_asked(
+        self, site: _Site, have: Sequence[Atom], clauses: list[Clause] | None
+    ) -> dict[int, int] | set[int]:
+        """A point of a run of the callee that is asked for, or the rows that no run meets."""
+        if clauses is not None:
+            return meet(have, clauses)
+        entries = [column_term(FIRST_ENTRY + i) for i in range(len(site.call.arguments))]
+        meeting = Meeting(self.prover.graphs, self.prover.assertion, have)
+        return meeting.run(site.call.procedure, entries, site.returns)
 
     def kill_by_clause(
         self, site: _Site, have: Sequence[Atom], clauses: Sequence[Clause]
@@ -161,10 +196,29 @@ class CallEdges:
         """The states from which the callee's summary allows a step to the target as at the point."""
         site = _site(work, edge)
         known = len(work.atoms(edge.source))
-        rows = list(site.joint)
-        for clause in self.prover.clauses(site.call.procedure, site.returns):
-            met = [a for atom in clause if holds(a := site.at_source(atom), point)]
-            if not any(entails(rows, atom) for atom in met):
-                rows.append(min(met, key=lambda a: sum(x >= FIRST_EXIT for x in a.columns())))
-        exits = [x for x in columns_of(rows) if x >= FIRST_EXIT]
-        return without(rows[known:], exits)
+        clauses = self.prover.clauses(site.call.procedure, site.returns)
+        if clauses is None:
+            rows = [*site.joint, *self.run_at(site, point)]
+        else:
+            rows = list(site.joint)
+            for clause in clauses:
+                met = [a for atom in clause if holds(a := site.at_source(atom), point)]
+                if not any(entails(rows, atom) for atom in met):
+                    rows.append(min(met, key=lambda a: sum(x >= FIRST_EXIT for x in a.columns())))
+        return without(rows[known:], [x for x in columns_of(rows[known:]) if x >= FIRST_EXIT])
+
+    def run_at(self, site: _Site, point: Point) -> list[Atom]:
+        """The rows of a run of the callee from the point's source into the target."""
+        arguments = [column_term(slot) for slot in site.call.arguments]
+        here = [
+            row
+            for slot in site.call.arguments
+            for row in equality(column_term(slot), constant_term(point.get(slot, 0)))
+        ]
+        meeting = Meeting(self.prover.graphs, self.prover.assertion, [*site.joint, *here])
+        procedure = site.call.procedure
+        for state, exits in meeting.ends(procedure, arguments, State(), site.returns):
+            rows = [*state.rows, *exit_rows(exits)]
+            if meeting.is_possible(rows):
+                return rows
+        raise GaveUp("no run of a call at its point")

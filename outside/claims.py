@@ -13,10 +13,11 @@ from collections.abc import Sequence
 from outside.bundle import Bundle, Claim
 from outside.calls import CallEdges
 from outside.cuts import Cuts
-from outside.graphs import Assert, Call, Graphs, Input, Pick
+from outside.graphs import Call, Graphs, Input, Pick
 from outside.invariants import GaveUp, Invariants
 from outside.linear import Atom, Clause, Point, TooWide, holds, negated
 from outside.partition import Query, RegionEdge
+from outside.plan import failing_procedures, straight_procedures
 from outside.preimage import free_preimage, names_exit, preimage
 from outside.work import Work, ask
 
@@ -25,24 +26,6 @@ MAX_MOVES = 200_000
 
 class NotInductive(GaveUp):
     """The invariants don't tell why a step isn't possible."""
-
-
-def failing_procedures(graphs: Graphs, assertion: int) -> set[int]:
-    """The procedures with a path of calls to the assertion."""
-    failing: set[int] = set()
-    grows = True
-    while grows:
-        grows = False
-        for number, graph in enumerate(graphs.graphs):
-            may_fail = number not in failing and any(
-                (isinstance(e, Assert) and e.assertion == assertion)
-                or (isinstance(e, Call) and e.procedure in failing)
-                for e in graph.edges
-            )
-            if may_fail:
-                failing.add(number)
-                grows = True
-    return failing
 
 
 class Prover:
@@ -62,6 +45,7 @@ class Prover:
         self.deadline = deadline
         self.with_ranges = with_ranges
         self.failing = failing_procedures(graphs, assertion)
+        self.straight = straight_procedures(graphs)
         self.queries: list[Query] = []
         self.numbers: dict[Query, int] = {}
         self.waiting: deque[int] = deque()
@@ -81,13 +65,14 @@ class Prover:
         fails_at = None if returns else self.assertion
         return self.claim_of(Query(procedure, fails_at, start, tuple(cube)))
 
-    def clauses(self, procedure: int, returns: bool) -> list[Clause]:
-        """What is known of the procedure's runs that return, or that fail."""
-        if returns:
-            return self.invariants.summary.get(procedure, [])
-        if procedure not in self.failing:
+    def clauses(self, procedure: int, returns: bool) -> list[Clause] | None:
+        """What is known of runs that return, or fail; `None` where paths tell it."""
+        if not returns and procedure not in self.failing:
             return [()]
-        return self.invariants.failure.get(procedure, [])
+        known = self.invariants.summary if returns else self.invariants.failure
+        if procedure in known:
+            return known[procedure]
+        return None if procedure in self.straight else []
 
     def violated(self, clauses: Sequence[Clause], point: Point) -> list[Clause]:
         """The clauses that don't hold at the point, short ones first."""

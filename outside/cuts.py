@@ -7,10 +7,10 @@ the picked value is split by it, and what was made bad by the larger preimage is
 """
 
 from collections.abc import Iterator, Sequence
-from dataclasses import dataclass, field
+from dataclasses import dataclass
 
 from outside.certificates import Branch, Certificate, at_least, at_most, base_rows
-from outside.graphs import Assert, Assign, Call, Edge, Entry, Guard, Input, Pick, Return
+from outside.graphs import Call
 from outside.linear import (
     FIRST_ASKED,
     FIRST_ENTRY,
@@ -20,7 +20,6 @@ from outside.linear import (
     Clause,
     Point,
     Term,
-    column_term,
     columns_of,
     combination,
     holds,
@@ -29,7 +28,7 @@ from outside.linear import (
     term_of,
 )
 from outside.partition import RegionEdge
-from outside.preimage import entry_term, range_of
+from outside.paths import State, stepped
 from outside.solver import SolverLimit, solve
 from outside.work import Work
 
@@ -39,47 +38,14 @@ MAX_STEPS = 400
 
 @dataclass
 class _Path:
-    """Steps over region edges, with the terms of slots behind each, and what holds along them."""
+    """Region edges, and the state behind each; slots without a term are those before the path."""
 
-    edges: list[RegionEdge] = field(default_factory=list)
-    terms: list[dict[int, Term]] = field(default_factory=list)
-    rows: list[Atom] = field(default_factory=list)
-    symbols: int = 0
+    edges: list[RegionEdge]
+    states: list[State]
 
-    def now(self) -> dict[int, Term]:
-        return self.terms[-1] if self.terms else {}
-
-    def read(self, atoms: Sequence[Atom]) -> list[Atom]:
-        """The atoms with the terms of the path's end in the places of slots."""
-        terms = self.now()
-        return [substituted(atom, terms.get) for atom in atoms]
-
-
-def _step(path: _Path, edge: RegionEdge, graph_edge: Edge, slots: int) -> _Path:
-    """The path with one edge more; its rows are those of the edge, not of the region behind."""
-    longer = _Path([*path.edges, edge], [*path.terms, dict(path.now())], [*path.rows], path.symbols)
-    terms = longer.now()
-    match graph_edge:
-        case Entry():
-            by = entry_term(graph_edge.params)
-            terms.update((x, by(x) or column_term(x)) for x in range(slots))
-        case Assign():
-            value = longer.read([graph_edge.value()])[0]
-            terms[graph_edge.slot] = value
-            longer.rows.extend(range_of(value))
-        case Guard() | Assert():
-            longer.rows.extend(longer.read(graph_edge.rows))
-        case Input() | Pick():
-            terms[graph_edge.slot] = column_term(FIRST_SYMBOL + longer.symbols)
-            longer.symbols += 1
-            if isinstance(graph_edge, Pick):
-                longer.rows.extend(longer.read(graph_edge.rows))
-        case Return():
-            exits = longer.read([column_term(x) for x in graph_edge.slots])
-            terms.update((FIRST_EXIT + i, exit_term) for i, exit_term in enumerate(exits))
-        case Call():
-            raise ValueError("a call isn't on a path")
-    return longer
+    def rows(self) -> list[Atom]:
+        """What holds along the path."""
+        return self.states[-1].rows
 
 
 def _may_hold(rows: Sequence[Atom], point: Point) -> bool:
@@ -168,21 +134,21 @@ class Cuts:
             start.extend(true[:1])
         self.count += 1
         self.steps = 0
-        found = self.paths(_Path(rows=start), edge, point)
+        found = self.paths(_Path([], [State(rows=start)]), edge, point)
         return self.count <= MAX_CUTS and any(self.cut(path) for path in found)
 
     def refine_step(self, edge: RegionEdge) -> bool:
         """The same of the edge alone."""
         self.count += 1
-        path = _Path(rows=list(self.work.atoms(edge.source)))
+        path = _Path([], [State(rows=list(self.work.atoms(edge.source)))])
         return self.count <= MAX_CUTS and self.cut(self.stepped(path, edge))
 
     def stepped(self, path: _Path, edge: RegionEdge) -> _Path:
         """The path into the region behind the edge."""
         work = self.work
-        longer = _step(path, edge, work.graph.edges[edge.edge], work.graph.slots)
-        longer.rows.extend(longer.read(work.atoms(edge.target)))
-        return longer
+        state = stepped(path.states[-1], work.graph.edges[edge.edge], work.graph.slots)
+        state.rows.extend(state.read(work.atoms(edge.target)))
+        return _Path([*path.edges, edge], [*path.states, state])
 
     def paths(self, path: _Path, edge: RegionEdge, point: Point) -> Iterator[_Path]:
         """The paths over this edge to an end that the point may take."""
@@ -191,7 +157,7 @@ class Cuts:
         if isinstance(work.graph.edges[edge.edge], Call) or self.steps > MAX_STEPS:
             return
         longer = self.stepped(path, edge)
-        if not _may_hold(longer.rows, point):
+        if not _may_hold(longer.rows(), point):
             return
         if not work.is_soft(edge.target):
             yield longer
@@ -203,12 +169,12 @@ class Cuts:
     def cut(self, path: _Path) -> bool:
         """Splits a region of the path by a cut, if its rows are refuted and a region tells one."""
         try:
-            certificate = solve(path.rows)
+            certificate = solve(path.rows())
         except SolverLimit:
             return False
         if isinstance(certificate, dict):
             return False
-        for atom in cuts_of(path.rows, certificate):
+        for atom in cuts_of(path.rows(), certificate):
             for place, edge in enumerate(path.edges):
                 if self.split(path, place, atom):
                     return True
@@ -220,7 +186,7 @@ class Cuts:
         region = path.edges[place].target
         if work.node(region) in (work.graph.exit, work.graph.fail):
             return False
-        made = _at_region(atom, path.terms[place], path.edges[0].source == 0)
+        made = _at_region(atom, path.states[place + 1].terms, path.edges[0].source == 0)
         known = work.atoms(region)
         if made is None or not made.parts or made in known or negated(made) in known:
             return False
