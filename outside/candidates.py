@@ -2,9 +2,8 @@
 
 from collections.abc import Iterable, Sequence
 from dataclasses import dataclass
-from fractions import Fraction
 from itertools import combinations
-from math import lcm
+from math import gcd, lcm
 
 from outside.linear import (
     Atom,
@@ -21,7 +20,8 @@ from outside.rules import Rule
 from outside.walks import Sample
 
 MAX_CANDIDATES = 2_500
-MAX_SAMPLES = 500
+MAX_SAMPLES = 300
+MAX_EQUAL_SAMPLES = 60
 MAX_VALUES = 8
 MAX_TERMS = 400
 WIDE = 1_000_000
@@ -34,6 +34,14 @@ class Condition:
     column: int
     otherwise: tuple[Atom, ...]
     samples: frozenset[int]
+
+
+@dataclass(frozen=True)
+class Extremes:
+    """The least and greatest values of terms at some samples."""
+
+    least: list[int]
+    most: list[int]
 
 
 def at_most(term: Term, bound: int) -> Atom:
@@ -72,39 +80,40 @@ def pair_terms(columns: Sequence[int]) -> list[Term]:
 
 def equalities(columns: Sequence[int], samples: Sequence[Sample]) -> list[Term]:
     """Terms that are 0 at all samples: a basis of them, by elimination."""
-    rows: list[list[Fraction]] = []
+    rows: list[tuple[int, list[int]]] = []
     for sample in samples:
-        row = _reduced([Fraction(1), *map(Fraction, sample)], rows)
+        row = [1, *sample]
+        for lead, other in rows:
+            row = _eliminated(row, other, lead)
         lead = next((i for i, x in enumerate(row) if x), None)
-        if lead is None:
-            continue
-        row = [x / row[lead] for x in row]
-        rows = [[x - other[lead] * y for x, y in zip(other, row)] for other in rows] + [row]
+        if lead is not None:
+            rows = [(at, _eliminated(other, row, lead)) for at, other in rows] + [(lead, row)]
         if len(rows) > len(columns):
             return []
-    leads = [next(i for i, x in enumerate(row) if x) for row in rows]
+    leads = {lead for lead, _ in rows}
     free = [i for i in range(len(columns) + 1) if i not in leads]
-    return [_solution(columns, rows, leads, i) for i in free]
+    return [_solution(columns, rows, i) for i in free]
 
 
-def _reduced(row: list[Fraction], rows: list[list[Fraction]]) -> list[Fraction]:
-    for other in rows:
-        lead = next(i for i, x in enumerate(other) if x)
-        if row[lead]:
-            row = [x - row[lead] * y for x, y in zip(row, other)]
-    return row
+def _eliminated(row: list[int], by: list[int], lead: int) -> list[int]:
+    """A row less a multiple of another one, so that its number at a place is 0."""
+    if not row[lead]:
+        return row
+    factor, other = by[lead], row[lead]
+    difference = [factor * x - other * y for x, y in zip(row, by)]
+    divisor = gcd(*difference) or 1
+    return [x // divisor for x in difference]
 
 
-def _solution(
-    columns: Sequence[int], rows: list[list[Fraction]], leads: list[int], free: int
-) -> Term:
-    """The term with this free coefficient, without fractions."""
-    values = [Fraction(0)] * (len(columns) + 1)
-    values[free] = Fraction(1)
-    for row, lead in zip(rows, leads):
-        values[lead] = -row[free]
-    factor = lcm(*(value.denominator for value in values))
-    constant, *coefficients = (int(value * factor) for value in values)
+def _solution(columns: Sequence[int], rows: list[tuple[int, list[int]]], free: int) -> Term:
+    """The term with one free coefficient, without fractions."""
+    factor = lcm(*(row[lead] for lead, row in rows))
+    values = [0] * (len(columns) + 1)
+    values[free] = factor
+    for lead, row in rows:
+        values[lead] = -row[free] * factor // row[lead]
+    divisor = gcd(*values) or 1
+    constant, *coefficients = (value // divisor for value in values)
     parts = sorted((x, a) for x, a in zip(columns, coefficients) if a)
     return Term(tuple(parts), constant)
 
@@ -130,7 +139,8 @@ class Candidates:
         self.terms = [*map(column_term, self.columns)]
         self.values = [[point[x] for point in points] for x in self.columns]
         self.all_conditions = [c for i in range(len(self.columns)) for c in self.conditions(i)]
-        more = [*row_terms(predicate, rules), *self.conditional_equalities()]
+        more = [*self.conditional_equalities(), *row_terms(predicate, rules)]
+        self.few = len(self.columns) + len(dict.fromkeys(more))
         if len(self.columns) <= 14:
             more += pair_terms(self.columns)
         self.terms += [term for term in dict.fromkeys(more) if term.parts][:MAX_TERMS]
@@ -141,7 +151,8 @@ class Candidates:
         """What is equal at the samples of some condition."""
         found: list[Term] = []
         for condition in self.all_conditions:
-            samples = [self.samples[i] for i in sorted(condition.samples)[:100]]
+            chosen = sorted(condition.samples)
+            samples = [self.samples[i] for i in chosen[:: len(chosen) // MAX_EQUAL_SAMPLES + 1]]
             if len(samples) > 3:
                 terms = equalities(self.columns, samples)
                 found += [Term(t.parts, 0) for t in terms if len(t.parts) > 2]
@@ -156,8 +167,12 @@ class Candidates:
             if fails and here and columns.issuperset(rule.columns()):
                 self.add(tuple(negated(guard) for guard in rule.guards))
 
-    def clauses(self) -> list[Clause]:
-        """All candidates: those without samples are the empty clause alone."""
+    def clauses(self, wide: bool) -> list[Clause]:
+        """All candidates, without samples the empty clause alone.
+
+        Under conditions there are the bounds of columns and of what is equal somewhere, and the
+        `wide` ones are those of sums and differences too, and those under two conditions.
+        """
         if not self.samples:
             return [()]
         self.escapes()
@@ -165,43 +180,54 @@ class Candidates:
         for term in equalities(self.columns, self.samples):
             self.add((term,))
             self.add((combination([(-1, term)]),))
-        self.bounds((), everywhere, [], len(self.terms))
+        whole = self.extremes(everywhere, len(self.terms))
+        self.bounds((), whole, [])
         self.constant_bounds()
+        single = []
         for condition in self.all_conditions:
-            self.bounds(condition.otherwise, condition.samples, [everywhere], len(self.terms))
-        for first, second in combinations(self.all_conditions, 2):
-            if first.column != second.column:
-                self.both(first, second)
+            terms = len(self.terms) if wide else self.few
+            single.append(self.extremes(condition.samples, terms))
+            self.bounds(condition.otherwise, single[-1], [whole])
+        if wide:
+            self.pairs_of_conditions(single)
         return list(self.found)
+
+    def pairs_of_conditions(self, single: list[Extremes]) -> None:
+        """Bounds of columns under two conditions, while there is room."""
+        for (first, near), (second, far) in combinations(zip(self.all_conditions, single), 2):
+            if len(self.found) >= MAX_CANDIDATES:
+                return
+            if first.column != second.column:
+                self.both(first, second, [near, far])
+
+    def extremes(self, samples: frozenset[int], terms: int) -> Extremes:
+        """The extremes of the first terms at some samples."""
+        chosen = [[values[i] for i in samples] for values in self.values[:terms]]
+        return Extremes([*map(min, chosen)], [*map(max, chosen)])
 
     def add(self, clause: Clause) -> None:
         """One candidate more, while there is room."""
         if len(self.found) < MAX_CANDIDATES:
             self.found[clause] = None
 
-    def both(self, first: Condition, second: Condition) -> None:
+    def both(self, first: Condition, second: Condition, wider: list[Extremes]) -> None:
         """Bounds of columns under two conditions."""
         common = first.samples & second.samples
         otherwise = first.otherwise + second.otherwise
         if common:
-            self.bounds(otherwise, common, [first.samples, second.samples], len(self.columns))
-        elif first.samples and second.samples:
+            self.bounds(otherwise, self.extremes(common, len(self.columns)), wider)
+        else:
             self.add(otherwise)
 
     def bounds(
-        self,
-        otherwise: tuple[Atom, ...],
-        samples: frozenset[int],
-        wider: list[frozenset[int]],
-        terms: int,
+        self, otherwise: tuple[Atom, ...], narrow: Extremes, wider: list[Extremes]
     ) -> None:
-        """The bounds of the first terms at some samples, where they are tighter than at the wider ones."""
-        for term, values in zip(self.terms[:terms], self.values):
-            least, most = min(values[i] for i in samples), max(values[i] for i in samples)
-            if abs(most) < WIDE and all(max(values[i] for i in w) > most for w in wider):
-                self.add((*otherwise, at_most(term, most)))
-            if abs(least) < WIDE and all(min(values[i] for i in w) < least for w in wider):
-                self.add((*otherwise, at_least(term, least)))
+        """The bounds of terms at some samples, where they are tighter than at the wider ones."""
+        for i, (least, most) in enumerate(zip(narrow.least, narrow.most)):
+            if abs(most) < WIDE and all(wide.most[i] > most for wide in wider):
+                self.add((*otherwise, at_most(self.terms[i], most)))
+            if abs(least) < WIDE and all(wide.least[i] < least for wide in wider):
+                self.add((*otherwise, at_least(self.terms[i], least)))
 
     def constant_bounds(self) -> None:
         """Bounds of columns by constants of the program, a little wider than the samples."""

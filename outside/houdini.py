@@ -19,8 +19,9 @@ from outside.horn import (
     joined_text,
     term_text,
 )
-from outside.invariants import GaveUp
+from outside.invariants import GaveUp, Invariants
 from outside.linear import Clause, substituted, value_of
+from outside.model import invariants_of
 from outside.plan import Plan, Predicate
 from outside.processes import TimeOver
 from outside.rules import Application, Rule, rules_of
@@ -120,8 +121,8 @@ class Houdini:
         except Unreadable as why:
             raise GaveUp(f"z3's answer can't be read: {why}") from None
 
-    def begin(self) -> None:
-        """Makes the candidates."""
+    def begin(self, wide: bool) -> None:
+        """Makes the candidates, few or many."""
         walks = Walks(self.plan)
         samples = walks.collect(WALK_STEPS, (time.monotonic() + self.deadline) / 2)
         constants = constants_of(self.plan.graphs)
@@ -130,7 +131,7 @@ class Houdini:
             raise GaveUp("a random run fails at the assertion")
         for name, predicate in self.predicates.items():
             found = Candidates(predicate, samples[name], self.rules, constants)
-            self.kept[name] = found.clauses()
+            self.kept[name] = found.clauses(wide)
 
     def filter(self) -> None:
         """Drops candidates until the rest keep each other."""
@@ -230,7 +231,7 @@ class Houdini:
         """The candidates before steps with which these clauses hold after them."""
         if not waiting:
             return []
-        lines = ["(set-option :produce-unsat-cores true)"]
+        lines = ["(set-option :produce-unsat-cores true)", "(set-option :smt.core.minimize true)"]
         labels: list[list[tuple[str, Clause]]] = []
         for step, clauses in waiting:
             texts, named = self.core_question(step, clauses)
@@ -265,9 +266,9 @@ class Houdini:
         return [*lines, "(check-sat)", "(get-unsat-core)", "(pop)"], named
 
 
-def houdini_clauses(plan: Plan, deadline: float) -> Kept:
-    """Clauses of a plan's predicates, with which no run fails at the assertion."""
+def houdini_invariants(plan: Plan, wide: bool, deadline: float) -> Invariants:
+    """Invariants with which no run fails at the assertion, or a `GaveUp`."""
     houdini = Houdini(plan, deadline)
-    houdini.begin()
+    houdini.begin(wide)
     houdini.filter()
-    return houdini.cores()
+    return invariants_of(plan, houdini.cores())

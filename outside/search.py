@@ -1,12 +1,13 @@
-"""The search for a bundle: ways to ask z3, one after another, until a proof is made."""
+"""The search for a bundle: ways to invariants, one after another, until a proof is made."""
 
 import time
-from collections.abc import Callable, Iterator, Sequence
+from collections.abc import Callable, Iterator
 from dataclasses import dataclass
 
 from outside.bundle import Bundle
 from outside.claims import prove
 from outside.graphs import Graphs, Pick
+from outside.houdini import houdini_invariants
 from outside.invariants import GaveUp, Invariants
 from outside.linear import TooWide
 from outside.plan import Plan, Style, make_plan
@@ -19,32 +20,63 @@ from outside.spacer import (
     spacer_invariants,
 )
 
-FIRST_SECONDS = 1.5
-
 Note = Callable[[str], None]
 
 
 @dataclass(frozen=True)
-class Way:
-    """The form of the clauses, and Spacer's options."""
+class Spacer:
+    """Asks Spacer for a model of the clauses in a style."""
 
     style: Style
     options: tuple[str, ...]
 
+    def invariants(self, plan: Plan, deadline: float) -> Invariants:
+        """What Spacer finds."""
+        return spacer_invariants(plan, self.options, deadline)
+
     def name(self) -> str:
         """The way in notes."""
-        ranges = "64 bits" if self.style.ranges else "all integers"
-        return f"{ranges}, joins {self.style.joins}, {' '.join(self.options) or 'no options'}"
+        return f"Spacer, joins {self.style.joins}, {' '.join(self.options) or 'no options'}"
 
 
-def ways(graphs: Graphs) -> list[Way]:
-    """All ways, in the order in which they are tried."""
-    picks = any(isinstance(e, Pick) for g in graphs.graphs for e in g.edges)
-    joins = [1, 0, 2] if picks else [1, 0]
-    found = []
-    for options in (WITHOUT_EQUALITIES, WITHOUT_INLINING, ()):
-        for ranges in (False, True):
-            found += [Way(Style(ranges, cut), options) for cut in joins]
+@dataclass(frozen=True)
+class Guesses:
+    """Keeps those of many candidates that are invariants."""
+
+    style: Style
+    wide: bool
+
+    def invariants(self, plan: Plan, deadline: float) -> Invariants:
+        """What is left of the candidates."""
+        return houdini_invariants(plan, self.wide, deadline)
+
+    def name(self) -> str:
+        """The way in notes."""
+        return "many candidates" if self.wide else "candidates"
+
+
+Way = Spacer | Guesses
+
+# A way, and its share of the time.
+Turn = tuple[Way, float]
+
+OTHER_INTERPOLANTS = (*WITHOUT_EQUALITIES, "fp.spacer.iuc=0")
+
+
+def turns(ranges: bool, picks: bool) -> list[Turn]:
+    """The ways in the order in which they are tried, over all integers or with ranges."""
+    joins, heads = Style(ranges, 1), Style(ranges, 0)
+    inlined = Style(ranges, 0, inlined=True)
+    found: list[Turn] = [
+        (Spacer(joins, WITHOUT_EQUALITIES), 0.15),
+        (Spacer(heads, WITHOUT_EQUALITIES), 0.1),
+        (Guesses(inlined, False), 0.2),
+        (Spacer(joins, OTHER_INTERPOLANTS), 0.1),
+    ]
+    if picks:
+        found.insert(2, (Spacer(Style(ranges, 2), WITHOUT_EQUALITIES), 0.1))
+    found += [(Guesses(inlined, True), 0.25), (Spacer(joins, WITHOUT_INLINING), 0.1)]
+    found += [(Spacer(joins, ()), 0.1), (Spacer(heads, WITHOUT_EQUALITIES), 1.0)]
     return found
 
 
@@ -54,10 +86,11 @@ class Search:
     def __init__(self, graphs: Graphs, assertion: int, seconds: float, note: Note) -> None:
         self.graphs = graphs
         self.assertion = assertion
+        self.seconds = seconds
         self.deadline = time.monotonic() + seconds
         self.note = note
         self.plans: dict[Style, Plan] = {}
-        self.reached_without_ranges = False
+        self.only_with_ranges = False
         self.reason = "out of time"
 
     def left(self) -> float:
@@ -76,51 +109,44 @@ class Search:
             solver_path()
         except SolverFault as fault:
             raise GaveUp(str(fault)) from None
-        open_ways = ways(self.graphs)
-        for seconds in (FIRST_SECONDS, 1e9):
-            stalled = []
-            for way in self.chosen(open_ways):
-                bundle, again = self.attempt(way, seconds)
-                if bundle:
-                    return bundle
-                if again:
-                    stalled.append(way)
-            open_ways = stalled
+        for way, share in self.chosen():
+            bundle = self.attempt(way, share * self.seconds)
+            if bundle:
+                return bundle
         raise GaveUp(self.reason)
 
-    def chosen(self, open_ways: Sequence[Way]) -> Iterator[Way]:
+    def chosen(self) -> Iterator[Turn]:
         """The ways that can still lead to a proof, while there is time."""
-        for way in open_ways:
-            if self.left() <= 0:
-                return
-            if way.style.ranges or not self.reached_without_ranges:
-                yield way
+        picks = any(isinstance(e, Pick) for g in self.graphs.graphs for e in g.edges)
+        for ranges in (False, True):
+            for turn in turns(ranges, picks):
+                if self.left() <= 0:
+                    return
+                if ranges or not self.only_with_ranges:
+                    yield turn
 
-    def attempt(self, way: Way, seconds: float) -> tuple[Bundle | None, bool]:
-        """A bundle by a way, or whether more time may help."""
-        deadline = min(self.deadline, time.monotonic() + seconds)
+    def attempt(self, way: Way, seconds: float) -> Bundle | None:
+        """A bundle by a way."""
+        begun = time.monotonic()
         try:
-            invariants = spacer_invariants(self.plan(way.style), way.options, deadline)
-            return self.proof(invariants), False
-        except Reached:
+            deadline = min(self.deadline, begun + seconds)
+            invariants = way.invariants(self.plan(way.style), deadline)
+            self.note(f"{way.name()}: invariants in {time.monotonic() - begun:.1f} s")
+            return prove(self.graphs, self.assertion, invariants, self.deadline)
+        except Reached as why:
             if way.style.ranges:
                 raise
-            self.reached_without_ranges = True
-            self.note(f"{way.name()}: the assertion can fail")
+            self.only_with_ranges = True
+            self.note(f"{way.name()}: {why}, over all integers")
         except Stalled as why:
             self.note(f"{way.name()}: {why}")
-            return None, True
         except GaveUp as why:
             self.reason = why.reason
             self.note(f"{way.name()}: {why}")
         except TooWide as why:
             self.reason = f"a row is too wide: {why}"
             self.note(f"{way.name()}: {self.reason}")
-        return None, False
-
-    def proof(self, invariants: Invariants) -> Bundle:
-        """The bundle that invariants give."""
-        return prove(self.graphs, self.assertion, invariants, self.deadline)
+        return None
 
 
 def find_bundle(graphs: Graphs, assertion: int, seconds: float, note: Note) -> Bundle:
