@@ -126,7 +126,8 @@ def gave_up(why: GaveUp) -> int:
 def main() -> int:
     """The command, with its status."""
     sys.setrecursionlimit(20_000)
-    signal.signal(signal.SIGTERM, lambda *_: sys.exit(143))
+    for kind in (signal.SIGTERM, signal.SIGHUP):
+        signal.signal(kind, lambda number, _: sys.exit(128 + number))
     given = words()
     try:
         text = run(given)
