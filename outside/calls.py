@@ -8,9 +8,10 @@ from collections.abc import Sequence
 from dataclasses import dataclass
 from typing import TYPE_CHECKING
 
-from outside.certificates import Certificate, used_rows
+from outside.cases import Cases
+from outside.certificates import Certificate
 from outside.graphs import Call
-from outside.invariants import GaveUp
+from outside.invariants import GaveUp, violated_clauses
 from outside.linear import (
     FIRST_ENTRY,
     FIRST_EXIT,
@@ -36,7 +37,7 @@ if TYPE_CHECKING:
     from outside.claims import Prover
 
 NEVER = constant_term(1)
-MAX_STEPS = 2000
+MAX_CASES = 2000
 
 
 @dataclass
@@ -96,34 +97,7 @@ def replaced(rows: Sequence[Atom], column: int) -> list[Atom] | None:
 
 def meet(atoms: Sequence[Atom], clauses: Sequence[Clause]) -> dict[int, int] | set[int]:
     """A point that meets the atoms and the clauses, or the atoms that tell that there is none."""
-    return _Cases(atoms, clauses).search(list(atoms))
-
-
-class _Cases:
-    """The search for a point: where one violates a clause, each of its atoms is tried."""
-
-    def __init__(self, atoms: Sequence[Atom], clauses: Sequence[Clause]) -> None:
-        self.given = len(atoms)
-        self.clauses = clauses
-        self.steps = 0
-
-    def search(self, rows: list[Atom]) -> dict[int, int] | set[int]:
-        self.steps += 1
-        if self.steps > MAX_STEPS:
-            raise GaveUp("too many cases at a call")
-        outcome = ask(rows)
-        if not isinstance(outcome, dict):
-            return {number for number in used_rows(outcome) if number < self.given}
-        violated = [c for c in self.clauses if not any(holds(atom, outcome) for atom in c)]
-        if not violated:
-            return outcome
-        core: set[int] = set()
-        for atom in min(violated, key=len):
-            found = self.search([*rows, atom])
-            if isinstance(found, dict):
-                return found
-            core |= found
-        return core
+    return Cases(atoms, clauses, MAX_CASES).search()
 
 
 class CallEdges:
@@ -143,7 +117,7 @@ class CallEdges:
         point = ask(have)
         if not isinstance(point, dict):
             self.claim(site, have, [NEVER])
-        elif not self.kill_by_clause(site, have, self.prover.violated(clauses or (), point)):
+        elif not self.kill_by_clause(site, have, violated_clauses(clauses or [], point)):
             core = self.meet_asked(site, have, clauses)
             if isinstance(core, dict):
                 raise GaveUp("a call that can't be made asks something that can be met")
@@ -206,6 +180,17 @@ class CallEdges:
                 if not any(entails(rows, atom) for atom in met):
                     rows.append(min(met, key=lambda a: sum(x >= FIRST_EXIT for x in a.columns())))
         return without(rows[known:], [x for x in columns_of(rows[known:]) if x >= FIRST_EXIT])
+
+    def behind(self, work: Work, edge: RegionEdge, point: Point) -> tuple[int, Point] | None:
+        """The state into which a call leads at the point, and its node, if that has an invariant."""
+        call = work.graph.edges[edge.edge]
+        assert isinstance(call, Call)
+        if work.is_soft(edge.target):
+            return None
+        values = {FIRST_EXIT + i: slot for i, slot in enumerate(call.results)}
+        state = {x: value for x, value in point.items() if x < FIRST_EXIT}
+        state.update((slot, point[x]) for x, slot in values.items() if x in point)
+        return work.node(edge.target), state
 
     def run_at(self, site: _Site, point: Point) -> list[Atom]:
         """The rows of a run of the callee from the point's source into the target."""

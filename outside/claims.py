@@ -6,26 +6,33 @@ becomes bad: where a clause of the source's invariant is violated, the part wher
 holds, and else the preimage. At a call the violated clause of the callee becomes a claim.
 """
 
-import time
 from collections import deque
 from collections.abc import Sequence
 
+from outside.clock import now
 from outside.bundle import Bundle, Claim
 from outside.calls import CallEdges
 from outside.cuts import Cuts
 from outside.graphs import Call, Graphs, Input, Pick
 from outside.invariants import GaveUp, Invariants
-from outside.linear import Atom, Clause, Point, TooWide, holds, negated
+from outside.linear import Atom, Clause, Point, TooWide, negated
 from outside.partition import Query, RegionEdge
 from outside.plan import failing_procedures, straight_procedures
 from outside.preimage import free_preimage, names_exit, preimage
+from outside.reach import Reach, Reached
 from outside.work import Work, ask
 
 MAX_MOVES = 200_000
 
 
 class NotInductive(GaveUp):
-    """The invariants don't tell why a step isn't possible."""
+    """A step leads from a state that an invariant allows to this one, which none allows."""
+
+    def __init__(self, procedure: int, node: int, state: Point) -> None:
+        super().__init__(f"the invariants aren't kept at node {node} of procedure {procedure}")
+        self.procedure = procedure
+        self.node = node
+        self.state = state
 
 
 class Prover:
@@ -74,11 +81,6 @@ class Prover:
             return known[procedure]
         return None if procedure in self.straight else []
 
-    def violated(self, clauses: Sequence[Clause], point: Point) -> list[Clause]:
-        """The clauses that don't hold at the point, short ones first."""
-        found = [c for c in clauses if not any(holds(atom, point) for atom in c)]
-        return sorted(found, key=lambda c: (len(c), sum(len(atom.parts) for atom in c)))
-
     def prove(self) -> Bundle:
         """The bundle with all claims."""
         self.claim_of(Query(self.graphs.main, self.assertion, (), ()))
@@ -91,10 +93,10 @@ class Prover:
     def proved(self, query: Query) -> Claim:
         """The claim of a query with its moves."""
         graph = self.graphs.graphs[query.procedure]
-        known = {n: c for (p, n), c in self.invariants.node.items() if p == query.procedure}
-        hard = known.keys() | {graph.exit, graph.fail}
+        hard = self.invariants.nodes(query.procedure) | {graph.exit, graph.fail}
         work = Work(graph, query, lambda node: node not in hard)
-        self.cuts = Cuts(work, known)
+        self.cuts = Cuts(work, self.invariants)
+        self.reach = Reach(self, query.procedure, query.start)
         if not self.closed_at_entry(work):
             self.close_all(work)
         return Claim(query, tuple(work.moves))
@@ -105,7 +107,7 @@ class Prover:
         First edges are killed, and only then regions split, so that fewer pieces are looked at.
         """
         while True:
-            if time.monotonic() > self.deadline:
+            if now() > self.deadline:
                 raise GaveUp("out of time in the proof")
             if len(work.moves) > MAX_MOVES:
                 raise GaveUp(f"more than {MAX_MOVES} moves")
@@ -145,31 +147,47 @@ class Prover:
     def spoil(self, work: Work, edge: RegionEdge, point: Point) -> None:
         """Makes a part of the source bad, or splits a region by a cut."""
         graph_edge = work.graph.edges[edge.edge]
-        known = self.node_clauses(work, edge.source)
-        found = self.violated(known or (), point)
-        if found:
-            work.spoil(edge.source, [negated(atom) for atom in found[0]])
-        elif edge.source == 0 or known is not None:
-            if not self.cuts.refine(edge, point):
-                raise NotInductive(f"no clause at node {work.node(edge.source)} is violated")
+        procedure, node = work.query.procedure, work.node(edge.source)
+        violated = None
+        if edge.source != 0:
+            violated = self.invariants.violated(procedure, node, point)
+        if violated is not None:
+            work.spoil(edge.source, [negated(atom) for atom in violated])
+        elif not work.is_soft(edge.source):
+            self.spoil_nothing(work, edge, point)
         elif isinstance(graph_edge, Call):
-            work.spoil(edge.source, self.calls.before(work, edge, point))
+            work.spoil(edge.source, self.general(work, edge, self.calls.before(work, edge, point)))
         elif not (isinstance(graph_edge, Pick) and self.cuts.refine_step(edge)):
             self.spoil_before(work, edge)
+
+    def spoil_nothing(self, work: Work, edge: RegionEdge, point: Point) -> None:
+        """Splits a region by a cut where the invariant says that the point's state may be met."""
+        node = work.node(edge.source)
+        is_call = isinstance(work.graph.edges[edge.edge], Call)
+        whole = self.invariants.completed(work.query.procedure, node, point)
+        behind = self.calls.behind(work, edge, whole) if is_call else self.cuts.behind(edge, whole)
+        if behind is not None:
+            raise NotInductive(work.query.procedure, *behind)
+        if is_call or not self.cuts.refine(edge, point):
+            raise NotInductive(work.query.procedure, node, point)
 
     def spoil_before(self, work: Work, edge: RegionEdge) -> None:
         """Makes the preimage bad at a node without an invariant."""
         graph_edge = work.graph.edges[edge.edge]
         target = work.atoms(edge.target)
         rows = preimage(graph_edge, target)
-        if self.with_ranges and not isinstance(graph_edge, Input | Pick):
-            work.spoil_before(edge, rows, rows)
-        else:
-            work.spoil_before(edge, rows, free_preimage(graph_edge, target))
+        atoms = rows
+        if not self.with_ranges or isinstance(graph_edge, Input | Pick):
+            atoms = free_preimage(graph_edge, target)
+        work.spoil_before(edge, rows, self.general(work, edge, atoms))
 
-    def node_clauses(self, work: Work, region: int) -> list[Clause] | None:
-        """The clauses of a region's node, if it has an invariant."""
-        return self.invariants.node.get((work.query.procedure, work.node(region)))
+    def general(self, work: Work, edge: RegionEdge, atoms: list[Atom]) -> list[Atom]:
+        """Those of the atoms that are enough for the node not to be reached, if that is seen."""
+        try:
+            needed = self.reach.needed(work.node(edge.source), atoms)
+        except Reached:
+            return atoms
+        return [atoms[number] for number in sorted(needed)]
 
 
 def prove(

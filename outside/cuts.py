@@ -11,21 +11,24 @@ from dataclasses import dataclass
 
 from outside.certificates import Branch, Certificate, at_least, at_most, base_rows
 from outside.graphs import Call
+from outside.invariants import Invariants
 from outside.linear import (
     FIRST_ASKED,
     FIRST_ENTRY,
     FIRST_EXIT,
     FIRST_SYMBOL,
     Atom,
-    Clause,
     Point,
     Term,
+    column_term,
     columns_of,
     combination,
-    holds,
+    constant_term,
+    equality,
     negated,
     substituted,
     term_of,
+    value_of,
 )
 from outside.partition import RegionEdge
 from outside.paths import State, stepped
@@ -120,22 +123,41 @@ def _at_region(atom: Atom, terms: dict[int, Term], from_outside: bool) -> Atom |
 class Cuts:
     """The cuts of one claim."""
 
-    def __init__(self, work: Work, clauses: dict[int, list[Clause]]) -> None:
+    def __init__(self, work: Work, invariants: Invariants) -> None:
         self.work = work
-        self.clauses = clauses
+        self.invariants = invariants
         self.count = 0
         self.steps = 0
 
     def refine(self, edge: RegionEdge, point: Point) -> bool:
         """Splits a region on a path from the edge's source that is open at this point alone."""
+        node = self.work.node(edge.source)
         start = list(self.work.atoms(edge.source))
-        for clause in self.clauses.get(self.work.node(edge.source), ()):
-            true = [atom for atom in clause if holds(atom, point)]
-            start.extend(true[:1])
+        start += self.invariants.around(self.work.query.procedure, node, point)
         self.count += 1
         self.steps = 0
         found = self.paths(_Path([], [State(rows=start)]), edge, point)
         return self.count <= MAX_CUTS and any(self.cut(path) for path in found)
+
+    def behind(self, edge: RegionEdge, point: Point) -> tuple[int, Point] | None:
+        """A state with an invariant to which a run goes from the point, and its node."""
+        here = [
+            row
+            for column, value in point.items()
+            for row in equality(column_term(column), constant_term(value))
+        ]
+        self.steps = 0
+        for path in self.paths(_Path([], [State(rows=here)]), edge, point):
+            try:
+                found = solve(path.rows())
+            except SolverLimit:
+                continue
+            if isinstance(found, dict):
+                terms = path.states[-1].terms
+                state = {x: found.get(x, 0) for x in point}
+                state.update((slot, value_of(term, found)) for slot, term in terms.items())
+                return self.work.node(path.edges[-1].target), state
+        return None
 
     def refine_step(self, edge: RegionEdge) -> bool:
         """The same of the edge alone."""

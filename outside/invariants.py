@@ -2,9 +2,9 @@
 
 from dataclasses import dataclass, field
 
-from outside.linear import Atom, Clause
+from outside.linear import Atom, Clause, Point, holds
 
-__all__ = ["Atom", "Clause", "GaveUp", "Invariants"]
+__all__ = ["Atom", "Clause", "GaveUp", "Invariants", "violated_clauses"]
 
 
 class GaveUp(Exception):
@@ -13,6 +13,12 @@ class GaveUp(Exception):
     def __init__(self, reason: str) -> None:
         super().__init__(reason)
         self.reason = reason
+
+
+def violated_clauses(clauses: list[Clause], point: Point) -> list[Clause]:
+    """The clauses that don't hold at the point, short ones first."""
+    found = [c for c in clauses if not any(holds(atom, point) for atom in c)]
+    return sorted(found, key=lambda c: (len(c), sum(len(atom.parts) for atom in c)))
 
 
 @dataclass
@@ -29,3 +35,23 @@ class Invariants:
     node: dict[tuple[int, int], list[Clause]] = field(default_factory=dict)
     summary: dict[int, list[Clause]] = field(default_factory=dict)
     failure: dict[int, list[Clause]] = field(default_factory=dict)
+
+    def nodes(self, procedure: int) -> set[int]:
+        """The nodes of a procedure that have an invariant."""
+        return {node for owner, node in self.node if owner == procedure}
+
+    def violated(self, procedure: int, node: int, point: Point) -> Clause | None:
+        """A clause of the node that doesn't hold at the point, if there is one."""
+        found = violated_clauses(self.node.get((procedure, node), []), point)
+        return found[0] if found else None
+
+    def around(self, procedure: int, node: int, point: Point) -> list[Atom]:
+        """Atoms that hold at the point, and wherever they hold the invariant does."""
+        atoms = []
+        for clause in self.node.get((procedure, node), []):
+            atoms += [atom for atom in clause if holds(atom, point)][:1]
+        return atoms
+
+    def completed(self, _procedure: int, _node: int, point: Point) -> Point:
+        """The point with values for the columns that it doesn't name."""
+        return point
