@@ -4,25 +4,41 @@
 usage: bench/outside.py [--program PATH] [--graphs PATH] [--seconds N] [--jobs N] [--only TEXT] [--each] FOLDER..
 
 Each FOLDER has a `truth.tsv` with a line for each assertion: its file and its truth (`proved` or
-`found`), by its number (`program assertion truth`) or its place (`file line column truth`). For each
+`found`), by its number (`program assertion truth`) or its place (`file line column truth`, or
+`program place truth` for `programs/` in the folder). For each
 folder: the assertions that are true, those that `check --workers 1` proves, those for which `recheck`
-accepts a bundle, the seconds of both, and what is wrong: an accepted bundle where the truth is
+accepts a bundle, the processor seconds of both, and what is wrong: an accepted bundle where the truth is
 `found`, or another place than the assertion's. The last line is `N accepted of M, K wrong`, and the
 status is 1 where something is wrong.
 """
 
 import argparse
 import csv
+import os
 import re
 import subprocess
 import sys
-import time
+import tempfile
 from concurrent.futures import ThreadPoolExecutor
 from dataclasses import dataclass, field
 from pathlib import Path
 
 TOP = Path(__file__).resolve().parent.parent
 LINE = re.compile(r"(\d+):(\d+): (proved|found|unknown)")
+
+
+@dataclass(frozen=True)
+class Ended:
+    """A program's status, what it printed, and its seconds of processor time."""
+
+    status: int
+    output: bytes
+    errors: str
+    seconds: float
+
+    def text(self) -> str:
+        """What it printed, as a text."""
+        return self.output.decode("utf-8", "replace")
 
 
 @dataclass
@@ -54,11 +70,13 @@ def labelled(folder: Path) -> list[Program]:
     with (folder / "truth.tsv").open(newline="") as table:
         for row in csv.DictReader(table, delimiter="\t"):
             name = row.get("program") or row["file"]
-            program = programs.setdefault(name, Program(folder / name))
+            there = folder / "programs" / name if "place" in row else folder / name
+            program = programs.setdefault(name, Program(there))
             if "assertion" in row:
                 program.truths[int(row["assertion"])] = row["truth"]
-            else:
-                program.places[int(row["line"]), int(row["column"])] = row["truth"]
+                continue
+            line, column = row["place"].split(":") if "place" in row else (row["line"], row["column"])
+            program.places[int(line), int(column)] = row["truth"]
     return list(programs.values())
 
 
@@ -69,21 +87,26 @@ class Bench:
         self.given = given
         self.program = given.program.split()
 
-    def run(self, words: list[str], source: bytes, limit: float) -> tuple[int, str]:
-        """A program's status and output; no status past the limit."""
-        try:
-            done = subprocess.run(words, input=source, capture_output=True, timeout=limit)
-        except subprocess.TimeoutExpired:
-            return -1, ""
-        return done.returncode, done.stdout.decode("utf-8", "replace")
+    def run(self, words: list[str], source: bytes = b"") -> Ended:
+        """A program's end, with the processor time of it and of the programs that it ran."""
+        with tempfile.TemporaryFile() as given, tempfile.TemporaryFile() as printed:
+            given.write(source)
+            given.seek(0)
+            with tempfile.TemporaryFile() as said:
+                child = subprocess.Popen(words, stdin=given, stdout=printed, stderr=said, cwd=TOP)
+                _, status, usage = os.wait4(child.pid, 0)
+                child.returncode = os.waitstatus_to_exitcode(status)
+                printed.seek(0)
+                said.seek(0)
+                seconds = usage.ru_utime + usage.ru_stime
+                errors = said.read().decode("utf-8", "replace")
+                return Ended(child.returncode, printed.read(), errors, seconds)
 
     def measure(self, program: Program) -> Program:
         """Checks a program, and then each of its assertions by the bridge."""
-        begun = time.monotonic()
-        source = program.path.read_bytes()
-        _, text = self.run([*self.program, "check", "--workers", "1"], source, 600)
-        program.check_seconds = time.monotonic() - begun
-        lines = [LINE.match(line) for line in text.splitlines()]
+        checked = self.run([*self.program, "check", "--workers", "1"], program.path.read_bytes())
+        program.check_seconds = checked.seconds
+        lines = [LINE.match(line) for line in checked.text().splitlines()]
         for number, line in enumerate((line for line in lines if line), 1):
             place = int(line[1]), int(line[2])
             program.proved += line[3] == "proved"
@@ -95,18 +118,18 @@ class Bench:
         truth = program.truth(number, place)
         if truth != "proved" and not self.given.all:
             return
-        begun = time.monotonic()
         words = [sys.executable, "-m", "outside", str(number), "--seconds", str(self.given.seconds)]
         if self.given.graphs:
             words += ["--graphs", self.given.graphs]
-        done = subprocess.run([*words, str(program.path)], capture_output=True, cwd=TOP)
-        accepted, text = False, ""
-        if done.returncode == 0:
-            status, text = self.run([*self.program, "recheck"], done.stdout, 60)
-            accepted = status == 0 and text == f"accepted {place[0]}:{place[1]}\n"
+        found = self.run([*words, str(program.path.absolute())])
+        seconds, accepted, text = found.seconds, False, found.errors
+        if found.status == 0:
+            again = self.run([*self.program, "recheck"], found.output)
+            seconds, text = seconds + again.seconds, again.text()
+            accepted = again.status == 0 and text == f"accepted {place[0]}:{place[1]}\n"
         if truth == "proved":
-            program.bridge_seconds += time.monotonic() - begun
-        self.note(program, number, truth, accepted, text or done.stderr.decode("utf-8", "replace"))
+            program.bridge_seconds += seconds
+        self.note(program, number, truth, accepted, text)
 
     def note(self, program: Program, number: int, truth: str, accepted: bool, text: str) -> None:
         """Counts what came of an assertion."""

@@ -5,11 +5,11 @@ rule allow and some candidate after it doesn't, and what such states violate goe
 none. Of what is left the clauses are taken that the assertion needs, and those that these need.
 """
 
-import time
 from collections.abc import Iterable, Sequence
 from dataclasses import dataclass
 
 from outside.candidates import Candidates
+from outside.clock import now
 from outside.horn import (
     application_text,
     body_texts,
@@ -32,7 +32,7 @@ from outside.walks import Walks, constants_of
 WALK_STEPS = 60_000
 GROUPS = 4
 MAX_ROUNDS = 200
-QUESTION = "(set-option :timeout 2000)"
+QUESTION = "(set-option :timeout 20000)"
 
 Kept = dict[str, list[Clause]]
 
@@ -108,7 +108,7 @@ class Houdini:
 
     def ask(self, lines: Sequence[str]) -> list[Expression]:
         """What z3 prints for questions."""
-        left = self.deadline - time.monotonic()
+        left = self.deadline - now()
         if left <= 0:
             raise GaveUp("no time for candidates")
         try:
@@ -124,7 +124,7 @@ class Houdini:
     def begin(self, wide: bool) -> None:
         """Makes the candidates, few or many."""
         walks = Walks(self.plan)
-        samples = walks.collect(WALK_STEPS, (time.monotonic() + self.deadline) / 2)
+        samples = walks.collect(WALK_STEPS, (now() + self.deadline) / 2)
         constants = constants_of(self.plan.graphs)
         main = self.plan.failures.get(self.plan.graphs.main)
         if main and samples[main.name]:

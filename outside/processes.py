@@ -14,6 +14,9 @@ from collections.abc import Iterator, Sequence
 from contextlib import contextmanager
 from dataclasses import dataclass
 
+from outside import clock
+
+WAKING = 0.2
 INTERRUPTIONS = (signal.SIGINT, signal.SIGTERM, signal.SIGHUP)
 
 
@@ -40,11 +43,15 @@ class Ended:
 
 @dataclass(frozen=True)
 class Limits:
-    """The seconds and bytes that a program has, and the seconds to end once it is asked to."""
+    """The seconds and bytes that a program has, and the seconds to end once it is asked to.
+
+    Where it is `worked`, the seconds are those of the search's clock, else those of the wall.
+    """
 
     seconds: float
     output: int = 64_000_000
     grace: float = 0.0
+    worked: bool = False
 
 
 _running: set[int] = set()
@@ -102,6 +109,8 @@ def run(words: Sequence[str], given: bytes, limits: Limits) -> Ended:
                     start_new_session=True,
                 )
                 _running.add(child.pid)
+                if limits.worked:
+                    clock.watch(child.pid)
             output = _read(child, limits)
             if not _has_ended(child, 1.0 + limits.grace):
                 raise TimeOver
@@ -134,20 +143,24 @@ def _end(child: subprocess.Popen, grace: float) -> None:
         with _lock:
             child.wait()
             _running.discard(child.pid)
+        clock.watch(None)
 
 
 def _read(child: subprocess.Popen, limits: Limits) -> bytes:
     """Reads up to the end of the output, or to the limits."""
     assert child.stdout
-    deadline = time.monotonic() + limits.seconds
+    now = clock.now if limits.worked else time.monotonic
+    deadline = now() + limits.seconds
     chunks: list[bytes] = []
     size = 0
     with selectors.DefaultSelector() as selector:
         selector.register(child.stdout, selectors.EVENT_READ)
         while True:
-            left = deadline - time.monotonic()
-            if left <= 0 or not selector.select(left):
+            left = deadline - now()
+            if left <= 0:
                 raise TimeOver
+            if not selector.select(min(left, WAKING)):
+                continue
             chunk = os.read(child.stdout.fileno(), 65_536)
             if not chunk:
                 return b"".join(chunks)

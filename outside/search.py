@@ -1,11 +1,11 @@
 """The search for a bundle: ways to invariants, one after another, until a proof is made."""
 
-import time
 from collections.abc import Callable, Iterator
 from dataclasses import dataclass
 
 from outside.bundle import Bundle
 from outside.claims import prove
+from outside.clock import now
 from outside.graphs import Graphs, Pick
 from outside.houdini import houdini_invariants
 from outside.invariants import GaveUp, Invariants
@@ -87,7 +87,7 @@ class Search:
         self.graphs = graphs
         self.assertion = assertion
         self.seconds = seconds
-        self.deadline = time.monotonic() + seconds
+        self.deadline = now() + seconds
         self.note = note
         self.plans: dict[Style, Plan] = {}
         self.only_with_ranges = False
@@ -95,7 +95,7 @@ class Search:
 
     def left(self) -> float:
         """The seconds that are left."""
-        return self.deadline - time.monotonic()
+        return self.deadline - now()
 
     def plan(self, style: Style) -> Plan:
         """The plan of a style, made once."""
@@ -127,11 +127,11 @@ class Search:
 
     def attempt(self, way: Way, seconds: float) -> Bundle | None:
         """A bundle by a way."""
-        begun = time.monotonic()
+        begun = now()
         try:
             deadline = min(self.deadline, begun + seconds)
             invariants = way.invariants(self.plan(way.style), deadline)
-            self.note(f"{way.name()}: invariants in {time.monotonic() - begun:.1f} s")
+            self.note(f"{way.name()}: invariants in {now() - begun:.1f} s")
             return prove(self.graphs, self.assertion, invariants, self.deadline)
         except Reached as why:
             if way.style.ranges:

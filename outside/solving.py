@@ -3,6 +3,7 @@
 import shutil
 from collections.abc import Sequence
 
+from outside.clock import WAITING
 from outside.processes import Limits, TimeOver, TooLong, run
 
 TRIED = "4.8.12"
@@ -26,7 +27,7 @@ def solver_path() -> str:
 def printed(words: Sequence[str], text: str, seconds: float) -> str:
     """What z3 prints."""
     try:
-        ended = run(words, text.encode(), Limits(seconds, MAX_OUTPUT))
+        ended = run(words, text.encode(), Limits(seconds, MAX_OUTPUT, worked=True))
     except OSError as fault:
         raise SolverFault(f"{words[0]} doesn't run: {fault.strerror}; z3 is {PACKAGE}") from None
     except TooLong:
@@ -49,7 +50,7 @@ def version_note(path: str) -> str:
 
 def printed_by_solver(text: str, options: Sequence[str], seconds: float) -> str:
     """What z3 prints for a text of SMT-LIB."""
-    limit = max(1, int(seconds + 1))
+    limit = int(seconds * WAITING) + 1
     words = [solver_path(), f"-T:{limit}", f"-memory:{MEMORY_MEGABYTES}", *options, "-in"]
     return printed(words, text, seconds)
 

@@ -4,9 +4,9 @@ With its inlining Spacer is faster, but what it says of an inlined predicate has
 predicates that can be read are defined, and a second question without inlining gives the others.
 """
 
-import time
 from collections.abc import Sequence
 
+from outside.clock import now
 from outside.horn import horn_text
 from outside.invariants import GaveUp, Invariants
 from outside.model import Clauses, invariants_of, readable
@@ -40,7 +40,7 @@ def with_definitions(text: str, definitions: dict[str, str]) -> str:
 
 def question(text: str, options: Sequence[str], deadline: float) -> str:
     """The model of clauses, if z3 finds one."""
-    left = deadline - time.monotonic()
+    left = deadline - now()
     if left <= 0:
         raise Stalled("out of time")
     try:
@@ -67,7 +67,7 @@ def _second(text: str, texts: dict[str, str], deadline: float) -> str:
     """The model of the predicates that the first one left open."""
     defined = with_definitions(text, texts)
     try:
-        half = time.monotonic() + (deadline - time.monotonic()) / 2
+        half = now() + (deadline - now()) / 2
         return question(defined, WITHOUT_INLINING, half)
     except GaveUp:
         return question(defined, (*WITHOUT_INLINING, *WITHOUT_EQUALITIES), deadline)

@@ -1,11 +1,11 @@
 """Random runs of graphs, and the states that they meet at the places of predicates."""
 
 import random
-import time
 from collections.abc import Iterator
 from dataclasses import dataclass, field
 from typing import NoReturn
 
+from outside.clock import now
 from outside.graphs import Assert, Assign, Call, Edge, Graphs, Guard, Input, Pick, Return
 from outside.linear import FIRST_ENTRY, FIRST_EXIT, MAX_VALUE, MIN_VALUE, Atom
 from outside.plan import Plan, Predicate
@@ -69,7 +69,7 @@ class Walks:
 
     def collect(self, steps: int, deadline: float) -> dict[str, set[Sample]]:
         """Samples from about so many steps."""
-        while steps > 0 and time.monotonic() < deadline:
+        while steps > 0 and now() < deadline:
             self.skew = self.random.choice((0.0, 0.3, 0.6))
             procedure = self.random.choice([self.graphs.main, *self.plan.returns])
             steps -= self.run_once(procedure) + 20

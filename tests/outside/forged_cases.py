@@ -7,7 +7,6 @@ them may be rejected; it is never accepted where the assertion fails.
 
 import random
 import re
-import time
 from collections.abc import Iterator
 from pathlib import Path
 
@@ -15,6 +14,7 @@ from settings import Case, Label, Setting, labels, refused_claim
 
 from outside.bundle import print_bundle
 from outside.claims import prove
+from outside.clock import now
 from outside.horn import horn_text
 from outside.invariants import GaveUp
 from outside.linear import TooWide
@@ -59,7 +59,7 @@ def forged_bundle(setting: Setting, plan: Plan, text: str, target: Label) -> byt
     try:
         clauses, _, _ = readable(plan, text)
         invariants = invariants_of(plan, clauses)
-        deadline = time.monotonic() + PROVE_SECONDS
+        deadline = now() + PROVE_SECONDS
         bundle = prove(plan.graphs, target.number - 1, invariants, deadline)
     except (Unreadable, GaveUp, TooWide):
         return None
@@ -71,7 +71,7 @@ def forged(setting: Setting, holds: Label, fails: Label, share: int) -> list[str
     graphs = setting.read_graphs(holds.path)
     plan = make_plan(graphs, holds.number - 1, Style(False, 1))
     try:
-        model = question(horn_text(plan), WITHOUT_EQUALITIES, time.monotonic() + 10)
+        model = question(horn_text(plan), WITHOUT_EQUALITIES, now() + 10)
     except GaveUp:
         model = "\n".join(f"(define-fun {p.name} () Bool\nfalse)" for p in plan.predicates())
     chance = random.Random(f"{holds.path.name} {holds.number}")
