@@ -1,83 +1,37 @@
 #!/usr/bin/env python3
 """What z3's proofs add: labelled programs by `smash check`, and by the bridge with `smash recheck`.
 
-usage: bench/outside.py [--program PATH] [--graphs PATH] [--seconds N] [--jobs N] [--only TEXT] [--each] FOLDER..
+usage: bench/outside.py [--program PATH] [--graphs PATH] [--seconds N] [--jobs N] [--only TEXT] [--each] [--all] FOLDER..
 
-Each FOLDER has a `truth.tsv` with a line for each assertion: its file and its truth (`proved` or
-`found`), by its number (`program assertion truth`) or its place (`file line column truth`, or
-`program place truth` for `programs/` in the folder). For each
-folder: the assertions that are true, those that `check --workers 1` proves, those for which `recheck`
-accepts a bundle, the processor seconds of both, and what is wrong: an accepted bundle where the truth is
-`found`, or another place than the assertion's. The last line is `N accepted of M, K wrong`, and the
-status is 1 where something is wrong.
+Each FOLDER has a `truth.tsv`; bench/labelled.py says of what forms. For each folder: the assertions
+that are true, those that `check --workers 1` proves, those for which `recheck` accepts a bundle, the
+processor seconds of both, and what is wrong: an accepted bundle where the truth is `found`, or for
+another place than the assertion's. The last line is `N accepted of M, K wrong`, and the status is 1
+where something is wrong.
 """
 
 import argparse
-import csv
-import os
 import re
-import subprocess
 import sys
-import tempfile
 from concurrent.futures import ThreadPoolExecutor
 from dataclasses import dataclass, field
 from pathlib import Path
 
-TOP = Path(__file__).resolve().parent.parent
+from labelled import TOP, Program, labelled, run
+
 LINE = re.compile(r"(\d+):(\d+): (proved|found|unknown)")
 
 
-@dataclass(frozen=True)
-class Ended:
-    """A program's status, what it printed, and its seconds of processor time."""
-
-    status: int
-    output: bytes
-    errors: str
-    seconds: float
-
-    def text(self) -> str:
-        """What it printed, as a text."""
-        return self.output.decode("utf-8", "replace")
-
-
 @dataclass
-class Program:
-    """A labelled program, and what was measured of it."""
+class Measured:
+    """What was measured of a program."""
 
-    path: Path
-    truths: dict[int, str] = field(default_factory=dict)
-    places: dict[tuple[int, int], str] = field(default_factory=dict)
+    program: Program
     proved: int = 0
     accepted: int = 0
     check_seconds: float = 0.0
     bridge_seconds: float = 0.0
-    missing: list[int] = field(default_factory=list)
     wrong: list[str] = field(default_factory=list)
-
-    def truth(self, number: int, place: tuple[int, int]) -> str:
-        """What is true of an assertion."""
-        return self.truths.get(number) or self.places.get(place, "unknown")
-
-    def true_ones(self) -> int:
-        """How many assertions can't fail."""
-        return [*self.truths.values(), *self.places.values()].count("proved")
-
-
-def labelled(folder: Path) -> list[Program]:
-    """The programs of a folder with their labels."""
-    programs: dict[str, Program] = {}
-    with (folder / "truth.tsv").open(newline="") as table:
-        for row in csv.DictReader(table, delimiter="\t"):
-            name = row.get("program") or row["file"]
-            there = folder / "programs" / name if "place" in row else folder / name
-            program = programs.setdefault(name, Program(there))
-            if "assertion" in row:
-                program.truths[int(row["assertion"])] = row["truth"]
-                continue
-            line, column = row["place"].split(":") if "place" in row else (row["line"], row["column"])
-            program.places[int(line), int(column)] = row["truth"]
-    return list(programs.values())
 
 
 class Bench:
@@ -85,72 +39,58 @@ class Bench:
 
     def __init__(self, given: argparse.Namespace) -> None:
         self.given = given
-        self.program = given.program.split()
 
-    def run(self, words: list[str], source: bytes = b"") -> Ended:
-        """A program's end, with the processor time of it and of the programs that it ran."""
-        with tempfile.TemporaryFile() as given, tempfile.TemporaryFile() as printed:
-            given.write(source)
-            given.seek(0)
-            with tempfile.TemporaryFile() as said:
-                child = subprocess.Popen(words, stdin=given, stdout=printed, stderr=said, cwd=TOP)
-                _, status, usage = os.wait4(child.pid, 0)
-                child.returncode = os.waitstatus_to_exitcode(status)
-                printed.seek(0)
-                said.seek(0)
-                seconds = usage.ru_utime + usage.ru_stime
-                errors = said.read().decode("utf-8", "replace")
-                return Ended(child.returncode, printed.read(), errors, seconds)
-
-    def measure(self, program: Program) -> Program:
-        """Checks a program, and then each of its assertions by the bridge."""
-        checked = self.run([*self.program, "check", "--workers", "1"], program.path.read_bytes())
-        program.check_seconds = checked.seconds
+    def measure(self, program: Program) -> Measured:
+        """Checks a program, and then asks for each of its assertions."""
+        measured = Measured(program)
+        checked = run([self.given.program, "check", "--workers", "1"], program.path.read_bytes())
+        measured.check_seconds = checked.seconds
         lines = [LINE.match(line) for line in checked.text().splitlines()]
         for number, line in enumerate((line for line in lines if line), 1):
-            place = int(line[1]), int(line[2])
-            program.proved += line[3] == "proved"
-            self.bridge(program, number, place)
-        return program
+            measured.proved += line[3] == "proved"
+            self.bridge(measured, number, (int(line[1]), int(line[2])))
+        return measured
 
-    def bridge(self, program: Program, number: int, place: tuple[int, int]) -> None:
+    def bridge(self, measured: Measured, number: int, place: tuple[int, int]) -> None:
         """One assertion by the bridge."""
-        truth = program.truth(number, place)
+        truth = measured.program.truth(number, place)
         if truth != "proved" and not self.given.all:
             return
         words = [sys.executable, "-m", "outside", str(number), "--seconds", str(self.given.seconds)]
         if self.given.graphs:
             words += ["--graphs", self.given.graphs]
-        found = self.run([*words, str(program.path.absolute())])
+        found = run([*words, str(measured.program.path.absolute())])
         seconds, accepted, text = found.seconds, False, found.errors
         if found.status == 0:
-            again = self.run([*self.program, "recheck"], found.output)
+            again = run([self.given.program, "recheck"], found.output)
             seconds, text = seconds + again.seconds, again.text()
             accepted = again.status == 0 and text == f"accepted {place[0]}:{place[1]}\n"
         if truth == "proved":
-            program.bridge_seconds += seconds
-        self.note(program, number, truth, accepted, text)
+            measured.bridge_seconds += seconds
+        self.note(measured, number, truth, accepted, text)
 
-    def note(self, program: Program, number: int, truth: str, accepted: bool, text: str) -> None:
+    def note(self, measured: Measured, number: int, truth: str, accepted: bool, text: str) -> None:
         """Counts what came of an assertion."""
-        program.accepted += accepted and truth == "proved"
-        if truth == "proved" and not accepted:
-            program.missing.append(number)
-            if self.given.each:
-                print(f"  {program.path}: {number}: {text.strip()[:200]}", flush=True)
+        where = f"{measured.program.path}: {number}"
+        measured.accepted += accepted and truth == "proved"
+        if self.given.each and truth == "proved" and not accepted:
+            print(f"  {where}: {text.strip()[:200]}", flush=True)
         if accepted and truth != "proved" or text.startswith("accepted") and not accepted:
-            program.wrong.append(f"{program.path}: {number}: {truth}, {text.strip()[:80]}")
+            measured.wrong.append(f"{where}: {truth}, {text.strip()[:80]}")
 
 
-def table(folder: Path, programs: list[Program]) -> None:
+def true_ones(measured: list[Measured]) -> int:
+    """How many assertions can't fail."""
+    return sum(m.program.all_truths().count("proved") for m in measured)
+
+
+def table(folder: Path, measured: list[Measured]) -> None:
     """A folder's line of the table."""
-    true_ones = sum(p.true_ones() for p in programs)
-    proved = sum(p.proved for p in programs)
-    accepted = sum(p.accepted for p in programs)
-    check = sum(p.check_seconds for p in programs)
-    bridge = sum(p.bridge_seconds for p in programs)
-    wrong = sum(len(p.wrong) for p in programs)
-    row = f"{true_ones:6} {proved:8} {accepted:10} {check:10.1f} {bridge:10.1f} {wrong:7}"
+    proved, accepted = sum(m.proved for m in measured), sum(m.accepted for m in measured)
+    check = sum(m.check_seconds for m in measured)
+    bridge = sum(m.bridge_seconds for m in measured)
+    wrong = sum(len(m.wrong) for m in measured)
+    row = f"{true_ones(measured):6} {proved:8} {accepted:10} {check:10.1f} {bridge:10.1f} {wrong:7}"
     print(f"{folder.name:12} {row}", flush=True)
 
 
@@ -174,18 +114,18 @@ def main() -> int:
     bench = Bench(given)
     head = f"{'true':>6} {'check':>8} {'accepted':>10} {'check s':>10} {'bridge s':>10} {'wrong':>7}"
     print(f"{'set':12} {head}")
-    everything: list[Program] = []
+    everything: list[Measured] = []
     for folder in given.folders:
         programs = [p for p in labelled(folder) if given.only in str(p.path)]
         with ThreadPoolExecutor(given.jobs) as pool:
             measured = list(pool.map(bench.measure, programs))
         table(folder, measured)
         everything += measured
-    wrong = [text for program in everything for text in program.wrong]
+    wrong = [text for measured in everything for text in measured.wrong]
     for text in wrong:
         print(f"wrong: {text}")
-    accepted = sum(p.accepted for p in everything)
-    print(f"{accepted} accepted of {sum(p.true_ones() for p in everything)}, {len(wrong)} wrong")
+    accepted = sum(m.accepted for m in everything)
+    print(f"{accepted} accepted of {true_ones(everything)}, {len(wrong)} wrong")
     return 1 if wrong else 0
 
 
