@@ -79,11 +79,11 @@ def without(atoms: Sequence[Atom], columns: Sequence[int]) -> list[Atom]:
     """What the atoms say of the other columns."""
     rows = list(atoms)
     for column in columns:
-        rows = replaced(rows, column) or after_column(rows, column)
+        rows = with_equality(rows, column) or after_column(rows, column)
     return [row for row in rows if row.parts]
 
 
-def replaced(rows: Sequence[Atom], column: int) -> list[Atom] | None:
+def with_equality(rows: Sequence[Atom], column: int) -> list[Atom] | None:
     """The rows with an equality in the column's place, if they have one with the coefficient 1."""
     for row in rows:
         if row.coefficient(column) == 1:

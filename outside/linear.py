@@ -101,6 +101,14 @@ def substituted(term: Term, by: Callable[[int], Term | None]) -> Term:
     return term_of(sums, constant)
 
 
+def replaced(term: Term, by: Mapping[int, Term]) -> Term:
+    """Terms in the places of the columns that are listed, all at once."""
+    for column, _ in term.parts:
+        if column in by:
+            return substituted(term, by.get)
+    return term
+
+
 def renamed(term: Term, by: Mapping[int, int]) -> Term:
     """Columns by their new numbers, all at once; the others stay."""
     if not any(column in by for column, _ in term.parts):

@@ -16,7 +16,7 @@ from outside.linear import (
     column_term,
     constant_term,
     equality,
-    substituted,
+    replaced,
 )
 from outside.preimage import entry_term, range_of
 from outside.solver import SolverLimit, solve
@@ -34,7 +34,7 @@ class State:
 
     def read(self, atoms: Sequence[Atom]) -> list[Atom]:
         """The atoms with the terms in the places of slots."""
-        return [substituted(atom, self.terms.get) for atom in atoms]
+        return [replaced(atom, self.terms) for atom in atoms]
 
     def copy(self) -> "State":
         """A state of its own."""

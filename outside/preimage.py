@@ -22,6 +22,7 @@ from outside.linear import (
     measured,
     range_rows,
     renamed,
+    replaced,
     shown,
     substituted,
     tightened,
@@ -111,7 +112,7 @@ def preimage(edge: Edge, target: Sequence[Atom]) -> list[Atom]:
         case Assign():
             value = edge.value()
             measured([value])
-            rows = [substituted(a, lambda x: value if x == edge.slot else None) for a in target]
+            rows = [replaced(atom, {edge.slot: value}) for atom in target]
             return list(measured([*rows, *range_of(value)]))
         case Guard() | Assert():
             return [*target, *edge.rows]

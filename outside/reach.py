@@ -20,7 +20,7 @@ from outside.linear import (
     Clause,
     Term,
     column_term,
-    substituted,
+    replaced,
 )
 from outside.paths import Runs, State
 from outside.preimage import entry_term, range_of
@@ -45,8 +45,8 @@ class _Before:
 
     def replaced(self, by: dict[int, Term], rows: Sequence[Atom] = (), symbols: int = 0) -> "_Before":
         """The rows with terms in the places of columns, and further rows."""
-        read = tuple(substituted(row, by.get) for row in self.rows)
-        clauses = tuple(tuple(substituted(a, by.get) for a in c) for c in self.clauses)
+        read = tuple(replaced(row, by) for row in self.rows)
+        clauses = tuple(tuple(replaced(a, by) for a in c) for c in self.clauses)
         return _Before((*read, *rows), clauses, self.symbols + symbols)
 
 
@@ -78,11 +78,14 @@ class Reach:
                 self.paths += 1
                 if self.paths > MAX_PATHS:
                     raise Reached
-                ends = edge.source is None or edge.source in self.hard
-                if not self.is_refuted(edge.source, before, ends):
-                    if ends or edge.source is None:
-                        raise Reached
-                    self.follow(edge.source, before)
+                source = edge.source
+                ends = source is None or source in self.hard
+                forks = ends or len(self.into.get(source, ())) > 1
+                if forks and self.is_refuted(source, before, ends):
+                    continue
+                if ends or source is None:
+                    raise Reached
+                self.follow(source, before)
 
     def is_refuted(self, node: int | None, before: _Before, ends: bool) -> bool:
         """Whether the rows are refuted, at the end with the invariant; notes the atoms used."""
@@ -107,13 +110,14 @@ class Reach:
                 by = entry_term(edge.params)
                 yield here.replaced({x: by(x) or column_term(x) for x in range(self.graph.slots)})
             case Assign():
-                yield here.replaced({edge.slot: edge.value()}, range_of(edge.value()))
+                ranges = range_of(edge.value()) if self.prover.with_ranges else ()
+                yield here.replaced({edge.slot: edge.value()}, ranges)
             case Guard() | Assert():
                 yield here.replaced({}, edge.rows)
             case Input():
                 yield here.replaced({edge.slot: symbol}, (), 1)
             case Pick():
-                rows = [substituted(r, {edge.slot: symbol}.get) for r in edge.rows]
+                rows = [replaced(r, {edge.slot: symbol}) for r in edge.rows]
                 yield here.replaced({edge.slot: symbol}, rows, 1)
             case Return():
                 exits = {FIRST_EXIT + i: column_term(x) for i, x in enumerate(edge.slots)}
@@ -136,5 +140,5 @@ class Reach:
         before = here.replaced(dict(zip(call.results, values, strict=True)), (), len(values))
         names = {FIRST_ENTRY + i: term for i, term in enumerate(arguments)}
         names |= {FIRST_EXIT + i: term for i, term in enumerate(values)}
-        known = tuple(tuple(substituted(a, names.get) for a in c) for c in clauses)
+        known = tuple(tuple(replaced(a, names) for a in c) for c in clauses)
         yield _Before(before.rows, (*before.clauses, *known), before.symbols)
