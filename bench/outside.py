@@ -1,7 +1,8 @@
 #!/usr/bin/env python3
 """What z3's proofs add: labelled programs by `smash check`, and by the bridge with `smash recheck`.
 
-usage: bench/outside.py [--program PATH] [--graphs PATH] [--seconds N] [--jobs N] [--only TEXT] [--each] [--all] FOLDER..
+usage: bench/outside.py [--program PATH] [--graphs PATH] [--seconds N] [--jobs N] [--only TEXT]
+                        [--each] [--all] FOLDER..
 
 Each FOLDER has a `truth.tsv`; bench/labelled.py says of what forms. For each folder: the assertions
 that are true, those that `check --workers 1` proves, those for which `recheck` accepts a bundle, the

@@ -65,19 +65,19 @@ OTHER_INTERPOLANTS = (*WITHOUT_EQUALITIES, "fp.spacer.iuc=0")
 
 def turns(ranges: bool, picks: bool) -> list[Turn]:
     """The ways in the order in which they are tried, over all integers or with ranges."""
-    joins, heads = Style(ranges, 1), Style(ranges, 0)
+    joins, heads, picked = Style(ranges, 1), Style(ranges, 0), Style(ranges, 2)
     inlined = Style(ranges, 0, inlined=True)
     found: list[Turn] = [
-        (Spacer(joins, WITHOUT_EQUALITIES), 0.15),
+        (Spacer(joins, WITHOUT_EQUALITIES), 0.12),
         (Spacer(heads, WITHOUT_EQUALITIES), 0.1),
-        (Guesses(inlined, False), 0.2),
-        (Spacer(joins, OTHER_INTERPOLANTS), 0.1),
+        (Spacer(picked, WITHOUT_EQUALITIES), 0.1),
+        (Guesses(inlined, False), 0.25),
+        (Spacer(joins, OTHER_INTERPOLANTS), 0.05),
+        (Guesses(inlined, True), 0.3),
+        (Spacer(joins, WITHOUT_INLINING), 0.1),
+        (Spacer(heads, WITHOUT_EQUALITIES), 1.0),
     ]
-    if picks:
-        found.insert(2, (Spacer(Style(ranges, 2), WITHOUT_EQUALITIES), 0.1))
-    found += [(Guesses(inlined, True), 0.25), (Spacer(joins, WITHOUT_INLINING), 0.1)]
-    found += [(Spacer(joins, ()), 0.1), (Spacer(heads, WITHOUT_EQUALITIES), 1.0)]
-    return found
+    return [turn for turn in found if picks or turn[0].style != picked]
 
 
 class Search:

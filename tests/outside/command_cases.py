@@ -23,8 +23,27 @@ FAKES = {
     "10 MB": "echo sat; echo '('; yes '(define-fun n0_10 ((x!0 Int)) Bool (<= x!0 1))' | head -c 10000000; echo ')'",
     "4 MB": "echo sat; echo '('; yes '(define-fun n0_10 ((x!0 Int)) Bool (<= x!0 1))' | head -c 3900000; echo ')'",
     "deep": "echo sat; head -c 50000 /dev/zero | tr '\\0' '('",
-    "all true": "echo sat; echo '((define-fun n0_10 ((a Int) (b Int) (c Int)) Bool true) (define-fun f0 () Bool false))'",
+    "all true": "echo sat; echo '((define-fun n0_10 ((a Int) (b Int) (c Int)) Bool true))'",
     "unknown": "echo unknown; echo '(error \"no model\")'",
+}
+# What smash-prove prints of files, with its status.
+PROVED: dict[str, tuple] = {
+    "examples/count.c": (
+        0,
+        "examples/count.c:11:3: proved (by z3, accepted)",
+        "summary: 0 proved, 1 by z3, 0 found, 0 unknown",
+    ),
+    "examples/wrong.c": (
+        1,
+        "examples/wrong.c:5:3: proved",
+        "examples/wrong.c:7:3: found []",
+        "summary: 1 proved, 0 by z3, 1 found, 0 unknown",
+    ),
+    "README.md": (
+        3,
+        "README.md:1:1: refused bad byte",
+        "summary: 0 proved, 0 by z3, 0 found, 0 unknown, 1 refused",
+    ),
 }
 VERSION = 'case "$1" in --version) echo "Z3 version 9.9.9 - 64 bit"; exit 0;; esac'
 
@@ -169,9 +188,8 @@ def cases(setting: Setting) -> Iterator[Case]:
         (["1", "--graphs", "/bin/cat", count], 2, "prints no graphs"),
     ):
         yield Case(f"words {words}", bridge_words, (words, status, text), needs_z3=False)
-    yield Case("prove count", prove, (["examples/count.c"], 0, "examples/count.c:11:3: proved (by z3, accepted)\nsummary: 0 proved, 1 by z3, 0 found, 0 unknown\n"))
-    yield Case("prove wrong", prove, (["examples/wrong.c"], 1, "examples/wrong.c:5:3: proved\nexamples/wrong.c:7:3: found []\nsummary: 1 proved, 0 by z3, 1 found, 0 unknown\n"), needs_z3=False)
-    yield Case("prove refused", prove, (["README.md"], 3, "README.md:1:1: refused bad byte\nsummary: 0 proved, 0 by z3, 0 found, 0 unknown, 1 refused\n"), needs_z3=False)
+    for name, (status, *lines) in PROVED.items():
+        yield Case(f"prove {name}", prove, ([name], status, "".join(f"{line}\n" for line in lines)))
     yield Case("prove words", prove, (["--jobs", "0", "x"], 4, ""), needs_z3=False)
     yield Case("prove another place", other_place)
     for kind in (signal.SIGINT, signal.SIGTERM, signal.SIGHUP):
