@@ -1,7 +1,7 @@
 """The seconds that a search has worked: its processor time, and that of the program that it runs.
 
 So what is found within a limit doesn't hang on what else the machine does. While nothing works, as
-when a program hangs, the clock goes at a tenth of its speed.
+when a program hangs, the clock goes at a 25th of its speed.
 """
 
 import os
@@ -9,7 +9,7 @@ import resource
 import time
 from pathlib import Path
 
-WAITING = 10.0
+WAITING = 25.0
 
 _begun = time.monotonic()
 _TICKS = os.sysconf("SC_CLK_TCK")

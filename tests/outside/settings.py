@@ -76,7 +76,7 @@ class Setting:
         return subprocess.run(
             [*words, "--graphs", self.graphs, str(path)],
             capture_output=True,
-            timeout=seconds + 60,
+            timeout=25 * seconds + 100,
             env={**os.environ, "PATH": path_words, "PYTHONPATH": str(TOP)},
         )
 
