@@ -32,6 +32,7 @@ class Words(argparse.ArgumentParser):
     """Words that are no command end with status 4."""
 
     def error(self, message: str) -> NoReturn:
+        """Says what is wrong with the words."""
         self.print_usage(sys.stderr)
         self.exit(4, f"{self.prog}: {message}\n")
 

@@ -150,6 +150,7 @@ class Houdini:
         cache: dict[tuple, int] = {}
 
         def is_met(clause: Clause) -> bool:
+            """Whether a literal of the clause holds."""
             for atom in clause:
                 if atom.parts not in cache:
                     cache[atom.parts] = value_of(atom, point) - atom.constant

@@ -141,6 +141,7 @@ class Reader:
         self.steps = 0
 
     def step(self) -> None:
+        """Counts one step of the work."""
         self.steps += 1
         if self.steps > MAX_STEPS:
             raise Unreadable("too large")
@@ -187,6 +188,7 @@ class Reader:
         raise Unreadable(f"the operator {expression_text(operator)[:40]}")
 
     def named_term(self, name: str, scope: Scope) -> Rational:
+        """A numeral, an argument, or what a name is bound to."""
         number = _numeral(name)
         if number is not None:
             return Rational({}, number)
@@ -245,6 +247,7 @@ class Reader:
         raise Unreadable(f"the operator {operator[:40]}")
 
     def named_formula(self, name: str, scope: Scope, holds: bool) -> Clauses:
+        """A constant, or what a name is bound to."""
         if name in ("true", "false"):
             return TRUE if (name == "true") == holds else FALSE
         home = scope.home(name)
@@ -282,6 +285,7 @@ class Reader:
     def comparison(
         self, operator: str, items: list[Expression], scope: Scope, holds: bool
     ) -> Clauses:
+        """A comparison of two numbers, or an equality of two formulas."""
         left, right = items
         if operator == "=" and self.is_formula(left, scope):
             return self.choice(left, (right, holds), (right, not holds), scope)

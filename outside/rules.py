@@ -149,6 +149,7 @@ class Maker:
         symbols: dict[int, Term] = {}
 
         def by(column: int) -> Term:
+            """What stands in the place of a column."""
             if column < FIRST_EXIT:
                 return entries[column - FIRST_ENTRY]
             if column not in symbols:
@@ -217,6 +218,7 @@ class Throughs:
         self.end(path, values)
 
     def end(self, path: Path, exits: tuple[Term, ...] | None) -> None:
+        """Keeps a path that is possible."""
         if path.is_possible():
             if len(self.found) >= MAX_RULES:
                 raise GaveUp("too many paths through a procedure")

@@ -11,6 +11,8 @@ from pathlib import Path
 
 from settings import TOP, Case, Setting
 
+DEFINITION = "(define-fun n0_10 ((x!0 Int)) Bool (<= x!0 1))"
+
 # What stands in place of z3, with what standard error must name.
 FAKES = {
     "nonsense": "echo '(((let us see'; echo 'sat)'; exit 0",
@@ -20,8 +22,8 @@ FAKES = {
     "dies": "kill -9 $$",
     "hangs": "trap '' TERM; sleep 1000 & sleep 1000",
     "prints for ever": "yes '(sat)'",
-    "10 MB": "echo sat; echo '('; yes '(define-fun n0_10 ((x!0 Int)) Bool (<= x!0 1))' | head -c 10000000; echo ')'",
-    "4 MB": "echo sat; echo '('; yes '(define-fun n0_10 ((x!0 Int)) Bool (<= x!0 1))' | head -c 3900000; echo ')'",
+    "10 MB": f"echo sat; echo '('; yes '{DEFINITION}' | head -c 10000000; echo ')'",
+    "4 MB": f"echo sat; echo '('; yes '{DEFINITION}' | head -c 3900000; echo ')'",
     "deep": "echo sat; head -c 50000 /dev/zero | tr '\\0' '('",
     "all true": "echo sat; echo '((define-fun n0_10 ((a Int) (b Int) (c Int)) Bool true))'",
     "unknown": "echo unknown; echo '(error \"no model\")'",

@@ -7,7 +7,7 @@ them may be rejected; it is never accepted where the assertion fails.
 
 import random
 import re
-from collections.abc import Iterator
+from collections.abc import Callable, Iterator
 from pathlib import Path
 
 from settings import Case, Label, Setting, labels, refused_claim
@@ -28,30 +28,25 @@ PROVE_SECONDS = 0.5
 WORDS = ("and", "or", "not", "<=", ">=", "<", ">", "=", "+", "-", "*", "true", "false", "let", "ite")
 
 
+# What is changed in a model, and what comes in its place.
+CHANGES: list[tuple[str, Callable[[random.Random, str], str]]] = [
+    (r"\b\d+\b", lambda chance, old: str(int(old) + chance.choice((-1, 1, 7)))),
+    (r"(?<=\()(?:and|or|not|<=|>=|[-+*=])", lambda chance, _: chance.choice(WORDS)),
+    (r"\bx!\d+\b", lambda chance, _: f"x!{chance.randrange(6)}"),
+    (r"[()]", lambda chance, _: chance.choice(("", "(", ")"))),
+    (r"(?<=Bool\n)[^()]*\([^()]*\)", lambda chance, _: chance.choice(("true", "false"))),
+]
+
+
 def changed_model(text: str, chance: random.Random) -> str:
     """A model with one to four changes of numbers, words, brackets or definitions."""
     for _ in range(chance.randint(1, 4)):
-        kind = chance.randrange(5)
-        if kind == 0:
-            text = at_random(r"\b\d+\b", text, chance, lambda n: str(int(n) + chance.choice((-1, 1, 7))))
-        elif kind == 1:
-            text = at_random(r"(?<=\()(?:and|or|not|<=|>=|[-+*=])", text, chance, lambda _: chance.choice(WORDS))
-        elif kind == 2:
-            text = at_random(r"\bx!\d+\b", text, chance, lambda _: f"x!{chance.randrange(6)}")
-        elif kind == 3:
-            text = at_random(r"[()]", text, chance, lambda _: chance.choice(("", "(", ")")))
-        else:
-            text = at_random(r"(?<=Bool\n)[^()]*\([^()]*\)", text, chance, lambda _: chance.choice(("true", "false")))
+        pattern, new = chance.choice(CHANGES)
+        places = list(re.finditer(pattern, text))
+        if places:
+            place = chance.choice(places)
+            text = text[: place.start()] + new(chance, place[0]) + text[place.end() :]
     return text
-
-
-def at_random(pattern: str, text: str, chance: random.Random, new: object) -> str:
-    """A text with one place of a pattern changed."""
-    places = list(re.finditer(pattern, text))
-    if not places:
-        return text
-    place = chance.choice(places)
-    return text[: place.start()] + new(place[0]) + text[place.end() :]  # type: ignore[operator]
 
 
 def forged_bundle(setting: Setting, plan: Plan, text: str, target: Label) -> bytes | None:

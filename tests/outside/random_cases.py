@@ -25,9 +25,8 @@ class Program:
         """An expression."""
         name, number = self.pick(*NAMES), str(self.chance.randint(-5, 9))
         other = self.pick(*NAMES)
-        return self.pick(
-            name, number, f"{name} + {number}", f"{name} - {other}", f"2 * {name}", f"{name} / 3", f"{name} % 2"
-        )
+        sums = (f"{name} + {number}", f"{name} - {other}", f"2 * {name}")
+        return self.pick(name, number, *sums, f"{name} / 3", f"{name} % 2")
 
     def test(self) -> str:
         """A comparison, or two."""
@@ -37,7 +36,8 @@ class Program:
     def statement(self, depth: int) -> str:
         """A statement."""
         if depth and self.chance.random() < 0.3:
-            return f"if ({self.test()}) {{ {self.statement(depth - 1)} }} else {{ {self.statement(depth - 1)} }}"
+            met, unmet = self.statement(depth - 1), self.statement(depth - 1)
+            return f"if ({self.test()}) {{ {met} }} else {{ {unmet} }}"
         name = self.pick("a", "b", "g")
         return self.pick(f"{name} = {self.value()};", f"{name}++;", f"{name} = {name} - 1;", "g = f(a, b);")
 
