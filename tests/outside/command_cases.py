@@ -151,6 +151,32 @@ def other_place(setting: Setting) -> list[str]:
     return faults
 
 
+def no_report(setting: Setting) -> list[str]:
+    """A check that prints no whole report settles nothing."""
+    faults = []
+    summary = "summary: 1 proved, 0 found, 0 unknown"
+    for text, status in (
+        ("", 0),
+        ("", 1),
+        ("11:3: proved", 0),
+        (summary, 0),
+        (f"11:3: proved\n{summary}", 1),
+        (f"11:3: proven\n{summary}", 0),
+        (f"11:3: proved\n11:4: proved\n{summary}", 0),
+        ("", 3),
+        ("", 7),
+    ):
+        with tempfile.TemporaryDirectory() as folder:
+            program = Path(folder) / "program"
+            program.write_text(f"#!/bin/sh\nprintf '%s\\n' '{text}'; exit {status}\n")
+            program.chmod(0o755)
+            words = [*prove_words(setting), "--program", str(program), "examples/count.c"]
+            done = subprocess.run(words, capture_output=True, text=True, cwd=TOP)
+        if done.returncode != 3 or ": proved" in done.stdout:
+            faults.append(f"{text!r} with {status}: status {done.returncode}, {done.stdout}")
+    return faults
+
+
 def stopped(setting: Setting, kind: signal.Signals) -> list[str]:
     """A stopped command leaves no process."""
     with tempfile.TemporaryDirectory() as folder:
@@ -192,5 +218,6 @@ def cases(setting: Setting) -> Iterator[Case]:
         yield Case(f"prove {name}", prove, ([name], status, "".join(f"{line}\n" for line in lines)))
     yield Case("prove words", prove, (["--jobs", "0", "x"], 4, ""), needs_z3=False)
     yield Case("prove another place", other_place)
+    yield Case("prove no report", no_report, needs_z3=False)
     for kind in (signal.SIGINT, signal.SIGTERM, signal.SIGHUP):
         yield Case(f"prove stopped {kind.name}", stopped, (kind,), needs_z3=False)
