@@ -181,17 +181,6 @@ class CallEdges:
                     rows.append(min(met, key=lambda a: sum(x >= FIRST_EXIT for x in a.columns())))
         return without(rows[known:], [x for x in columns_of(rows[known:]) if x >= FIRST_EXIT])
 
-    def behind(self, work: Work, edge: RegionEdge, point: Point) -> tuple[int, Point] | None:
-        """The state into which a call leads at the point, and its node, if that has an invariant."""
-        call = work.graph.edges[edge.edge]
-        assert isinstance(call, Call)
-        if work.is_soft(edge.target):
-            return None
-        values = {FIRST_EXIT + i: slot for i, slot in enumerate(call.results)}
-        state = {x: value for x, value in point.items() if x < FIRST_EXIT}
-        state.update((slot, point[x]) for x, slot in values.items() if x in point)
-        return work.node(edge.target), state
-
     def run_at(self, site: _Site, point: Point) -> list[Atom]:
         """The rows of a run of the callee from the point's source into the target."""
         arguments = [column_term(slot) for slot in site.call.arguments]

@@ -26,13 +26,7 @@ MAX_MOVES = 200_000
 
 
 class NotInductive(GaveUp):
-    """A step leads from a state that an invariant allows to this one, which none allows."""
-
-    def __init__(self, procedure: int, node: int, state: Point) -> None:
-        super().__init__(f"the invariants aren't kept at node {node} of procedure {procedure}")
-        self.procedure = procedure
-        self.node = node
-        self.state = state
+    """The invariants don't tell why a step isn't possible."""
 
 
 class Prover:
@@ -77,9 +71,9 @@ class Prover:
         if not returns and procedure not in self.failing:
             return [()]
         known = self.invariants.summary if returns else self.invariants.failure
-        if procedure in known:
-            return known[procedure]
-        return None if procedure in self.straight else []
+        if procedure in self.straight and not known.get(procedure):
+            return None
+        return known.get(procedure, [])
 
     def prove(self) -> Bundle:
         """The bundle with all claims."""
@@ -154,22 +148,12 @@ class Prover:
         if violated is not None:
             work.spoil(edge.source, [negated(atom) for atom in violated])
         elif not work.is_soft(edge.source):
-            self.spoil_nothing(work, edge, point)
+            if isinstance(graph_edge, Call) or not self.cuts.refine(edge, point):
+                raise NotInductive(f"the invariants aren't kept from node {node}")
         elif isinstance(graph_edge, Call):
             work.spoil(edge.source, self.general(work, edge, self.calls.before(work, edge, point)))
         elif not (isinstance(graph_edge, Pick) and self.cuts.refine_step(edge)):
             self.spoil_before(work, edge)
-
-    def spoil_nothing(self, work: Work, edge: RegionEdge, point: Point) -> None:
-        """Splits a region by a cut where the invariant says that the point's state may be met."""
-        node = work.node(edge.source)
-        is_call = isinstance(work.graph.edges[edge.edge], Call)
-        whole = self.invariants.completed(work.query.procedure, node, point)
-        behind = self.calls.behind(work, edge, whole) if is_call else self.cuts.behind(edge, whole)
-        if behind is not None:
-            raise NotInductive(work.query.procedure, *behind)
-        if is_call or not self.cuts.refine(edge, point):
-            raise NotInductive(work.query.procedure, node, point)
 
     def spoil_before(self, work: Work, edge: RegionEdge) -> None:
         """Makes the preimage bad at a node without an invariant."""

@@ -20,15 +20,11 @@ from outside.linear import (
     Atom,
     Point,
     Term,
-    column_term,
     columns_of,
     combination,
-    constant_term,
-    equality,
     negated,
     substituted,
     term_of,
-    value_of,
 )
 from outside.partition import RegionEdge
 from outside.paths import State, stepped
@@ -138,26 +134,6 @@ class Cuts:
         self.steps = 0
         found = self.paths(_Path([], [State(rows=start)]), edge, point)
         return self.count <= MAX_CUTS and any(self.cut(path) for path in found)
-
-    def behind(self, edge: RegionEdge, point: Point) -> tuple[int, Point] | None:
-        """A state with an invariant to which a run goes from the point, and its node."""
-        here = [
-            row
-            for column, value in point.items()
-            for row in equality(column_term(column), constant_term(value))
-        ]
-        self.steps = 0
-        for path in self.paths(_Path([], [State(rows=here)]), edge, point):
-            try:
-                found = solve(path.rows())
-            except SolverLimit:
-                continue
-            if isinstance(found, dict):
-                terms = path.states[-1].terms
-                state = {x: found.get(x, 0) for x in point}
-                state.update((slot, value_of(term, found)) for slot, term in terms.items())
-                return self.work.node(path.edges[-1].target), state
-        return None
 
     def refine_step(self, edge: RegionEdge) -> bool:
         """The same of the edge alone."""

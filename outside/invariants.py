@@ -37,8 +37,8 @@ class Invariants:
     failure: dict[int, list[Clause]] = field(default_factory=dict)
 
     def nodes(self, procedure: int) -> set[int]:
-        """The nodes of a procedure that have an invariant."""
-        return {node for owner, node in self.node if owner == procedure}
+        """The nodes of a procedure about which something is known."""
+        return {node for (owner, node), known in self.node.items() if owner == procedure and known}
 
     def violated(self, procedure: int, node: int, point: Point) -> Clause | None:
         """A clause of the node that doesn't hold at the point, if there is one."""
@@ -51,7 +51,3 @@ class Invariants:
         for clause in self.node.get((procedure, node), []):
             atoms += [atom for atom in clause if holds(atom, point)][:1]
         return atoms
-
-    def completed(self, _procedure: int, _node: int, point: Point) -> Point:
-        """The point with values for the columns that it doesn't name."""
-        return point
