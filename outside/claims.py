@@ -89,7 +89,7 @@ class Prover:
         graph = self.graphs.graphs[query.procedure]
         hard = self.invariants.nodes(query.procedure) | {graph.exit, graph.fail}
         work = Work(graph, query, lambda node: node not in hard)
-        self.cuts = Cuts(work, self.invariants)
+        self.cuts = Cuts(work, self.invariants, self.deadline)
         self.reach = Reach(self, query.procedure, query.start)
         if not self.closed_at_entry(work):
             self.close_all(work)

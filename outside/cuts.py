@@ -8,8 +8,10 @@ the picked value is split by it, and what was made bad by the larger preimage is
 
 from collections.abc import Iterator, Sequence
 from dataclasses import dataclass
+from fractions import Fraction
 
 from outside.certificates import Branch, Certificate, at_least, at_most, base_rows
+from outside.clock import now
 from outside.graphs import Call
 from outside.invariants import Invariants
 from outside.linear import (
@@ -18,10 +20,12 @@ from outside.linear import (
     FIRST_EXIT,
     FIRST_SYMBOL,
     Atom,
+    Parts,
     Point,
     Term,
     columns_of,
     combination,
+    divisor_of,
     negated,
     substituted,
     term_of,
@@ -33,6 +37,7 @@ from outside.work import Work
 
 MAX_CUTS = 3000
 MAX_STEPS = 400
+MAX_SHADOW = 200
 
 
 @dataclass
@@ -48,17 +53,13 @@ class _Path:
 
 
 def _may_hold(rows: Sequence[Atom], point: Point) -> bool:
-    """Whether rationals for the symbols meet the rows at the point."""
+    """Whether rationals for the symbols meet the rows at the point; too many rows may."""
     left = []
     for row in rows:
-        constant = row.constant
-        parts = {}
-        for x, a in row.parts:
-            if FIRST_SYMBOL <= x < FIRST_ASKED:
-                parts[x] = a
-            else:
-                constant += a * point.get(x, 0)
-        left.append(term_of(parts, constant))
+        parts = {x: a for x, a in row.parts if FIRST_SYMBOL <= x < FIRST_ASKED}
+        rest = sum(a * point.get(x, 0) for x, a in row.parts if x not in parts)
+        left.append(term_of(parts, row.constant + rest))
+    left = _strongest(left)
     for symbol in columns_of(left):
         upper = [row for row in left if row.coefficient(symbol) > 0]
         lower = [row for row in left if row.coefficient(symbol) < 0]
@@ -67,8 +68,22 @@ def _may_hold(rows: Sequence[Atom], point: Point) -> bool:
             for low in lower:
                 times = (-low.coefficient(symbol), high), (high.coefficient(symbol), low)
                 kept.append(combination(times))
-        left = list(dict.fromkeys(kept))
+        left = _strongest(kept)
+        if len(left) > MAX_SHADOW:
+            return True
     return all(row.constant <= 0 for row in left)
+
+
+def _strongest(rows: Sequence[Atom]) -> list[Atom]:
+    """Of rows with the same multiples of columns the strongest, over the rationals."""
+    kept: dict[Parts, tuple[Fraction, Atom]] = {}
+    for row in rows:
+        divisor = divisor_of(row) or 1
+        parts = tuple((x, a // divisor) for x, a in row.parts)
+        constant = Fraction(row.constant, divisor)
+        if parts not in kept or kept[parts][0] < constant:
+            kept[parts] = (constant, row)
+    return [row for _, row in kept.values()]
 
 
 def cuts_of(atoms: Sequence[Atom], certificate: Certificate) -> Iterator[Atom]:
@@ -119,9 +134,10 @@ def _at_region(atom: Atom, terms: dict[int, Term], from_outside: bool) -> Atom |
 class Cuts:
     """The cuts of one claim."""
 
-    def __init__(self, work: Work, invariants: Invariants) -> None:
+    def __init__(self, work: Work, invariants: Invariants, deadline: float) -> None:
         self.work = work
         self.invariants = invariants
+        self.deadline = deadline
         self.count = 0
         self.steps = 0
 
@@ -152,7 +168,8 @@ class Cuts:
         """The paths over this edge to an end that the point may take."""
         work = self.work
         self.steps += 1
-        if isinstance(work.graph.edges[edge.edge], Call) or self.steps > MAX_STEPS:
+        too_long = self.steps > MAX_STEPS or now() > self.deadline
+        if too_long or isinstance(work.graph.edges[edge.edge], Call):
             return
         longer = self.stepped(path, edge)
         if not _may_hold(longer.rows(), point):

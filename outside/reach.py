@@ -10,6 +10,7 @@ from dataclasses import dataclass
 from typing import TYPE_CHECKING
 
 from outside.cases import Cases, TooManyCases
+from outside.clock import now
 from outside.graphs import Assert, Assign, Call, Edge, Entry, Graph, Guard, Input, Pick, Return
 from outside.invariants import GaveUp
 from outside.linear import (
@@ -76,7 +77,7 @@ class Reach:
         for edge in self.into.get(node, ()):
             for before in self.steps(edge, here):
                 self.paths += 1
-                if self.paths > MAX_PATHS:
+                if self.paths > MAX_PATHS or now() > self.prover.deadline:
                     raise Reached
                 source = edge.source
                 ends = source is None or source in self.hard

@@ -33,6 +33,7 @@ from outside.linear import (
 
 MAX_BRANCHES = 300
 MAX_ROWS = 1500
+MAX_SUMS = 40_000
 FIRST_ROWS = 24
 
 
@@ -167,8 +168,8 @@ def _cheapest(rows: _Rows) -> int:
     return min(upper.keys() | lower.keys(), key=cost)
 
 
-def _eliminate(rows: _Rows, column: int) -> tuple[_Rows, list[_Row]]:
-    """The rows without the column, and those that named it."""
+def _eliminate(rows: _Rows, column: int) -> tuple[_Rows, list[_Row], int]:
+    """The rows without the column, those that named it, and how many sums were made."""
     left = _Rows()
     upper: list[tuple[_Row, int]] = []
     lower: list[tuple[_Row, int]] = []
@@ -184,7 +185,8 @@ def _eliminate(rows: _Rows, column: int) -> tuple[_Rows, list[_Row]]:
             left.add(_sum(high, b // divisor, low, a // divisor))
         if len(left.by_parts) > MAX_ROWS:
             raise SolverLimit("too many rows")
-    return left, [row for row, _ in upper] + [row for row, _ in lower]
+    named = [row for row, _ in upper] + [row for row, _ in lower]
+    return left, named, len(upper) * len(lower)
 
 
 def _bounds(rows: list[_Row], column: int, point: dict[int, int]) -> tuple[int | None, ...]:
@@ -227,6 +229,7 @@ class _Search:
         self.atoms = atoms
         self.base = base_rows(atoms)
         self.branches = 0
+        self.sums = 0
         count = len(atoms)
         self.taken = list(range(max(0, count - FIRST_ROWS), count))
 
@@ -263,7 +266,10 @@ class _Search:
             equality = rows.equality()
             column = _cheapest(rows) if equality is None else equality[2]
             if equality is None:
-                rows, named = _eliminate(rows, column)
+                rows, named, sums = _eliminate(rows, column)
+                self.sums += sums
+                if self.sums > MAX_SUMS:
+                    raise SolverLimit("too many sums")
             else:
                 rows, named = _replace(rows, *equality)
             eliminated.append((column, named))
