@@ -19,9 +19,8 @@ from outside.horn import (
     joined_text,
     term_text,
 )
-from outside.invariants import GaveUp, Invariants
+from outside.invariants import GaveUp
 from outside.linear import Clause, substituted, value_of
-from outside.model import invariants_of
 from outside.plan import Plan, Predicate
 from outside.processes import TimeOver
 from outside.rules import Application, Rule, rules_of
@@ -267,9 +266,9 @@ class Houdini:
         return [*lines, "(check-sat)", "(get-unsat-core)", "(pop)"], named
 
 
-def houdini_invariants(plan: Plan, wide: bool, deadline: float) -> Invariants:
-    """Invariants with which no run fails at the assertion, or a `GaveUp`."""
+def kept_candidates(plan: Plan, wide: bool, deadline: float) -> Kept:
+    """Clauses of a plan's predicates with which no run fails at the assertion, or a `GaveUp`."""
     houdini = Houdini(plan, deadline)
     houdini.begin(wide)
     houdini.filter()
-    return invariants_of(plan, houdini.cores())
+    return houdini.cores()

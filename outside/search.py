@@ -1,15 +1,16 @@
 """The search for a bundle: ways to invariants, one after another, until a proof is made."""
 
 from collections.abc import Callable, Iterator
-from dataclasses import dataclass
+from dataclasses import dataclass, replace
 
 from outside.bundle import Bundle
 from outside.claims import prove
 from outside.clock import now
 from outside.graphs import Graphs, Pick
-from outside.houdini import houdini_invariants
+from outside.houdini import kept_candidates
 from outside.invariants import GaveUp, Invariants
 from outside.linear import TooWide
+from outside.model import invariants_of
 from outside.plan import Plan, Style, make_plan
 from outside.solving import SolverFault, solver_path
 from outside.spacer import (
@@ -17,10 +18,12 @@ from outside.spacer import (
     WITHOUT_INLINING,
     Reached,
     Stalled,
+    filled_invariants,
     spacer_invariants,
 )
 
 Note = Callable[[str], None]
+PlanOf = Callable[[Style], Plan]
 
 
 @dataclass(frozen=True)
@@ -30,9 +33,9 @@ class Spacer:
     style: Style
     options: tuple[str, ...]
 
-    def invariants(self, plan: Plan, deadline: float) -> Invariants:
+    def invariants(self, plan: PlanOf, deadline: float) -> Invariants:
         """What Spacer finds."""
-        return spacer_invariants(plan, self.options, deadline)
+        return spacer_invariants(plan(self.style), self.options, deadline)
 
     def name(self) -> str:
         """The way in notes."""
@@ -41,14 +44,23 @@ class Spacer:
 
 @dataclass(frozen=True)
 class Guesses:
-    """Keeps those of many candidates that are invariants."""
+    """Keeps those of many candidates that are invariants at heads of loops.
+
+    Spacer finds those of callees and their calls then quickly; without them a proof is longer.
+    """
 
     style: Style
     wide: bool
 
-    def invariants(self, plan: Plan, deadline: float) -> Invariants:
-        """What is left of the candidates."""
-        return houdini_invariants(plan, self.wide, deadline)
+    def invariants(self, plan: PlanOf, deadline: float) -> Invariants:
+        """What is left of the candidates, and what follows from it."""
+        inlined = plan(replace(self.style, inlined=True))
+        kept = kept_candidates(inlined, self.wide, deadline)
+        try:
+            later = now() + max(1.0, deadline - now())
+            return filled_invariants(plan(self.style), kept, later)
+        except GaveUp:
+            return invariants_of(inlined, kept)
 
     def name(self) -> str:
         """The way in notes."""
@@ -66,14 +78,13 @@ OTHER_INTERPOLANTS = (*WITHOUT_EQUALITIES, "fp.spacer.iuc=0")
 def turns(ranges: bool, picks: bool) -> list[Turn]:
     """The ways in the order in which they are tried, over all integers or with ranges."""
     joins, heads, picked = Style(ranges, 1), Style(ranges, 0), Style(ranges, 2)
-    inlined = Style(ranges, 0, inlined=True)
     found: list[Turn] = [
         (Spacer(joins, WITHOUT_EQUALITIES), 0.12),
         (Spacer(heads, WITHOUT_EQUALITIES), 0.1),
         (Spacer(picked, WITHOUT_EQUALITIES), 0.1),
-        (Guesses(inlined, False), 0.25),
+        (Guesses(heads, False), 0.25),
         (Spacer(joins, OTHER_INTERPOLANTS), 0.05),
-        (Guesses(inlined, True), 0.3),
+        (Guesses(heads, True), 0.3),
         (Spacer(joins, WITHOUT_INLINING), 0.1),
         (Spacer(heads, WITHOUT_EQUALITIES), 1.0),
     ]
@@ -130,7 +141,7 @@ class Search:
         begun = now()
         try:
             deadline = min(self.deadline, begun + seconds)
-            invariants = way.invariants(self.plan(way.style), deadline)
+            invariants = way.invariants(self.plan, deadline)
             self.note(f"{way.name()}: invariants in {now() - begun:.1f} s")
             return prove(self.graphs, self.assertion, invariants, self.deadline)
         except Reached as why:

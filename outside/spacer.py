@@ -7,10 +7,10 @@ predicates that can be read are defined, and a second question without inlining 
 from collections.abc import Sequence
 
 from outside.clock import now
-from outside.horn import horn_text
+from outside.horn import definition, horn_text
 from outside.invariants import GaveUp, Invariants
 from outside.model import Clauses, invariants_of, readable
-from outside.plan import Plan
+from outside.plan import Plan, straight_procedures
 from outside.processes import TimeOver
 from outside.solving import SolverFault, ask
 from outside.texts import Unreadable
@@ -55,12 +55,10 @@ def question(text: str, options: Sequence[str], deadline: float) -> str:
 
 
 def needed(plan: Plan, others: Sequence[str]) -> bool:
-    """Whether a callee's predicate is among those without clauses."""
-    callees = {p.name for p in (*plan.returns.values(), *plan.failures.values())}
-    main = plan.failures.get(plan.graphs.main)
-    if main:
-        callees.discard(main.name)
-    return not callees.isdisjoint(others)
+    """Whether predicates without clauses are those of a callee that isn't walked along its paths."""
+    walked = straight_procedures(plan.graphs) | {plan.graphs.main}
+    callees = (*plan.returns.values(), *plan.failures.values())
+    return any(p.name in others for p in callees if p.procedure not in walked)
 
 
 def _second(text: str, texts: dict[str, str], deadline: float) -> str:
@@ -80,6 +78,16 @@ def _read(plan: Plan, model: str) -> tuple[dict[str, Clauses], dict[str, str], l
         raise GaveUp(f"z3's model can't be read: {why}") from None
 
 
+def filled_invariants(plan: Plan, known: dict[str, Clauses], deadline: float) -> Invariants:
+    """Invariants of all predicates of a plan, where those of some are known."""
+    defined = {p.name: p for p in plan.predicates() if p.name in known and p.kind != "failure"}
+    texts = {name: definition(p, known[name]) for name, p in defined.items()}
+    more, _, others = _read(plan, _second(horn_text(plan), texts, deadline))
+    if needed(plan, others):
+        raise GaveUp("a callee's clauses can't be read")
+    return invariants_of(plan, more | {name: known[name] for name in defined})
+
+
 def spacer_invariants(plan: Plan, options: Sequence[str], deadline: float) -> Invariants:
     """Invariants of a plan's predicates, or a `GaveUp`."""
     text = horn_text(plan)
@@ -88,7 +96,7 @@ def spacer_invariants(plan: Plan, options: Sequence[str], deadline: float) -> In
         try:
             more, _, _ = _read(plan, _second(text, texts, deadline))
             clauses = more | clauses
-        except GaveUp:
+        except GaveUp as why:
             if needed(plan, others):
-                raise
+                raise GaveUp(f"no clauses of {', '.join(others)[:60]}: {why}") from None
     return invariants_of(plan, clauses)
