@@ -197,6 +197,13 @@ def straight_procedures(graphs: Graphs) -> set[int]:
     return straight
 
 
+def is_straight(graphs: Graphs) -> bool:
+    """Whether no loop and no recursion is reached."""
+    callees = reached_procedures(graphs) - {graphs.main}
+    heads, _ = loop_heads(graphs.graphs[graphs.main])
+    return not heads and callees <= straight_procedures(graphs)
+
+
 def cut_nodes(graph: Graph, style: Style) -> list[int]:
     """The nodes that get a predicate, ascending."""
     chosen, seen = loop_heads(graph)

@@ -11,7 +11,7 @@ from outside.houdini import kept_candidates
 from outside.invariants import GaveUp, Invariants
 from outside.linear import TooWide
 from outside.model import invariants_of
-from outside.plan import Plan, Style, make_plan
+from outside.plan import Plan, Style, is_straight, make_plan
 from outside.solving import SolverFault, solver_path
 from outside.spacer import (
     WITHOUT_EQUALITIES,
@@ -21,6 +21,9 @@ from outside.spacer import (
     filled_invariants,
     spacer_invariants,
 )
+
+# The share of the time that a proof of found invariants has.
+PROOF = 0.4
 
 Note = Callable[[str], None]
 PlanOf = Callable[[Style], Plan]
@@ -67,12 +70,32 @@ class Guesses:
         return "many candidates" if self.wide else "candidates"
 
 
-Way = Spacer | Guesses
+@dataclass(frozen=True)
+class Nothing:
+    """No invariants: enough where no loop and no recursion is reached."""
+
+    style: Style
+
+    def invariants(self, plan: PlanOf, deadline: float) -> Invariants:
+        """No invariants."""
+        return Invariants()
+
+    def name(self) -> str:
+        """The way in notes."""
+        return "no invariants"
+
+
+Way = Spacer | Guesses | Nothing
 
 # A way, and its share of the time.
 Turn = tuple[Way, float]
 
 OTHER_INTERPOLANTS = (*WITHOUT_EQUALITIES, "fp.spacer.iuc=0")
+
+
+def straight_turns() -> list[Turn]:
+    """The ways before all others where no loop and no recursion is reached."""
+    return [(Nothing(Style(True, 0)), 0.2)]
 
 
 def turns(ranges: bool, picks: bool) -> list[Turn]:
@@ -129,6 +152,8 @@ class Search:
     def chosen(self) -> Iterator[Turn]:
         """The ways that can still lead to a proof, while there is time."""
         picks = any(isinstance(e, Pick) for g in self.graphs.graphs for e in g.edges)
+        if is_straight(self.graphs):
+            yield from straight_turns()
         for ranges in (False, True):
             for turn in turns(ranges, picks):
                 if self.left() <= 0:
@@ -143,7 +168,8 @@ class Search:
             deadline = min(self.deadline, begun + seconds)
             invariants = way.invariants(self.plan, deadline)
             self.note(f"{way.name()}: invariants in {now() - begun:.1f} s")
-            return prove(self.graphs, self.assertion, invariants, self.deadline)
+            given = seconds if isinstance(way, Nothing) else PROOF * self.seconds
+            return prove(self.graphs, self.assertion, invariants, min(self.deadline, now() + given))
         except Reached as why:
             if way.style.ranges:
                 raise
