@@ -4,7 +4,7 @@ Where the asked query entails the negation of one clause of the callee's summary
 that claims are few. Where it contradicts several clauses together, the rows that do are claimed.
 """
 
-from collections.abc import Sequence
+from collections.abc import Iterator, Sequence
 from dataclasses import dataclass
 from typing import TYPE_CHECKING
 
@@ -15,6 +15,7 @@ from outside.invariants import GaveUp, violated_clauses
 from outside.linear import (
     FIRST_ENTRY,
     FIRST_EXIT,
+    FIRST_SYMBOL,
     Atom,
     Clause,
     Point,
@@ -26,6 +27,7 @@ from outside.linear import (
     holds,
     negated,
     renamed,
+    replaced,
     substituted,
 )
 from outside.partition import RegionEdge
@@ -166,23 +168,33 @@ class CallEdges:
                 proofs.append(proof)
         site.work.kill_call(site.edge, number, proofs)
 
-    def before(self, work: Work, edge: RegionEdge, point: Point) -> list[Atom]:
-        """The states from which the callee's summary allows a step to the target as at the point."""
-        site = _site(work, edge)
-        known = len(work.atoms(edge.source))
-        clauses = self.prover.clauses(site.call.procedure, site.returns)
-        if clauses is None:
-            rows = [*site.joint, *self.run_at(site, point)]
-        else:
-            rows = list(site.joint)
-            for clause in clauses:
-                met = [a for atom in clause if holds(a := site.at_source(atom), point)]
-                if not any(entails(rows, atom) for atom in met):
-                    rows.append(min(met, key=lambda a: sum(x >= FIRST_EXIT for x in a.columns())))
-        return without(rows[known:], [x for x in columns_of(rows[known:]) if x >= FIRST_EXIT])
+    def before(self, work: Work, edge: RegionEdge, point: Point) -> Iterator[list[Atom]]:
+        """The states from which the callee's summary allows a step to the target as at the point.
 
-    def run_at(self, site: _Site, point: Point) -> list[Atom]:
-        """The rows of a run of the callee from the point's source into the target."""
+        The second cube has those alone from which the same values come in as at the point.
+        """
+        site = _site(work, edge)
+        clauses = self.prover.clauses(site.call.procedure, site.returns)
+        target = site.joint[len(work.atoms(edge.source)) :]
+        if clauses is not None:
+            yield _without_results([*target, *self.chosen(site, clauses, point)])
+            return
+        rows, values = self.run_at(site, point)
+        yield _without_results([*target, *rows])
+        fixed = {x: constant_term(n) for x, n in values.items() if x >= FIRST_SYMBOL}
+        yield _without_results([replaced(row, fixed) for row in (*target, *rows)])
+
+    def chosen(self, site: _Site, clauses: Sequence[Clause], point: Point) -> list[Atom]:
+        """For each clause an atom that holds at the point, if none holds anyway."""
+        rows = list(site.joint)
+        for clause in clauses:
+            met = [a for atom in clause if holds(a := site.at_source(atom), point)]
+            if not any(entails(rows, atom) for atom in met):
+                rows.append(min(met, key=lambda a: sum(x >= FIRST_EXIT for x in a.columns())))
+        return rows[len(site.joint) :]
+
+    def run_at(self, site: _Site, point: Point) -> tuple[list[Atom], Point]:
+        """The rows of a run of the callee from the point's source into the target, and values."""
         arguments = [column_term(slot) for slot in site.call.arguments]
         here = [
             row
@@ -194,5 +206,10 @@ class CallEdges:
         for state, exits in meeting.ends(procedure, arguments, State(), site.returns):
             rows = [*state.rows, *exit_rows(exits)]
             if meeting.is_possible(rows):
-                return rows
+                return rows, meeting.point
         raise GaveUp("no run of a call at its point")
+
+
+def _without_results(rows: Sequence[Atom]) -> list[Atom]:
+    """What the rows say of the columns before a call."""
+    return without(rows, [x for x in columns_of(rows) if x >= FIRST_EXIT])

@@ -7,7 +7,7 @@ holds, and else the preimage. At a call the violated clause of the callee become
 """
 
 from collections import deque
-from collections.abc import Sequence
+from collections.abc import Iterable, Sequence
 
 from outside.clock import now
 from outside.bundle import Bundle, Claim
@@ -163,15 +163,22 @@ class Prover:
         atoms = rows
         if not self.with_ranges or isinstance(graph_edge, Input | Pick):
             atoms = free_preimage(graph_edge, target)
-        work.spoil_before(edge, rows, self.general(work, edge, atoms))
+        work.spoil_before(edge, rows, self.general(work, edge, [atoms]))
 
-    def general(self, work: Work, edge: RegionEdge, atoms: list[Atom]) -> list[Atom]:
-        """Those of the atoms that are enough for the node not to be reached, if that is seen."""
-        try:
-            needed = self.reach.needed(work.node(edge.source), atoms)
-        except Reached:
-            return atoms
-        return [atoms[number] for number in sorted(needed)]
+    def general(self, work: Work, edge: RegionEdge, cubes: Iterable[list[Atom]]) -> list[Atom]:
+        """Of the first cube that isn't reached the atoms that are enough for that.
+
+        Where none is seen not to be reached, the first one.
+        """
+        first = None
+        for atoms in cubes:
+            try:
+                needed = self.reach.needed(work.node(edge.source), atoms)
+            except Reached:
+                first = atoms if first is None else first
+                continue
+            return [atoms[number] for number in sorted(needed)]
+        return first or []
 
 
 def prove(
