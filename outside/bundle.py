@@ -54,10 +54,12 @@ class Bundle:
 
 
 def _rows_text(atoms: Sequence[Atom]) -> str:
+    """A cube as lines."""
     return f"cube {len(atoms)}\n" + "".join(map(row_text, atoms))
 
 
 def _derived_text(step: Derived) -> str:
+    """A derived row as lines."""
     pairs = "".join(f" {number} {times}" for number, times in step.parts)
     return f"derive {len(step.parts)}{pairs} {step.divide}\n{row_text(step.row)}"
 
@@ -75,6 +77,7 @@ def certificate_text(certificate: Certificate) -> str:
 
 
 def _move_text(move: Move) -> str:
+    """A move as lines."""
     edge = f"{move.edge.edge} {move.edge.source} {move.edge.target}"
     match move:
         case Split():
@@ -87,6 +90,7 @@ def _move_text(move: Move) -> str:
 
 
 def _claim_text(claim: Claim) -> str:
+    """A claim as lines."""
     query = claim.query
     ends = "return" if query.fails_at is None else f"fail {query.fails_at}"
     cubes = _rows_text(query.start) + _rows_text(query.end)

@@ -1,7 +1,7 @@
 """Edges of calls: what a call asks is answered by a claim of the callee.
 
-Where the asked query entails the negation of one clause of the callee's summary, that is claimed, so
-that claims are few. Where it contradicts several clauses together, the rows that do are claimed.
+Where the asked query entails the negation of one clause of the callee's summary, that is claimed,
+so that claims are few. Where it contradicts several clauses together, the rows that do are claimed.
 """
 
 from collections.abc import Iterator, Sequence
@@ -68,6 +68,7 @@ class _Site:
 
 
 def _site(work: Work, edge: RegionEdge) -> _Site:
+    """The edge of a call with the rows on both sides."""
     call = work.graph.edges[edge.edge]
     assert isinstance(call, Call)
     returns = work.node(edge.target) != work.graph.fail

@@ -25,6 +25,7 @@ class Cases:
         return self._search(self.atoms)
 
     def _search(self, rows: list[Atom]) -> dict[int, int] | set[int]:
+        """A point of the rows, or the given atoms that refute all cases."""
         self.left -= 1
         if self.left < 0:
             raise TooManyCases("too many cases at a call")

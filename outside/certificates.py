@@ -73,6 +73,7 @@ def base_rows(atoms: Sequence[Atom]) -> list[Atom]:
 
 
 def _fits(number: int) -> bool:
+    """Whether the number has 64 bits."""
     return MIN_VALUE <= number <= MAX_VALUE
 
 
@@ -102,6 +103,7 @@ def is_right_step(rows: Sequence[Atom], step: Derived) -> bool:
 
 
 def _is_right(rows: list[Atom], certificate: Certificate, depth: int) -> bool:
+    """Whether a certificate at this depth is right from these rows on."""
     if depth > MAX_NESTING:
         return False
     rows = list(rows)

@@ -92,6 +92,7 @@ def cuts_of(atoms: Sequence[Atom], certificate: Certificate) -> Iterator[Atom]:
 
 
 def _cuts(rows: list[Atom], certificate: Certificate) -> Iterator[Atom]:
+    """The cuts below a node of the certificate whose rows so far are these."""
     rows = list(rows)
     for step in certificate.derived:
         rows.append(step.row)

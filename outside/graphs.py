@@ -136,31 +136,38 @@ class _Line:
         self.at = 0
 
     def fault(self, why: str) -> BadGraphs:
+        """The fault of this line."""
         return BadGraphs(f"line {self.number}: {why}")
 
     def integer(self) -> int:
+        """The next number."""
         if self.at == len(self.items):
             raise self.fault("a number is missing")
         text = self.items[self.at]
         self.at += 1
         digits = text.removeprefix("-")
-        if not (digits.isascii() and digits.isdigit()) or str(int(digits)) != digits or text == "-0":
+        is_number = digits.isascii() and digits.isdigit() and len(digits) <= 40
+        if not is_number or str(int(digits)) != digits or text == "-0":
             raise self.fault(f"no number: {text[:40]!r}")
         return int(text)
 
     def count(self) -> int:
+        """The next number, which is one of things."""
         number = self.integer()
         if not 0 <= number < MAX_NUMBER:
             raise self.fault(f"out of range: {number}")
         return number
 
     def counts(self) -> tuple[int, ...]:
+        """A list of numbers after its length."""
         return tuple(self.count() for _ in range(self.count()))
 
     def pairs(self) -> tuple[tuple[int, int], ...]:
+        """A list of pairs after its length."""
         return tuple((self.count(), self.integer()) for _ in range(self.count()))
 
     def end(self) -> None:
+        """Raises if there is more in the line."""
         if self.at != len(self.items):
             raise self.fault("more numbers than there should be")
 
@@ -175,6 +182,7 @@ class _Reader:
         self.at = 0
 
     def line(self, *words: str) -> _Line:
+        """The next line, which begins with one of these words."""
         if self.at == len(self.lines):
             raise BadGraphs(f"line {self.at + 1}: the text ends too early")
         line = _Line(self.at + 1, self.lines[self.at])
@@ -184,15 +192,18 @@ class _Reader:
         return line
 
     def number(self, word: str) -> int:
+        """The only number of the next line."""
         line = self.line(word)
         number = line.count()
         line.end()
         return number
 
     def rows(self, count: int) -> tuple[Atom, ...]:
+        """So many rows."""
         return tuple(self.row() for _ in range(count))
 
     def row(self) -> Atom:
+        """A row in its only form."""
         line = self.line("row")
         row = Term(line.pairs(), line.integer())
         line.end()
@@ -204,12 +215,14 @@ class _Reader:
         return row
 
     def edge(self) -> Edge:
+        """An edge with its rows."""
         line = self.line(*_KINDS)
         edge = _KINDS[line.word](self, line)
         line.end()
         return edge
 
     def graph(self) -> Graph:
+        """A graph with its edges."""
         line = self.line("graph")
         nodes, exit_node, fail, params, exits, slots, edges = (line.count() for _ in range(7))
         line.end()
@@ -221,14 +234,17 @@ class _Reader:
 
 
 def _guard(reader: _Reader, line: _Line) -> Guard:
+    """A guard with its rows."""
     return Guard(line.count(), line.count(), reader.rows(line.count()))
 
 
 def _pick(reader: _Reader, line: _Line) -> Pick:
+    """A pick with its rows."""
     return Pick(line.count(), line.count(), line.count(), reader.rows(line.count()))
 
 
 def _assertion(reader: _Reader, line: _Line) -> Assert:
+    """A failing assertion with its rows."""
     return Assert(line.count(), line.count(), line.count(), reader.rows(line.count()))
 
 
@@ -321,6 +337,7 @@ def read_graphs(text: str) -> Graphs:
 
 
 def _numbers(items: Iterable[int]) -> str:
+    """Numbers, each after a blank."""
     return "".join(f" {item}" for item in items)
 
 
@@ -331,6 +348,7 @@ def row_text(row: Atom) -> str:
 
 
 def _rows_text(rows: tuple[Atom, ...]) -> str:
+    """How many rows there are, and the rows."""
     return f" {len(rows)}\n" + "".join(map(row_text, rows))
 
 

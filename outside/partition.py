@@ -56,6 +56,7 @@ class Partition:
                 self._add(RegionEdge(number, source, graph.fail + 1))
 
     def _add(self, edge: RegionEdge) -> None:
+        """The edge is live."""
         self.into[edge.target][edge] = None
         self.out[edge.source][edge] = None
 
@@ -91,6 +92,7 @@ class Partition:
         return new
 
     def _copy_edges(self, cut: RegionEdge, new: Iterable[int]) -> None:
+        """Gives new pieces the edges of their region."""
         region = cut.source
         into = list(self.into[region])
         out = [e for e in self.out[region] if e.target != region]

@@ -98,6 +98,7 @@ class Runs:
             yield State(dict(before.terms), state.rows, state.symbols), exits
 
     def _from(self, graph: Graph, node: int, state: State, returns: bool) -> Iterator[State]:
+        """The states in which runs from a node end."""
         self.prefixes += 1
         if self.prefixes > MAX_PREFIXES:
             raise GaveUp("too many paths through a procedure")
@@ -110,11 +111,13 @@ class Runs:
                     yield from self._from(graph, following, behind, returns)
 
     def _leads_on(self, edge: Edge, returns: bool) -> bool:
+        """Whether runs of this kind go over the edge."""
         return not isinstance(edge, Assert) or (not returns and edge.assertion == self.assertion)
 
     def _over(
         self, graph: Graph, edge: Edge, state: State, returns: bool
     ) -> Iterator[tuple[State, int]]:
+        """The states behind an edge, and their node."""
         if not isinstance(edge, Call):
             behind = stepped(state, edge, graph.slots)
             if len(behind.rows) == len(state.rows) or self.is_possible(behind.rows):

@@ -89,6 +89,7 @@ def entry_term(params: int) -> Callable[[int], Term | None]:
     """At the entry: entry values for parameters, and 0 for the other slots."""
 
     def by(column: int) -> Term | None:
+        """The term for a column."""
         if column >= FIRST_ENTRY:
             return None
         return column_term(FIRST_ENTRY + column) if column < params else constant_term(0)
@@ -97,7 +98,9 @@ def entry_term(params: int) -> Callable[[int], Term | None]:
 
 
 def _return_term(slots: Sequence[int]) -> Callable[[int], Term | None]:
+    """Behind a return: the slots for exit values."""
     def by(column: int) -> Term | None:
+        """The term for a column."""
         place = column - FIRST_EXIT
         return column_term(slots[place]) if 0 <= place < len(slots) else None
 

@@ -44,7 +44,9 @@ class _Before:
     clauses: tuple[Clause, ...]
     symbols: int
 
-    def replaced(self, by: dict[int, Term], rows: Sequence[Atom] = (), symbols: int = 0) -> "_Before":
+    def replaced(
+        self, by: dict[int, Term], rows: Sequence[Atom] = (), symbols: int = 0
+    ) -> "_Before":
         """The rows with terms in the places of columns, and further rows."""
         read = tuple(replaced(row, by) for row in self.rows)
         clauses = tuple(tuple(replaced(a, by) for a in c) for c in self.clauses)

@@ -28,6 +28,7 @@ class _Reader:
         self.next = 0
 
     def fault(self, why: str) -> NotBundle:
+        """What is wrong, and where."""
         return NotBundle(f"byte {self.at}: {why}")
 
     def line(self) -> bytes:
@@ -41,10 +42,12 @@ class _Reader:
         return word
 
     def word(self, wanted: bytes) -> None:
+        """Takes a line that begins with this word."""
         if self.line() != wanted:
             raise self.fault(f"a line of {wanted.decode()!r} is wanted before")
 
     def signed(self, least: int, most: int) -> int:
+        """The next number of the line, in its only spelling."""
         if self.next == len(self.items):
             raise self.fault("a number is missing in the line before")
         item = self.items[self.next]
@@ -58,9 +61,11 @@ class _Reader:
         return number
 
     def number(self) -> int:
+        """The next number, which is one of things."""
         return self.signed(0, LIMIT - 1)
 
     def value(self) -> int:
+        """The next number, of 64 bits."""
         return self.signed(MIN_VALUE, MAX_VALUE)
 
     def last(self, value: Item) -> Item:
@@ -70,6 +75,7 @@ class _Reader:
         return value
 
     def count(self) -> int:
+        """The last number of a line, which is a length."""
         return self.last(self.signed(0, 2**64 - 1))
 
     def each(self, count: int, read: Callable[[], Item]) -> tuple[Item, ...]:
@@ -80,10 +86,12 @@ class _Reader:
         return tuple(found)
 
     def pairs(self, most: int) -> tuple[tuple[int, int], ...]:
+        """A list of pairs after its length."""
         count = self.signed(0, most)
         return self.each(count, lambda: (self.number(), self.signed(-(2**64), 2**64)))
 
     def row(self) -> Atom:
+        """A row in its only form."""
         self.word(b"row")
         row = Term(self.pairs(1024), self.last(self.signed(-(2**90), 2**90)))
         columns = row.columns()
@@ -94,10 +102,12 @@ class _Reader:
         return row
 
     def cube(self) -> tuple[Atom, ...]:
+        """The atoms of a cube."""
         self.word(b"cube")
         return self.each(self.count(), self.row)
 
     def derived(self) -> Derived:
+        """A derived row."""
         self.word(b"derive")
         parts = self.pairs(2**64)
         if any(not MIN_VALUE <= times <= MAX_VALUE for _, times in parts):
@@ -105,6 +115,7 @@ class _Reader:
         return Derived(parts, self.last(self.value()), self.row())
 
     def certificate(self, depth: int = 0) -> Certificate:
+        """A certificate at this depth."""
         word = self.line()
         if word == b"close":
             return Close(self.each(self.count(), self.derived))
@@ -116,9 +127,11 @@ class _Reader:
         return Branch(derived, column, at, low, high)
 
     def edge(self) -> RegionEdge:
+        """A region edge."""
         return RegionEdge(self.number(), self.number(), self.number())
 
     def move(self) -> Move:
+        """A move."""
         word = self.line()
         edge = self.edge()
         if word == b"split":
@@ -133,6 +146,7 @@ class _Reader:
         return KillCall(edge, claim, self.each(count, self.certificate))
 
     def claim(self) -> Claim:
+        """A claim."""
         self.word(b"claim")
         procedure = self.number()
         ends = self.items[self.next : self.next + 1]
@@ -146,6 +160,7 @@ class _Reader:
         return Claim(Query(procedure, fails_at, start, end), moves)
 
     def source(self) -> bytes:
+        """The source's bytes."""
         self.word(b"source")
         size = self.last(self.signed(0, MAX_SOURCE))
         source = self.data[self.at : self.at + size]

@@ -61,16 +61,19 @@ class _Row:
         self.number = number
 
     def coefficient(self, column: int) -> int:
+        """The coefficient of a column."""
         for named, a in self.parts:
             if named == column:
                 return a
         return 0
 
     def term(self) -> Term:
+        """The row as a term."""
         return Term(self.parts, self.constant)
 
 
 def _tight(row: _Row) -> _Row:
+    """The row divided by the common divisor of its coefficients."""
     divisor = divisor_of(row.term())
     if divisor <= 1:
         return row
@@ -102,6 +105,7 @@ class _Rows:
         self.contradiction: _Row | None = None
 
     def add(self, row: _Row) -> None:
+        """Keeps the row, unless a stronger one is there."""
         if not row.parts:
             if row.constant >= 1 and self.contradiction is None:
                 self.contradiction = row
@@ -161,6 +165,7 @@ def _cheapest(rows: _Rows) -> int:
                 lower_units[x] = lower_units.get(x, True) and a == -1
 
     def cost(x: int) -> tuple[bool, int, int]:
+        """What comes first is cheaper."""
         up, low = upper.get(x, 0), lower.get(x, 0)
         inexact = not (upper_units.get(x, True) or lower_units.get(x, True))
         return inexact, up * low - up - low, x
@@ -278,6 +283,7 @@ class _Search:
         return self.backwards(eliminated)
 
     def given(self, atom: Atom, number: int) -> _Row:
+        """A row of the cube, or of a branch, tightened."""
         return _tight(_Row(atom.parts, atom.constant, (), 1, number))
 
     def backwards(
@@ -294,6 +300,7 @@ class _Search:
         return point
 
     def branch(self, bounds: list[Atom], column: int, at: int) -> Certificate | dict[int, int]:
+        """Solves both sides of a column."""
         self.branches += 1
         if self.branches > MAX_BRANCHES or len(bounds) >= 200:
             raise SolverLimit("too many branches")
