@@ -93,15 +93,14 @@ Turn = tuple[Way, float]
 OTHER_INTERPOLANTS = (*WITHOUT_EQUALITIES, "fp.spacer.iuc=0")
 
 
-def straight_turns() -> list[Turn]:
-    """The ways before all others where no loop and no recursion is reached."""
-    return [(Nothing(Style(True, 0)), 0.2)]
+def turns(ranges: bool, picks: bool, straight: bool) -> list[Turn]:
+    """The ways in the order in which they are tried, over all integers or with ranges.
 
-
-def turns(ranges: bool, picks: bool) -> list[Turn]:
-    """The ways in the order in which they are tried, over all integers or with ranges."""
+    A way that needs what isn't there is left out: picks, or loops or recursion for candidates.
+    """
     joins, heads, picked = Style(ranges, 1), Style(ranges, 0), Style(ranges, 2)
     found: list[Turn] = [
+        (Nothing(heads), 0.0 if ranges else 0.2),
         (Spacer(joins, WITHOUT_EQUALITIES), 0.12),
         (Spacer(heads, WITHOUT_EQUALITIES), 0.1),
         (Spacer(picked, WITHOUT_EQUALITIES), 0.1),
@@ -111,7 +110,12 @@ def turns(ranges: bool, picks: bool) -> list[Turn]:
         (Spacer(joins, WITHOUT_INLINING), 0.1),
         (Spacer(heads, WITHOUT_EQUALITIES), 1.0),
     ]
-    return [turn for turn in found if picks or turn[0].style != picked]
+    left_out = Guesses if straight else Nothing
+    return [
+        (way, share)
+        for way, share in found
+        if share and not isinstance(way, left_out) and (picks or way.style != picked)
+    ]
 
 
 class Search:
@@ -152,10 +156,9 @@ class Search:
     def chosen(self) -> Iterator[Turn]:
         """The ways that can still lead to a proof, while there is time."""
         picks = any(isinstance(e, Pick) for g in self.graphs.graphs for e in g.edges)
-        if is_straight(self.graphs):
-            yield from straight_turns()
+        straight = is_straight(self.graphs)
         for ranges in (False, True):
-            for turn in turns(ranges, picks):
+            for turn in turns(ranges, picks, straight):
                 if self.left() <= 0:
                     return
                 if ranges or not self.only_with_ranges:
