@@ -9,6 +9,7 @@ the picked value is split by it, and what was made bad by the larger preimage is
 from collections.abc import Iterator, Sequence
 from dataclasses import dataclass
 from fractions import Fraction
+from math import gcd
 
 from outside.certificates import Branch, Certificate, at_least, at_most, base_rows
 from outside.clock import now
@@ -38,6 +39,7 @@ from outside.work import Work
 MAX_CUTS = 3000
 MAX_STEPS = 400
 MAX_SHADOW = 200
+MAX_SIZE = 2**400
 
 
 @dataclass
@@ -69,7 +71,7 @@ def _may_hold(rows: Sequence[Atom], point: Point) -> bool:
                 times = (-low.coefficient(symbol), high), (high.coefficient(symbol), low)
                 kept.append(combination(times))
         left = _strongest(kept)
-        if len(left) > MAX_SHADOW:
+        if len(left) > MAX_SHADOW or any(abs(row.constant) > MAX_SIZE for row in left):
             return True
     return all(row.constant <= 0 for row in left)
 
@@ -82,7 +84,9 @@ def _strongest(rows: Sequence[Atom]) -> list[Atom]:
         parts = tuple((x, a // divisor) for x, a in row.parts)
         constant = Fraction(row.constant, divisor)
         if parts not in kept or kept[parts][0] < constant:
-            kept[parts] = (constant, row)
+            common = gcd(divisor, row.constant)
+            scaled = tuple((x, a // common) for x, a in row.parts)
+            kept[parts] = (constant, Term(scaled, row.constant // common))
     return [row for _, row in kept.values()]
 
 
