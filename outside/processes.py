@@ -77,7 +77,7 @@ def _held() -> Iterator[None]:
 
 
 def end_all() -> None:
-    """Asks all programs to end, and lets none begin."""
+    """Asks all programs to end, which are killed soon after, and lets none begin."""
     _ending.set()
     with _lock:
         for number in _running:
@@ -159,6 +159,8 @@ def _read(child: subprocess.Popen, limits: Limits) -> bytes:
             left = deadline - now()
             if left <= 0:
                 raise TimeOver
+            if _ending.is_set():
+                raise Interrupted
             if not selector.select(min(left, WAKING)):
                 continue
             chunk = os.read(child.stdout.fileno(), 65_536)

@@ -194,6 +194,22 @@ def stopped(setting: Setting, kind: signal.Signals) -> list[str]:
     return faults if begun else ["z3 never began"]
 
 
+def stubborn(setting: Setting) -> list[str]:
+    """A stopped command also ends a check that doesn't listen."""
+    with tempfile.TemporaryDirectory() as folder:
+        program = Path(folder) / "program"
+        program.write_text("#!/bin/sh\ntrap '' TERM INT HUP\nwhile :; do sleep 1; done\n")
+        program.chmod(0o755)
+        words = [*prove_words(setting), "--program", str(program), "examples/count.c"]
+        child = subprocess.Popen(words, cwd=TOP, stdout=subprocess.PIPE, stderr=subprocess.DEVNULL)
+        running = f"/bin/sh\0{program}"
+        while not processes(running, ("cmdline",)) and child.poll() is None:
+            time.sleep(0.05)
+        child.terminate()
+        child.communicate(timeout=60)
+        return [f"left behind: {words}" for words in processes(running, ("cmdline",))]
+
+
 def cases(setting: Setting) -> Iterator[Case]:
     """All cases."""
     for name, script in FAKES.items():
@@ -218,6 +234,7 @@ def cases(setting: Setting) -> Iterator[Case]:
         yield Case(f"prove {name}", prove, ([name], status, "".join(f"{line}\n" for line in lines)))
     yield Case("prove words", prove, (["--jobs", "0", "x"], 4, ""), needs_z3=False)
     yield Case("prove another place", other_place)
+    yield Case("prove stopped, stubborn", stubborn, needs_z3=False)
     yield Case("prove no report", no_report, needs_z3=False)
     for kind in (signal.SIGINT, signal.SIGTERM, signal.SIGHUP):
         yield Case(f"prove stopped {kind.name}", stopped, (kind,), needs_z3=False)
