@@ -3,7 +3,7 @@ from collections.abc import Callable, Sequence
 
 from files.lexer import Lines
 from files.machine import (
-    BROKEN, CONTINUED, GREATEST, LEAST, NORMAL, RETURNED, Body, Ended, Evaluate, Execute, Machine, Variable, Watcher,
+    BROKEN, CONTINUED, GREATEST, LEAST, NORMAL, RETURNED, Body, Condition, Ended, Evaluate, Execute, Machine, Variable, Watcher,
 )
 from files.operators import OPERATORS, constant_value, quotient
 from files.parser import parse
@@ -13,9 +13,9 @@ from files.tree import (
 )
 
 
-def load(text: str, watcher: Watcher | None = None) -> Machine:
-    """The program of a text, ready to run; `Fault` where the text doesn't fit."""
-    machine = Machine(parse(text), Lines(text), watcher)
+def load(text: str, watcher: Watcher | None = None, ways: Callable[[Condition, bool], None] | None = None) -> Machine:
+    """The program of a text, ready to run; `Fault` where the text doesn't fit. `ways` is told of conditions alone."""
+    machine = Machine(parse(text), Lines(text), watcher, ways or (watcher.branched if watcher else None))
     for number, procedure in enumerate(machine.tree.procedures):
         machine.bodies[procedure.name] = Compiler(machine, procedure, number).body()
     return machine
@@ -78,37 +78,36 @@ class Compiler:
 
     def constant(self, value: int) -> Evaluate:
         """A literal."""
-        tick = self.machine.tick
+        machine = self.machine
 
         def evaluate(_: list[int]) -> int:
-            tick()
+            machine.left -= 1
             return value
         return evaluate
 
     def read(self, variable: Variable) -> Evaluate:
         """The value of a variable."""
         machine, (is_global, number) = self.machine, variable
-        tick = machine.tick
 
         def local(slots: list[int]) -> int:
-            tick()
+            machine.left -= 1
             return slots[number]
 
         def shared(_: list[int]) -> int:
-            tick()
+            machine.left -= 1
             return machine.globals[number]
         return shared if is_global else local
 
     def unary(self, it: Unary) -> Evaluate:
         """`!` and `-`."""
-        tick, operand = self.machine.tick, self.expression(it.operand)
+        machine, operand = self.machine, self.expression(it.operand)
 
         def denied(slots: list[int]) -> int:
-            tick()
+            machine.left -= 1
             return 0 if operand(slots) else 1
 
         def negated(slots: list[int]) -> int:
-            tick()
+            machine.left -= 1
             value = -operand(slots)
             if value > GREATEST:
                 raise Ended("stopped")
@@ -117,28 +116,29 @@ class Compiler:
 
     def call(self, it: Call) -> Evaluate:
         """A call of `input` or of a procedure; its arguments go from left to right."""
+        self.note(it, *it.arguments)
         machine = self.machine
         arguments = [self.expression(part) for part in it.arguments]
 
         def taken(_: list[int]) -> int:
-            machine.tick()
+            machine.left -= 1
             value = machine.take()
             if machine.watcher:
                 machine.watcher.took(it, value)
             return value
 
         def called(slots: list[int]) -> int:
-            machine.tick()
+            machine.left -= 1
             return machine.enter(machine.bodies[it.name], it, [argument(slots) for argument in arguments])
         return taken if it.name == "input" else called
 
     def logical(self, it: Binary) -> Evaluate:
         """`&&` and `||`: the right side is left out where the left one decides."""
-        tick, left, right = self.machine.tick, self.expression(it.left), self.expression(it.right)
+        machine, left, right = self.machine, self.expression(it.left), self.expression(it.right)
         is_and = it.mark == "&&"
 
         def evaluate(slots: list[int]) -> int:
-            tick()
+            machine.left -= 1
             if bool(left(slots)) != is_and:
                 return 0 if is_and else 1
             return 1 if right(slots) else 0
@@ -190,11 +190,11 @@ class Compiler:
     def block(self, it: Block) -> Execute:
         """A block, which is a scope and a step."""
         self.scopes.append({})
-        inner, tick = self.sequence(it.statements), self.machine.tick
+        inner, machine = self.sequence(it.statements), self.machine
         self.scopes.pop()
 
         def execute(slots: list[int]) -> int:
-            tick()
+            machine.left -= 1
             return inner(slots)
         return execute
 
@@ -217,7 +217,7 @@ class Compiler:
         machine, (is_global, number) = self.machine, variable
 
         def execute(slots: list[int]) -> int:
-            machine.tick()
+            machine.left -= 1
             new = value(slots)
             (machine.globals if is_global else slots)[number] = new
             if machine.watcher:
@@ -245,18 +245,18 @@ class Compiler:
         place = machine.lines.place(it.span[0])
 
         def ignored(slots: list[int]) -> int:
-            machine.tick()
+            machine.left -= 1
             value(slots)
             return NORMAL
 
         def assumed(slots: list[int]) -> int:
-            machine.tick()
+            machine.left -= 1
             if not value(slots):
                 raise Ended("stopped")
             return NORMAL
 
         def asserted(slots: list[int]) -> int:
-            machine.tick()
+            machine.left -= 1
             if not value(slots):
                 if machine.watcher:
                     machine.watcher.failed(it.call)
@@ -272,13 +272,13 @@ class Compiler:
         otherwise = self.statement(it.otherwise or Block(it.span, []))
 
         def execute(slots: list[int]) -> int:
-            machine.tick()
+            machine.left -= 1
             truth = condition(slots) != 0
-            if machine.watcher is None:
-                return then(slots) if truth else otherwise(slots)
-            machine.watcher.branched(it, truth)
+            if machine.ways:
+                machine.ways(it, truth)
             flow = then(slots) if truth else otherwise(slots)
-            machine.watcher.joined(it)
+            if machine.watcher:
+                machine.watcher.joined(it)
             return flow
         return execute
 
@@ -292,13 +292,13 @@ class Compiler:
         step = self.statement(it.step or Block(it.span, []))
         turns = self.turns(it, test, step, self.statement(it.body))
         self.scopes.pop()
-        tick = self.machine.tick
+        machine = self.machine
 
         def execute(slots: list[int]) -> int:
             if begin:
-                tick()
+                machine.left -= 1
                 begin(slots)
-            tick()
+            machine.left -= 1
             return turns(slots)
         return execute
 
@@ -309,10 +309,10 @@ class Compiler:
         def execute(slots: list[int]) -> int:
             flow = NORMAL
             while flow == NORMAL:
-                machine.tick()
+                machine.spend()
                 truth = test(slots) != 0
-                if machine.watcher and it.condition:
-                    machine.watcher.branched(it, truth)
+                if machine.ways and it.condition:
+                    machine.ways(it, truth)
                 if not truth:
                     break
                 flow = body(slots)
@@ -329,16 +329,16 @@ class Compiler:
         machine, body, test = self.machine, self.statement(it.body), self.expression(it.condition)
 
         def execute(slots: list[int]) -> int:
-            machine.tick()
+            machine.left -= 1
             truth, flow = True, NORMAL
             while truth and flow == NORMAL:
                 flow = body(slots)
                 if flow in (NORMAL, CONTINUED):
                     flow = NORMAL
-                    machine.tick()
+                    machine.spend()
                     truth = test(slots) != 0
-                    if machine.watcher:
-                        machine.watcher.branched(it, truth)
+                    if machine.ways:
+                        machine.ways(it, truth)
             if machine.watcher:
                 machine.watcher.joined(it)
             return RETURNED if flow == RETURNED else NORMAL
@@ -346,10 +346,10 @@ class Compiler:
 
     def jump(self, it: Jump) -> Execute:
         """`break` and `continue`."""
-        tick, flow = self.machine.tick, BROKEN if it.word == "break" else CONTINUED
+        machine, flow = self.machine, BROKEN if it.word == "break" else CONTINUED
 
         def execute(_: list[int]) -> int:
-            tick()
+            machine.left -= 1
             return flow
         return execute
 
@@ -360,7 +360,7 @@ class Compiler:
         value = self.expression(it.value) if it.value else None
 
         def execute(slots: list[int]) -> int:
-            machine.tick()
+            machine.left -= 1
             machine.value = value(slots) if value else 0
             if machine.watcher:
                 machine.watcher.returns(it)
@@ -370,18 +370,17 @@ class Compiler:
 
 def applied(machine: Machine, mark: str, left: Evaluate, right: Evaluate) -> Evaluate:
     """An operator on both its operands, from left to right; the run stops where there is no value in the range."""
-    tick = machine.tick
     operator = OPERATORS[mark]
 
     def evaluate(slots: list[int]) -> int:
-        tick()
+        machine.left -= 1
         value = operator(left(slots), right(slots))
         if not LEAST <= value <= GREATEST:
             raise Ended("stopped")
         return value
 
     def remainder(slots: list[int]) -> int:
-        tick()
+        machine.left -= 1
         dividend, divisor = left(slots), right(slots)
         whole = quotient(dividend, divisor)
         if whole > GREATEST:

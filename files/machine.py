@@ -18,6 +18,7 @@ NORMAL, BROKEN, CONTINUED, RETURNED = range(4)
 Variable = tuple[bool, int]
 Evaluate = Callable[[list[int]], int]
 Execute = Callable[[list[int]], int]
+Condition = If | Loop | DoWhile
 
 
 class Ended(Exception):
@@ -60,10 +61,10 @@ class Watcher:
     def assigned(self, at: object, variable: Variable, value: int) -> None:
         """A declarator or an assignment gave a variable a value."""
 
-    def branched(self, at: If | Loop | DoWhile, truth: bool) -> None:
+    def branched(self, at: Condition, truth: bool) -> None:
         """A condition was evaluated."""
 
-    def joined(self, at: If | Loop | DoWhile) -> None:
+    def joined(self, at: Condition) -> None:
         """What a condition decided has ended, and the procedure goes on behind it."""
 
     def returns(self, at: Return) -> None:
@@ -87,8 +88,9 @@ class Machine:
     For the watcher `names` keeps, by the `id` of a node, which variables the node reads.
     """
 
-    def __init__(self, tree: File, lines: Lines, watcher: Watcher | None) -> None:
-        self.tree, self.lines, self.watcher = tree, lines, watcher
+    def __init__(self, tree: File, lines: Lines, watcher: Watcher | None,
+                 ways: Callable[[Condition, bool], None] | None) -> None:
+        self.tree, self.lines, self.watcher, self.ways = tree, lines, watcher, ways
         self.inputs: Sequence[int] = ()
         self.used = self.left = 0
         self.value = 0
@@ -102,14 +104,18 @@ class Machine:
         self.inputs, self.used, self.left = inputs, 0, fuel
         self.globals = [it.value for it in self.tree.globals]
         try:
-            value = self.enter(self.bodies["main"], None, [])
+            outcome = Outcome("returned", self.enter(self.bodies["main"], None, []), None, self.used, fuel)
         except Ended as it:
-            return Outcome(it.how, 0, it.place, self.used, fuel)
-        return Outcome("returned", value, None, self.used, fuel)
+            outcome = Outcome(it.how, 0, it.place, self.used, fuel)
+        return outcome if self.left >= 0 else outcome._replace(how="fuel")
 
-    def tick(self) -> None:
-        """Counts one step before its work."""
-        if self.left == 0:
+    def spend(self) -> None:
+        """Counts a step that may come again and again, and ends the run where none was left.
+
+        Other steps are only counted: a run that needed more than its fuel is told apart at its end.
+        """
+        if self.left <= 0:
+            self.left = -1
             raise Ended("fuel")
         self.left -= 1
 
@@ -122,6 +128,8 @@ class Machine:
 
     def enter(self, body: Body, call: Call | None, arguments: list[int]) -> int:
         """A call of a procedure; what it gives."""
+        if self.left < 0:
+            raise Ended("fuel")
         slots = arguments + [0] * (body.slots - len(arguments))
         if self.watcher:
             self.watcher.entered(body.tree, call, slots)
