@@ -34,7 +34,7 @@ def read_baseline(path: str) -> Counter[Key]:
             raise BadBaseline(f"{path}: its version is {held['version']!r}, and {VERSION} is read")
         known: Counter[Key] = Counter()
         for it in held["open"]:
-            key = tuple(it[name] for name in ("file", "procedure", "assertion", "state"))
+            key = (it["file"], it["procedure"], it["assertion"], it["state"])
             if not all(isinstance(part, str) for part in key) or not isinstance(it["count"], int):
                 raise TypeError
             known[key] += it["count"]

@@ -18,6 +18,8 @@ FUEL, ALL_FUEL = 20_000, 4_000_000
 LONGEST = 10_000
 BOUNDARIES = (0, 1, -1, 2, 3, 4, 5, 6, 7, 8, 9, 10, 12, 16, 31, 60, 64, 100, 128, 255, 256, 1000, 65535, 65536)
 EXTREMES = (2**31 - 1, 2**31, -(2**31), 2**32, GREATEST, GREATEST - 1, LEAST, LEAST + 1)
+# The way that a condition went, and the condition before it with its way.
+Way = tuple[int, int, bool]
 
 
 class Supply(list[int]):
@@ -97,7 +99,7 @@ class Ways:
     """The ways that a run took: of each condition which side, and after which other one."""
 
     def __init__(self) -> None:
-        self.seen: dict[tuple[int, int, bool], int] = {}
+        self.seen: dict[Way, int] = {}
         self.last = 0
 
     def branched(self, at: Condition, truth: bool) -> None:
@@ -106,7 +108,7 @@ class Ways:
         self.seen[way] = self.seen.get(way, 0) + 1
         self.last = id(at) * 2 + truth
 
-    def taken(self) -> set[tuple[tuple[int, int, bool], int]]:
+    def taken(self) -> set[tuple[Way, int]]:
         """Each way with how often it was taken, in powers of two; the next run begins anew."""
         ways = {(way, count.bit_length()) for way, count in self.seen.items()}
         self.seen.clear()
@@ -125,7 +127,7 @@ class Search:
         self.draw = Draw(sorted(set(literals)), chance)
         self.chance, self.wanted = chance, wanted
         self.kept: list[list[int]] = []
-        self.known: set[object] = set()
+        self.known: set[tuple[Way, int]] = set()
         self.spent = 0
 
     def candidates(self, lists: int) -> Iterator[tuple[Place, tuple[int, ...]]]:

@@ -106,7 +106,7 @@ class Recorder(Watcher):
         frame, text = self.frames[-1], f"{at.name} = {value}"
         if is_input(at) and frame.taken:
             step = frame.taken[-1][1]
-            self.events[step].text = text
+            self.events[step].text, self.events[step].offset = text, at.span[0]
         else:
             step = self.add(at.span[0], text, self.needs(at, at.span))
         frame.taken.clear()
