@@ -18,6 +18,9 @@ PAGE = os.path.join(TOP, "docs", "LANGUAGE.md")
 HEADER = "| in C | refused as | write |"
 CLAUSE = re.compile(r"`([a-z -]+)`(?: at ((?:`[^`]+`(?:, )?)+))?")
 MARK_OF_ORDER = "\xef\xbb\xbf"
+# A name right before a name, as that of a type in a declaration, is what isn't in the language.
+NAME_BEFORE = re.compile(r"\b([A-Za-z_]\w*)\s+\Z", re.A)
+LONGEST_NAME = 100
 # How many other constructs of a refused file are told.
 OTHERS = 5
 
@@ -67,11 +70,13 @@ def token_at(text: str, offset: int) -> tuple[str, str]:
 
 
 def rows_of(text: str, refused: str, offset: int) -> list[Row]:
-    """The rows that fit a refusal best: by its token, else by its kind, else by the text alone."""
+    """The rows that fit a refusal best: by the name before it or its token, else by its kind, else by the text alone."""
     token, kind = token_at(text, offset)
     if refused == "bad byte" and token != "BOM":
         token = text[offset: offset + 1]
-    levels = [[it for it in table() if wanted in it.refused.get(refused, ())] for wanted in (token, kind) if wanted]
+    before = NAME_BEFORE.search(text, max(0, offset - LONGEST_NAME), offset) if kind == "NAME" else None
+    wanted_ones = (before[1] if before and refused == "unexpected token" else "", token, kind)
+    levels = [[it for it in table() if wanted in it.refused.get(refused, ())] for wanted in wanted_ones if wanted]
     levels.append([it for it in table() if it.refused.get(refused) == ()])
     return next((level for level in levels if level), [])
 
