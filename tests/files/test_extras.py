@@ -36,6 +36,15 @@ class Reach(Case):
             f"{name}:1:12: warning: proved, but no run gets here", f"{name}:6:16: warning: proved, but no run gets here",
             "1 file: 3 proved, 0 can fail, 0 not settled, 2 not reached"], 0))
 
+    def test_unknown(self) -> None:
+        """what the program doesn't prove of the source with assert(0) isn't told, nor where it is stopped or refuses"""
+        name, text = "a.c", "int main() { assert(input() != 3 || 1); }\n"
+        self.file(name, text)
+        for row in (report("1:14: unknown (budget 2000 spent)"), report("1:14: found [3]"), report("1:15: proved"), {"status": 7},
+                    {"output": "refused 1:1: bad byte\n", "status": 3}):
+            program = self.stand_in({f"check --workers 1 --budget 2000|{text}": report("1:14: proved"), "check": row})
+            self.assertEqual(self.lines([name, "--reach"], program), (["1 file: 1 proved, 0 can fail, 0 not settled"], 0))
+
     def test_same_places(self) -> None:
         """the source that is asked has each byte but the condition's in its place"""
         text = b"int main() {\n  assert((1 +\n 2) == f(3)) ; /* ) */ assert(0);\n}\n"

@@ -69,6 +69,15 @@ class Ends(Case):
         for value in (-2**63, -2**63 + 1, -8, -7, -1, 0, 1, 8, 2**63 - 1):
             self.assertEqual(load(text).run((value,), FUEL).line(), replayed(text, (value,), FUEL))
 
+    def test_operators(self) -> None:
+        """each operator gives what it gives in the replay"""
+        whole = [f"(a {it} b)" for it in ("+", "-", "<", "<=", ">", ">=", "==", "!=", "&&", "||")]
+        whole += ["(a * 3)", "(-2 * b)", "(!a)", "(!!b)", "(- a)", "(+ b)", "(a / 3)", "(b % 4)", "(a && input())", "(b || input())"]
+        for expression in whole:
+            text = f"int main() {{ int a = input(); int b = input(); return {expression}; }}\n"
+            for inputs in ((0, 0, 5), (0, 3, 5), (3, 0, 5), (-4, 3, 5), (7, 7, 0)):
+                self.assertEqual(load(text).run(inputs, FUEL).line(), replayed(text, inputs, FUEL), expression)
+
     def test_deep_recursion(self) -> None:
         """a failure 20,000 calls deep is told"""
         text = "int f(int n) { if (n == 0) { assert(n != 0); } return f(n - 1); }\nint main() { return f(input()); }\n"
