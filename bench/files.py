@@ -3,7 +3,7 @@ import argparse
 import os
 import sys
 import time
-from collections import Counter
+from collections import Counter, defaultdict
 from collections.abc import Callable
 from concurrent.futures import ThreadPoolExecutor
 
@@ -23,18 +23,19 @@ class Clock:
     """Seconds by stage."""
 
     def __init__(self) -> None:
-        self.seconds: Counter[str] = Counter()
+        self.seconds: defaultdict[str, float] = defaultdict(float)
         self.asked: Counter[str] = Counter()
 
     def teller(self) -> Callable[[str], None]:
         """What is told which stage a file is at; the last call says that it is done."""
-        now = ["", time.monotonic()]
+        begun: list[tuple[str, float]] = [("", time.monotonic())]
 
         def tell(stage: str) -> None:
+            before, since = begun.pop()
             after = time.monotonic()
-            self.seconds[str(now[0])] += after - float(now[1])  # type: ignore[assignment]
-            self.asked[stage] += stage != now[0]
-            now[:] = [stage, after]  # type: ignore[list-item]
+            self.seconds[before] += after - since
+            self.asked[stage] += stage != before
+            begun.append((stage, after))
         return tell
 
 

@@ -72,7 +72,7 @@ LOG: Schema = {
     "type": "object", "required": ["version", "runs"],
     "properties": {"$schema": TEXT, "version": {"enum": ["2.1.0"]}, "runs": {"type": "array", "items": RUN}},
 }
-TYPES = {"object": dict, "array": list, "string": str, "integer": int, "boolean": bool}
+TYPES: dict[str, Any] = {"object": dict, "array": list, "string": str, "integer": int, "boolean": bool}
 
 
 def faults(value: Any, schema: Schema = LOG, at: str = "log") -> list[str]:

@@ -64,11 +64,11 @@ class Baseline(Case):
         verdicts = [f"{line + shift}:3: {it}" for line, it in ((2, first), (3, second))]
         return {"check": report(*verdicts), "replay": {"output": "starved, inputs used 0\n", "status": 2}}
 
-    def status(self, text: str, *verdicts: str, shift: int = 0, words: tuple[str, ...] = ()) -> tuple[int, str]:
+    def status(self, text: str, first: str, second: str, shift: int = 0, words: tuple[str, ...] = ()) -> tuple[int, str]:
         """The status and the last line with a baseline."""
         name = self.file("a.c", text)
         lines, status = self.lines([os.path.relpath(name, self.room), "--quick", "--baseline", "known", *words],
-                                   self.stand_in(self.table(*verdicts, shift=shift)))
+                                   self.stand_in(self.table(first, second, shift)))
         return status, lines[-1].split(": ")[1]
 
     def test_baseline(self) -> None:

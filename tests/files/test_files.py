@@ -89,8 +89,10 @@ class Statuses(Case):
     def test_words(self) -> None:
         """words that are no command end with status 4, and nothing is run"""
         program = self.stand_in({})
-        for words in ([], ["--tim", "3", "a.c"], ["--time", "0", "a.c"], ["-j", "0", "a.c"], ["--format", "xml", "a.c"], ["-", "-"],
-                      ["--update-baseline", "a.c"], ["--recheck", "x", "--quick"], ["--engine", "cvc", "a.c"], ["--nothing", "a.c"]):
+        wrong: list[list[str]] = [
+            [], ["--tim", "3", "a.c"], ["--time", "0", "a.c"], ["-j", "0", "a.c"], ["--format", "xml", "a.c"], ["-", "-"],
+            ["--update-baseline", "a.c"], ["--recheck", "x", "--quick"], ["--engine", "cvc", "a.c"], ["--nothing", "a.c"]]
+        for words in wrong:
             done = self.run_command(words, program)
             self.assertEqual((done.returncode, done.stdout), (4, b""), words)
             self.assertIn(b"smash-files: ", done.stderr)

@@ -10,8 +10,8 @@ import unittest
 
 from setting import COMMAND, Case, report
 
-# What the sleeping children of stand-ins sleep, so that they are told apart from all else.
-MARK = "86400.25"
+# What the sleeping children of stand-ins sleep, so that those of this run are told apart from all else.
+MARK = f"86400.{os.getpid()}"
 SOURCE = "int main() {\n  int x = input();\n  assert(x != 41);\n  assert(x != 12345678);\n  assert(x == x);\n}\n"
 FIRST, SWEEP, SECOND = "check --workers 1 --budget 2000", "sweep --edges 5000", "check --workers 1 --budget 20000"
 OPEN = ("3:3: unknown (budget 2000 spent)", "4:3: unknown (budget 2000 spent)", "5:3: unknown (solver limit: rows)")
@@ -96,7 +96,15 @@ class Stages(Case):
         self.assertEqual({source for _, source in self.asked()}, {SOURCE})
 
 
-class Limits(Case):
+class Alone(Case):
+    """A test that leaves no sleeping child behind, not even where what is tested does."""
+
+    def setUp(self) -> None:
+        super().setUp()
+        self.addCleanup(lambda: [os.kill(int(it), signal.SIGKILL) for it in sleeping()])
+
+
+class Limits(Alone):
     """What a limit leaves."""
 
     def test_limit(self) -> None:
@@ -147,7 +155,7 @@ class Limits(Case):
         self.assertEqual(sleeping(), [])
 
 
-class Signals(Case):
+class Signals(Alone):
     """What a signal leaves."""
 
     def test_signals(self) -> None:
@@ -169,7 +177,7 @@ class Signals(Case):
             self.assertEqual(sleeping(), [])
 
 
-class EngineStage(Case):
+class EngineStage(Alone):
     """The stage from the outside, with a stand-in for it."""
 
     def copy(self, script: str) -> str:
