@@ -4,9 +4,11 @@ base, globals that are hidden, loops of each kind, recursion, and sums at the en
 import random
 from dataclasses import dataclass, field
 
-GAPS = (" ", " ", " ", "\n", "\t", " /* a comment; assert(0); */ ", " // to the end\n", "\r\n", "\n#include <assert.h>\n", "\f", "\v")
+GAPS = (
+    " ", " ", " ", "\n", "\t", " /* a comment; assert(0); */ ", " // to the end\n", "\r\n", "\n#include <assert.h>\n", "\f", "\v")
 TYPES = ("int", "long", "long long", "long int", "long long int")
-LITERALS = ("0", "1", "2", "3", "7", "010", "0x1F", "0XaL", "5ll", "100LL", "9223372036854775807", "0x7fffffffffffffff", "4611686018427387904")
+LITERALS = ("0", "1", "2", "3", "7", "010", "0x1F", "0XaL", "5ll", "100LL", "9223372036854775807",
+            "0x7fffffffffffffff", "4611686018427387904")
 COMPARISONS = ("<", "<=", ">", ">=", "==", "!=")
 
 
@@ -54,7 +56,8 @@ class Maker:
         if how < 0.5:
             return self.joined("(", a, self.one("+", "-"), b, ")")
         if how < 0.57:
-            return self.joined(*((self.constant(), "*", "(", a, ")") if self.chance.random() < 0.5 else ("(", a, ")", "*", self.constant())))
+            is_first = self.chance.random() < 0.5
+            return self.joined(*((self.constant(), "*", "(", a, ")") if is_first else ("(", a, ")", "*", self.constant())))
         if how < 0.64:
             return self.joined("(", a, ")", self.one("/", "%"), self.constant())
         if how < 0.78:
@@ -96,7 +99,7 @@ class Maker:
         """A declaration of one or two variables."""
         parts = []
         for _ in range(self.chance.randint(1, 2)):
-            if self.slots >= 20:
+            if self.slots >= 20 or len(self.scopes[-1]) >= 8:
                 break
             value = self.joined("=", self.whole(2)) if self.chance.random() < 0.7 else ""
             name = self.fresh()

@@ -8,7 +8,7 @@ import sys
 import time
 import unittest
 
-from setting import COMMAND, Case, report
+from setting import COMMAND, GRAPHS, TOP, Case, report
 
 # What the sleeping children of stand-ins sleep, so that those of this run are told apart from all else.
 MARK = f"86400.{os.getpid()}"
@@ -236,6 +236,16 @@ class EngineStage(Alone):
         states = self.states(script, {}, ("--time", "3600", "--stage-time", limit))
         self.assertEqual(states, [("not settled", f"{limit} s in z3")] * 3)
         self.assertEqual(sleeping(), [])
+
+    @unittest.skipUnless(GRAPHS and shutil.which("z3") and os.path.isdir(os.path.join(TOP, "outside")), "there is no engine")
+    def test_engine(self) -> None:
+        """the engine that is installed proves what the program alone doesn't, and its proof is kept and rechecked"""
+        text = "int main() {\n  int n = input(); int up = 0; int down = n;\n  assume(n >= 0);\n  while (down > 0) { up++; down--; }\n"
+        name = self.file("a.c", text + "  assert(up + down == n);\n}\n")
+        words = ["--time", "600", "--stage-time", "20", "--engine", "z3", "--graphs", GRAPHS]
+        lines, status = self.lines([name, "--verbose", "--bundle", "kept", *words])
+        self.assertEqual((lines[0].split(", kept")[0], status), (f"{name}:5:3: note: proved by recheck, z3", 0))
+        self.assertEqual(self.lines(["--recheck", "kept"]), (["1 file: 1 proved, 0 can fail, 0 not settled"], 0))
 
     def test_not_there(self) -> None:
         """an engine that is asked for and isn't there is told, with status 70"""
