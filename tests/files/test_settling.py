@@ -240,11 +240,11 @@ class EngineStage(Alone):
     @unittest.skipUnless(GRAPHS and shutil.which("z3") and os.path.isdir(os.path.join(TOP, "outside")), "there is no engine")
     def test_engine(self) -> None:
         """the engine that is installed proves what the program alone doesn't, and its proof is kept and rechecked"""
-        text = "int main() {\n  int n = input(); int up = 0; int down = n;\n  assume(n >= 0);\n  while (down > 0) { up++; down--; }\n"
-        name = self.file("a.c", text + "  assert(up + down == n);\n}\n")
+        with open(os.path.join(TOP, "examples", "wide.c"), encoding="utf-8") as file:
+            name = self.file("a.c", file.read())
         words = ["--time", "600", "--stage-time", "20", "--engine", "z3", "--graphs", GRAPHS]
         lines, status = self.lines([name, "--verbose", "--bundle", "kept", *words])
-        self.assertEqual((lines[0].split(", kept")[0], status), (f"{name}:5:3: note: proved by recheck, z3", 0))
+        self.assertEqual((lines[0].split(", kept")[0], status), (f"{name}:6:5: note: proved by recheck, z3", 0))
         self.assertEqual(self.lines(["--recheck", "kept"]), (["1 file: 1 proved, 0 can fail, 0 not settled"], 0))
 
     def test_not_there(self) -> None:
