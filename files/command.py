@@ -179,7 +179,8 @@ def main(given: Sequence[str]) -> int:
     words = words_of(given)
     processes = Processes()
     for number in SIGNALS:
-        signal.signal(number, on_signal)
+        if signal.getsignal(number) != signal.SIG_IGN:
+            signal.signal(number, on_signal)
     try:
         program = Program(find_program(words.program), processes)
         return Command(words, program, engine_of(words, program)).run()

@@ -74,7 +74,8 @@ class Baseline(Case):
     def test_baseline(self) -> None:
         """what is known isn't told and doesn't count, also where lines moved; what is new does"""
         text, unknown, found = self.TEXT, "unknown (budget 2000 spent)", "found [3]"
-        self.assertEqual(self.status(text, unknown, "proved", words=("--update-baseline",)), (0, "1 proved, 0 can fail, 0 not settled, 1 known"))
+        kept = self.status(text, unknown, "proved", words=("--update-baseline",))
+        self.assertEqual(kept, (0, "1 proved, 0 can fail, 0 not settled, 1 known"))
         self.assertEqual(self.status(text, unknown, "proved"), (0, "1 proved, 0 can fail, 0 not settled, 1 known"))
         self.assertEqual(self.status("\n" + text, unknown, "proved", shift=1)[0], 0)
         self.assertEqual(self.status(text, unknown, unknown), (2, "0 proved, 0 can fail, 1 not settled, 1 known"))
@@ -223,7 +224,8 @@ class Proofs(Case):
 
     def test_not_kept(self) -> None:
         """an assertion that is proved by a stage without a proof is told, and its verdict stands"""
-        program = self.stand_in({"check": report("4:3: proved", "5:3: proved", "6:3: proved"), "bundle": {"output": "4:3: unknown (budget 20000 spent)\n", "status": 2}})
+        program = self.stand_in({"check": report("4:3: proved", "5:3: proved", "6:3: proved"),
+                                 "bundle": {"output": "4:3: unknown (budget 20000 spent)\n", "status": 2}})
         lines, status = self.lines(["--bundle", "kept", self.file("a.c", self.TEXT)], program)
         self.assertEqual(status, 0)
         self.assertIn("warning: 4:3: proved by check 2000, and no proof of it could be kept", lines[0])

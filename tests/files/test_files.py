@@ -81,7 +81,8 @@ class Statuses(Case):
         """the status is that of the worst file"""
         for name, text in (("good.c", GOOD), ("bad.c", BAD), ("old.c", OLD), ("open.c", "open")):
             self.file(name, text)
-        program = self.stand_in(by_text(GOOD, BAD, OLD) | {"check --workers 1 --budget 2000|open": report("1:1: unknown (budget 2000 spent)")})
+        unknown = {"check --workers 1 --budget 2000|open": report("1:1: unknown (budget 2000 spent)")}
+        program = self.stand_in(by_text(GOOD, BAD, OLD) | unknown)
         for names, status in (("good", 0), ("good open", 2), ("bad good open", 1), ("good old bad open", 3), ("none", 3)):
             words = [f"{it}.c" for it in names.split()]
             self.assertEqual(self.run_command([*words, "--quick"], program).returncode, status, names)

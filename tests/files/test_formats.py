@@ -121,7 +121,8 @@ class Gcc(Case):
         for status, text in rows.items():
             program = self.stand_in({"check": {"output": "4:5: proved\n", "status": status}})
             self.assertEqual(self.lines([name], program), (
-                [f"{name}: warning: not settled: the program ended with {text}", "1 file: 0 proved, 0 can fail, 0 not settled, 1 stopped"], 2))
+                [f"{name}: warning: not settled: the program ended with {text}",
+                 "1 file: 0 proved, 0 can fail, 0 not settled, 1 stopped"], 2))
         program = self.stand_in({"check": {"output": "4:5: proved\n", "signal": 11}})
         self.assertIn("the program was ended by signal 11", self.lines([name], program)[0][0])
 
@@ -175,7 +176,8 @@ class Editors(Case):
         other = self.file("old.c", "int main() { return a[1]; }\n")
         program = self.stand_in({
             f"check --workers 1 --budget 2000|{SOURCE}": report("4:5: found [7]", "6:2: unknown (budget 2000 spent)"),
-            "check": {"output": "refused 1:22: bad byte\n", "status": 3}, "sweep": report("4:5: found [7]", "6:2: unknown (sweep 5000 spent)"),
+            "check": {"output": "refused 1:22: bad byte\n", "status": 3},
+            "sweep": report("4:5: found [7]", "6:2: unknown (sweep 5000 spent)"),
             "replay": {"output": "failed 4:5, inputs used 1\n", "status": 1}})
         lines, _ = self.lines([name, other, "--quick"], program)
         self.file("errors", "\n".join(lines) + "\n")
@@ -273,7 +275,8 @@ class Machines(Case):
         import json
         names, program = self.whole()
         held = self.run_command([*names, "--quick", "--format", "sarif"], program).stdout.decode()
-        for old, new in (('"version": "2.1.0"', '"version": "2.2.0"'), ('"level": "error"', '"level": "fatal"'), ('"startLine": 4', '"startLine": 0'),
+        for old, new in (('"version": "2.1.0"', '"version": "2.2.0"'), ('"level": "error"', '"level": "fatal"'),
+                         ('"startLine": 4', '"startLine": 0'),
                          ('"kind": "fail"', '"kind": "pass"'), ('"ruleIndex": 0', '"ruleIndex": 1'), ('"uri": "a', '"uri": "a b'),
                          ('"text": "assertion', '"txt": "assertion'), ('"executionSuccessful": false', '"executionSuccessful": 0')):
             if old == '"uri": "a':

@@ -11,21 +11,35 @@ from files.reports import Refusal
 # A program for each text and token of the table that isn't one of these forms: a word behind a brace, a byte in an
 # expression, a name that is called.
 PROGRAMS = {
-    ("bad byte", "["): "int main() { int a[4]; }", ("bad byte", "]"): "int main() { return 1]; }",
+    ("bad byte", "["): "int main() { int a[4]; }",
+    ("bad byte", "]"): "int main() { return 1]; }",
     ("bad byte", "BOM"): "\xef\xbb\xbfint main() {}", ("bad byte", '"'): 'int main() { assert(1 && "text"); }',
-    ("bad byte", "#"): "#define N 10\nint main() {}", ("bad byte", "\\"): "#include <a.h>\nint main() { return 1 \\\n; }",
-    ("bad byte", ":"): "int main() { again: return 1; }", ("bad byte", "'"): "int main() { return 'a'; }",
-    ("unexpected token", "*"): "int main() { *p = 1; }", ("unexpected token", ">"): "int main() { int p; int x; x = p->x; }",
-    ("unexpected token", "int"): "int main() { return (int) 1; }", ("unexpected token", "long"): "int main() { return (long) 1; }",
-    ("unexpected token", "="): "int main() { int x; int y; x = y = 3; }", ("unexpected token", "++"): "int main() { int x; f(x++); }",
-    ("unexpected token", "--"): "int main() { int x; f(x--); }", ("unexpected token", "+="): "int main() { int x; f(x += 1); }",
-    ("unexpected token", "-="): "int main() { int x; f(x -= 1); }", ("unexpected token", ","): "int main() { int i; for (i = 0, i = 1; ; ) {} }",
-    ("unexpected token", "<"): "int main() { int x; x = x << 2; }", ("unexpected token", "NAME"): "int f() {} int g = f(); int main() {}",
-    ("unexpected token", "+"): "int g = 1 + 1; int main() {}", ("unexpected token", "-"): "int g = 1 - 1; int main() {}",
-    ("unexpected token", "/"): "int g = 1 / 1; int main() {}", ("unexpected token", "%"): "int g = 1 % 1; int main() {}",
-    ("product of two non-constants", ""): "int main() { int x; x = x * x; }", ("divisor not allowed", ""): "int main() { int x; x = 6 / x; }",
-    ("unknown name", "NAME"): "int f(int); int main() { return f(1); }", ("main has the wrong shape", ""): "int main(int n) {}",
-    ("no main", ""): "int f(int n) { return n; }", ("void used as value", ""): "void f() {} int main() { int x; x = f(); }",
+    ("bad byte", "#"): "#define N 10\nint main() {}",
+    ("bad byte", "\\"): "#include <a.h>\nint main() { return 1 \\\n; }",
+    ("bad byte", ":"): "int main() { again: return 1; }",
+    ("bad byte", "'"): "int main() { return 'a'; }",
+    ("unexpected token", "*"): "int main() { *p = 1; }",
+    ("unexpected token", ">"): "int main() { int p; int x; x = p->x; }",
+    ("unexpected token", "int"): "int main() { return (int) 1; }",
+    ("unexpected token", "long"): "int main() { return (long) 1; }",
+    ("unexpected token", "="): "int main() { int x; int y; x = y = 3; }",
+    ("unexpected token", "++"): "int main() { int x; f(x++); }",
+    ("unexpected token", "--"): "int main() { int x; f(x--); }",
+    ("unexpected token", "+="): "int main() { int x; f(x += 1); }",
+    ("unexpected token", "-="): "int main() { int x; f(x -= 1); }",
+    ("unexpected token", ","): "int main() { int i; for (i = 0, i = 1; ; ) {} }",
+    ("unexpected token", "<"): "int main() { int x; x = x << 2; }",
+    ("unexpected token", "NAME"): "int f() {} int g = f(); int main() {}",
+    ("unexpected token", "+"): "int g = 1 + 1; int main() {}",
+    ("unexpected token", "-"): "int g = 1 - 1; int main() {}",
+    ("unexpected token", "/"): "int g = 1 / 1; int main() {}",
+    ("unexpected token", "%"): "int g = 1 % 1; int main() {}",
+    ("product of two non-constants", ""): "int main() { int x; x = x * x; }",
+    ("divisor not allowed", ""): "int main() { int x; x = 6 / x; }",
+    ("unknown name", "NAME"): "int f(int); int main() { return f(1); }",
+    ("main has the wrong shape", ""): "int main(int n) {}",
+    ("no main", ""): "int f(int n) { return n; }",
+    ("void used as value", ""): "void f() {} int main() { int x; x = f(); }",
 }
 
 
@@ -72,7 +86,8 @@ class Table(Case):
         text = 'typedef int t; // struct\n/* enum */\nstatic int g;\nint main() { switch (g) { case 1: f("union", \'x\'); } }\n'
         lines, status = self.lines([self.file("a.c", text)])
         notes = [it.split("/")[-1] for it in lines if ": note: " in it]
-        self.assertEqual([it.split(": note: in place of ")[0] for it in notes], ["a.c:4:33", "a.c:1:1", "a.c:3:1", "a.c:4:14", "a.c:4:37", "a.c:4:46"])
+        self.assertEqual([it.split(": note: in place of ")[0] for it in notes], [
+            "a.c:4:33", "a.c:1:1", "a.c:3:1", "a.c:4:14", "a.c:4:37", "a.c:4:46"])
         self.assertEqual(status, 3)
 
 

@@ -30,6 +30,12 @@ def sleeping() -> list[str]:
     return found
 
 
+def heeded() -> None:
+    """Signals end a process, also where these tests run in the background of a shell that has it ignore them."""
+    for number in (signal.SIGINT, signal.SIGTERM, signal.SIGHUP):
+        signal.signal(number, signal.SIG_DFL)
+
+
 class Stages(Case):
     """What is asked, and what is taken."""
 
@@ -101,7 +107,12 @@ class Alone(Case):
 
     def setUp(self) -> None:
         super().setUp()
-        self.addCleanup(lambda: [os.kill(int(it), signal.SIGKILL) for it in sleeping()])
+        self.addCleanup(self.wake)
+
+    def wake(self) -> None:
+        """Ends the sleeping children of this run."""
+        for it in sleeping():
+            os.kill(int(it), signal.SIGKILL)
 
 
 class Limits(Alone):
@@ -166,7 +177,8 @@ class Signals(Alone):
                 "sleep": 3600, "child": MARK}})
         for number in (signal.SIGINT, signal.SIGTERM, signal.SIGHUP):
             words = [sys.executable, COMMAND, "--program", program, "--engine", "none", "-j", "3", "--verbose", *names]
-            child = subprocess.Popen(words, stdout=subprocess.PIPE, stderr=subprocess.PIPE, start_new_session=True)
+            child = subprocess.Popen(words, stdout=subprocess.PIPE, stderr=subprocess.PIPE, start_new_session=True,
+                                     preexec_fn=heeded)
             while len(sleeping()) < 3:
                 time.sleep(0.05)
             child.send_signal(number)
@@ -194,8 +206,8 @@ class EngineStage(Alone):
     def states(self, script: str, recheck: dict[str, object], words: tuple[str, ...] = ()) -> list[tuple[str, str]]:
         """What is known of each assertion with such an engine and such a `recheck`, and by what or why."""
         top = self.copy(script)
-        program = self.stand_in({"check": report(*OPEN), "sweep": report(*OPEN), "replay": {"output": "starved, inputs used 0\n", "status": 2},
-                                 "recheck": recheck})
+        program = self.stand_in({"check": report(*OPEN), "sweep": report(*OPEN), "recheck": recheck,
+                                 "replay": {"output": "starved, inputs used 0\n", "status": 2}})
         path = os.path.join(self.room, "bin") + os.pathsep + os.environ["PATH"]
         done = subprocess.run(
             [sys.executable, os.path.join(top, "smash-files"), "--program", program, "--format", "json", *words, self.file("a.c", SOURCE)],
@@ -214,12 +226,13 @@ class EngineStage(Alone):
         proved, rejected = ("proved", "recheck, z3"), ("not settled", "z3's proof isn't accepted")
         self.assertEqual(self.states(script, recheck), [rejected, proved, rejected])
         self.assertEqual(self.states(script, recheck, ("--engine", "none"))[1][0], "not settled")
-        for line, status in (("accepted 4:3", 2), ("rejected claim 0", 2), ("accepted 4:3\naccepted 4:3", 0), ("accepted 4:4", 0), ("accepted 4:3 ", 0)):
+        for line, status in (("accepted 4:3", 2), ("rejected claim 0", 2), ("accepted 4:3\naccepted 4:3", 0), ("accepted 4:4", 0),
+                             ("accepted 4:3 ", 0)):
             self.assertEqual(self.states(script, {"output": line + "\n", "status": status}), [rejected] * 3, line)
 
     def test_of_another_text(self) -> None:
         """a proof of another text or another assertion isn't taken, whatever `recheck` says of it"""
-        for change in ("out = out.replace(b'41', b'42')\n", "out = out.replace(b'assert 2\\n', b'assert 3\\n')\n", "out = out + b''\nout = out[1:]\n"):
+        for change in ("out = out.replace(b'41', b'42')\n", "out = out.replace(b'assert 2\\n', b'assert 3\\n')\n", "out = out[1:]\n"):
             script = self.BUNDLE + change + "sys.stdout.buffer.write(out)\n"
             self.assertEqual(self.states(script, {"output": "accepted 4:3\n"})[1], ("not settled", "z3's proof isn't accepted"), change)
 

@@ -65,7 +65,8 @@ class Ends(Case):
 
     def test_quotients(self) -> None:
         """quotients and remainders at the ends of the range, and of either sign, are those of the replay"""
-        text = "int main() { int x = input(); int a = x / -3; int b = x % -3; int c = x / 7; int d = x % 7; return (x / -1) + a + b + c + d; }\n"
+        text = "int main() { int x = input(); int a = x / -3; int b = x % -3; int c = x / 7; int d = x % 7;\n"
+        text += "return (x / -1) + a + b + c + d; }\n"
         for value in (-2**63, -2**63 + 1, -8, -7, -1, 0, 1, 8, 2**63 - 1):
             self.assertEqual(load(text).run((value,), FUEL).line(), replayed(text, (value,), FUEL))
 
