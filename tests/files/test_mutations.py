@@ -1,0 +1,115 @@
+"""Mutations: a change of the parser or of a stage that drops or turns a verdict is caught by the tests."""
+import os
+import shutil
+import subprocess
+import sys
+import unittest
+
+from setting import HERE, TOP, Case
+
+# The file, what stands there, what stands there instead, and the tests that have to fail.
+MUTATIONS = (
+    ("reports.py", '        return Verdict(place, "proved")\n', '        return Verdict(place, "unknown", reason="budget 1 spent")\n',
+     "test_formats.Gcc.test_proved"),
+    ("reports.py", "    if it[4]:\n", "    if False:\n", "test_formats.Gcc.test_found"),
+    ("reports.py", 'return Verdict(place, "unknown", reason=it[5])', 'return Verdict(place, "proved")',
+     "test_formats.Gcc.test_unknown"),
+    ("reports.py", "    verdicts = [verdict_of(line) for line in lines]\n", "    verdicts = [verdict_of(line) for line in lines[1:]]\n",
+     "test_formats.Gcc.test_proved"),
+    ("reports.py", "[int(it) for it in summary.groups()] != counts", "False", "test_formats.Strict.test_malformed"),
+    ("reports.py", "    if status != (1 if counts[1] else 2 if counts[2] else 0):\n", "    if False:\n",
+     "test_formats.Strict.test_malformed"),
+    ("reports.py", "    if places != sorted(set(places)):\n", "    if False:\n", "test_formats.Strict.test_malformed"),
+    ("reports.py", 'int(it) for it in inner.split(", ")', 'int(it) for it in inner.split(", ")[1:]',
+     "test_formats.Gcc.test_found"),
+    ("reports.py", "    if status == 3:\n", "    if status == 33:\n", "test_formats.Gcc.test_refusals"),
+    ("reports.py", "    if status != 0:\n        return None\n    lines", "    lines",
+     "test_settling.EngineStage.test_accepted"),
+    ("reports.py", "if len(lines) == 1 else None", "if lines else None", "test_settling.EngineStage.test_accepted"),
+    ("reports.py", "    if status != REPLAY_STATUS", "    if False and status != REPLAY_STATUS",
+     "test_settling.Stages.test_lists_are_confirmed"),
+    ("settling.py", "failure_of(line) == (place, len(inputs))", "failure_of(line)",
+     "test_settling.Stages.test_lists_are_confirmed"),
+    ("settling.py", "            if it.place == place and", "            if", "test_settling.Stages.test_order"),
+    ("settling.py", "        if it.state != OPEN:\n            return\n", "", "test_settling.Stages.test_order"),
+    ("settling.py", "if state != OPEN and it.state not in (OPEN, state):", "if False:",
+     "test_settling.Stages.test_contradiction"),
+    ("settling.py", '[it.place for it in report.verdicts] != [it.place for it in self.assertions]', "False",
+     "test_settling.Stages.test_other_places"),
+    ("settling.py", '        self.report("sweep"', '        0 and self.report("sweep"',
+     "test_settling.Stages.test_order"),
+    ("settling.py", '        self.report("check"', '        0 and self.report("check"',
+     "test_settling.Stages.test_order"),
+    ("settling.py", "        self.search()\n", "", "test_settling.Stages.test_order"),
+    ("settling.py", "        if proof is None:\n", "        if False:\n", "test_settling.EngineStage.test_statuses"),
+    ("engine.py", "    if bundle_of(bundle) != (text, number):\n", "    if not bundle_of(bundle):\n",
+     "test_settling.EngineStage.test_of_another_text"),
+    ("engine.py", "== place\n", "is not None\n", "test_settling.EngineStage.test_accepted"),
+    ("engine.py", "        if ran.status != 0:\n", "        if False:\n", "test_settling.EngineStage.test_statuses"),
+    ("proofs.py", "    if held != (checked.text, it.number):\n", "    if False:\n",
+     "test_extras.Proofs.test_wrong_proofs"),
+    ("proofs.py", 'return "" if place == it.place else', 'return "" if place is None else',
+     "test_extras.Proofs.test_keep_and_recheck"),
+    ("reach.py", 'found.word == "proved"', 'found.word != "found"', "test_extras.Reach.test_unknown"),
+    ("processes.py", "        signalled(child.pid, signal.SIGKILL)\n", "",
+     "test_settling.Limits.test_children_that_stay"),
+    ("processes.py", "status = child.returncode if is_over", "status = child.returncode if True",
+     "test_settling.Limits.test_all_late"),
+    ("trace.py", "    if end != told:\n", "    if False:\n", "test_trace.Difference.test_no_trace"),
+    ("compiler.py", "            return 0 if operand(slots) else 1\n", "            return operand(slots)\n",
+     "test_trace.Ends.test_operators"),
+    ("operators.py", "return magnitude if (left < 0) == (right < 0) else -magnitude", "return left // right",
+     "test_trace.Ends.test_quotients"),
+    ("baseline.py", "key for key in keys_of(checked, it) if left[key] > 0", "key for key in keys_of(checked, it)",
+     "test_extras.Baseline.test_baseline"),
+    ("json_format.py", 'FOUND: "can fail"', 'FOUND: "proved"', "test_formats.Machines.test_json"),
+    ("sarif.py", 'result("can-fail", failing(it.inputs)', 'result("proved", failing(it.inputs)',
+     "test_formats.Machines.test_sarif"),
+)
+
+
+class Mutations(Case):
+    """A copy with one change."""
+
+    def copy(self) -> str:
+        """A copy of what is tested, beside nothing else."""
+        top = os.path.join(self.room, "copy")
+        os.makedirs(top, exist_ok=True)
+        for name in ("files", "docs"):
+            shutil.copytree(os.path.join(TOP, name), os.path.join(top, name), ignore=shutil.ignore_patterns("__pycache__"))
+        shutil.copy(os.path.join(TOP, "smash-files"), top)
+        return top
+
+    def passes(self, top: str, test: str) -> bool:
+        """Whether a test passes on a copy."""
+        done = subprocess.run([sys.executable, "-B", "-m", "unittest", "-f", test], cwd=HERE, capture_output=True,
+                              env=os.environ | {"SMASH_FILES_TOP": top}, timeout=3000)
+        return done.returncode == 0
+
+    def test_unchanged(self) -> None:
+        """an unchanged copy passes the tests that the changes have to fail"""
+        top = self.copy()
+        for test in sorted({it[3].rsplit(".", 1)[0] for it in MUTATIONS} - {"test_trace.Ends"}):
+            with self.subTest(test=test):
+                self.assertTrue(self.passes(top, test))
+
+    def test_mutations(self) -> None:
+        """each change of a stage or a parser that drops or turns a verdict fails a test"""
+        top = self.copy()
+        for name, old, new, test in MUTATIONS:
+            with self.subTest(file=name, old=old):
+                path = os.path.join(top, "files", name)
+                with open(path, encoding="utf-8") as file:
+                    whole = file.read()
+                self.assertEqual(whole.count(old), 1, f"{old} stands {whole.count(old)} times in {name}")
+                with open(path, "w", encoding="utf-8") as file:
+                    file.write(whole.replace(old, new))
+                try:
+                    self.assertFalse(self.passes(top, test), f"{test} doesn't see it")
+                finally:
+                    with open(path, "w", encoding="utf-8") as file:
+                        file.write(whole)
+
+
+if __name__ == "__main__":
+    unittest.main()
