@@ -222,7 +222,9 @@ smash: smash_main is proved and built of these sources'
 
     fresh
     echo 4 > "$room/kit/bin/slow"
-    { until_called && sleep 0.5 && printf '\003' && sleep 1; } | PATH=$with script -qec "$here/smash build" /dev/null > "$room/out"
+    # (a shell that began with SIGINT ignored, as in the background, couldn't catch it)
+    { until_called && sleep 0.5 && printf '\003' && sleep 1; } |
+        env --default-signal=INT PATH="$with" script -qec "$here/smash build" /dev/null > "$room/out"
     is 'Ctrl-C: status' $? 130
     sleep 4.5
     is 'Ctrl-C: calls of rt' "$(calls)" 1
