@@ -24,7 +24,8 @@ from outside.spacer import WITHOUT_EQUALITIES, question
 from outside.texts import Unreadable
 
 SHARE = 12
-PROVE_SECONDS = 0.5
+TEXTS = 1_000
+PROVE_SECONDS = 0.15
 WORDS = ("and", "or", "not", "<=", ">=", "<", ">", "=", "+", "-", "*", "true", "false", "let", "ite")
 
 
@@ -113,8 +114,8 @@ def cases(setting: Setting) -> Iterator[Case]:
     """A share of them, the same each time, or all."""
     both = pairs(setting.labelled)
     failing = [x for x in labels(setting.labelled) if x.truth == "found"]
-    share = 20 if setting.all else 4
     chosen = both if setting.all else both[:: len(both) // SHARE + 1]
+    share = TEXTS // len(both) + 1 if setting.all else 4
     alone = failing if setting.all else failing[:: len(failing) // SHARE + 1]
     for holds, fails in chosen:
         name = f"{holds.path.parent.name}/{holds.path.name}"
