@@ -3,7 +3,9 @@ import os
 import shutil
 import subprocess
 import sys
+import tempfile
 import unittest
+from concurrent.futures import ThreadPoolExecutor
 
 from setting import HERE, TOP, Case
 
@@ -73,8 +75,7 @@ class Mutations(Case):
 
     def copy(self) -> str:
         """A copy of what is tested, beside nothing else."""
-        top = os.path.join(self.room, "copy")
-        os.makedirs(top, exist_ok=True)
+        top = tempfile.mkdtemp(dir=self.room)
         for name in ("files", "docs"):
             shutil.copytree(os.path.join(TOP, name), os.path.join(top, name), ignore=shutil.ignore_patterns("__pycache__"))
         shutil.copy(os.path.join(TOP, "smash-files"), top)
@@ -90,22 +91,23 @@ class Mutations(Case):
         """an unchanged copy passes the tests that the changes have to fail"""
         self.assertTrue(self.passes(self.copy(), *sorted({it[3] for it in MUTATIONS})))
 
+    def fault_of(self, name: str, old: str, new: str, test: str) -> str:
+        """What is wrong with a change, tried in a copy of its own: that it can't be made, or that its test doesn't see it."""
+        top = self.copy()
+        path = os.path.join(top, "files", name)
+        with open(path, encoding="utf-8") as file:
+            whole = file.read()
+        if whole.count(old) != 1:
+            return f"{old} stands {whole.count(old)} times in {name}"
+        with open(path, "w", encoding="utf-8") as file:
+            file.write(whole.replace(old, new))
+        return f"{test} doesn't see {new} in {name}" if self.passes(top, test) else ""
+
     def test_mutations(self) -> None:
         """each change of a stage or a parser that drops or turns a verdict fails a test"""
-        top = self.copy()
-        for name, old, new, test in MUTATIONS:
-            with self.subTest(file=name, old=old):
-                path = os.path.join(top, "files", name)
-                with open(path, encoding="utf-8") as file:
-                    whole = file.read()
-                self.assertEqual(whole.count(old), 1, f"{old} stands {whole.count(old)} times in {name}")
-                with open(path, "w", encoding="utf-8") as file:
-                    file.write(whole.replace(old, new))
-                try:
-                    self.assertFalse(self.passes(top, test), f"{test} doesn't see it")
-                finally:
-                    with open(path, "w", encoding="utf-8") as file:
-                        file.write(whole)
+        with ThreadPoolExecutor(max(2, len(os.sched_getaffinity(0)))) as pool:
+            faults = list(pool.map(lambda it: self.fault_of(*it), MUTATIONS))
+        self.assertEqual([it for it in faults if it], [])
 
 
 if __name__ == "__main__":
