@@ -8,7 +8,7 @@ from setting import PROGRAM, REPOSITORY, Case
 
 from files.reports import list_text
 
-STAGE = os.environ.get("SMASH_FILES_STAGE", "0.5")
+STAGE = os.environ.get("SMASH_FILES_STAGE", "0.2")
 FOLDERS = [it for it in [os.path.join(REPOSITORY, "tests"), *os.environ.get("SMASH_LABELLED", "").split(":")]
            if it and os.path.exists(os.path.join(it, "truth.tsv"))]
 
