@@ -14,7 +14,7 @@ work_in() {
 # The program that is measured, or an end with a message.
 program_or_end() {
     program=${1:-$top/crates/smash_main/out/smash_main}
-    [ -x "$program" ] || { echo "$program isn't there: ./smash builds it" >&2; exit 70; }
+    [ -x "$program" ] || { echo "$program isn't there: ./smash build makes it" >&2; exit 70; }
 }
 
 # The commit of the crates, and a sum of what was changed since.

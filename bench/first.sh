@@ -12,7 +12,7 @@ git clone -q "$top" "$work/clone" || exit 1
 # shellcheck disable=SC2016
 unshare -m sh -c '
     [ ! -d "$1" ] || mount -t tmpfs none "$1" || exit 1
-    cd "$2" && /usr/bin/time -f "%e %U %S %M" -o ../time ./smash check < examples/sum.c
+    cd "$2" && /usr/bin/time -f "%e %U %S %M" -o ../time ./smash build
 ' sh "$kept" "$work/clone" || exit 1
 disk=$(du -cm "$work"/clone/crates/*/out "$work/clone/out" | tail -n 1 | cut -f 1)
 awk -v disk="$disk" -v processors="$(nproc)" '{
