@@ -91,6 +91,10 @@ class Settler:
         left = self.until - time.monotonic()
         return min(self.limits.stage, left if is_last else left / 2)
 
+    def short(self) -> float:
+        """The limit of a run between stages: what is left of the file's, and a second at least."""
+        return min(self.limits.stage, max(1.0, self.until - time.monotonic()))
+
     def late(self, kind: str, stage: str, seconds: float) -> None:
         """Notes that a stage was stopped, or had no time to begin."""
         for it in self.open():
@@ -136,10 +140,11 @@ class Settler:
 
     def places(self) -> Report | Refusal:
         """What a check with a budget of 1 says, which is nearly nothing but the places."""
+        seconds = self.short()
         try:
-            return self.program.check(self.text, 1, self.limits.stage)
+            return self.program.check(self.text, 1, seconds)
         except Late:
-            raise Malformed(self.limit("check 1", self.limits.stage)) from None
+            raise Malformed(self.limit("check 1", seconds)) from None
 
     def report(self, kind: str, stage: str, ask: Callable[[float], Report | Refusal]) -> None:
         """A stage that prints a report."""
@@ -184,7 +189,7 @@ class Settler:
     def confirm(self, place: tuple[int, int], inputs: tuple[int, ...], stage: str) -> None:
         """Takes a list where the program's `replay` of it fails at the place, and uses all of it."""
         try:
-            line = self.program.replay(self.text, inputs, REPLAY_FUEL, self.limits.stage)
+            line = self.program.replay(self.text, inputs, REPLAY_FUEL, self.short())
         except (Late, Malformed):
             return
         for it in self.assertions:
