@@ -68,7 +68,7 @@ none_plain : (bytes : List ℕ) (ts : List the_token.Token) → (let x : Answers
 none_plain bytes [] e k t g = cc
 none_plain bytes (x ∷ xs) e k t g = cc
 
--- behind a text that gives no token
+-- after a text that gives no token
 skipped : (front text rest : List ℕ) (p : Place) (ts : List the_token.Token) → p.offset ≡ length front →
     ((more : List ℕ) → (after p text).offset ≡ length more → ArePlain (more ++ rest) ts) → ArePlain (front ++ (text ++ rest)) ts
 skipped front text rest p ts o rec =

@@ -24,7 +24,7 @@ globals_item : {ts names us : List PureToken} {t : PureToken} {gs : List Global}
     IsGlobal us g → Marked punct.Semicolon t → Item (ts ++ (names ++ (us ++ t ∷ []))) (tree.globals (gs ++ g ∷ []))
 globals_item {t = t} ty before one k = record { deep = _; is = grammar.globals ty (all_globals before (grammar.last one t k.is)) }
 
--- behind a global
+-- after a global
 pub read_reads : {ts names us : List PureToken} {gs : List Global} {g : Global} → IsType ts → GlobalsText names gs → IsGlobal us g →
     (k : TokenKind) (x : Identifier) → Reaches (global_read k (gs ++ g ∷ [])) ((ts ++ (names ++ us)) ++ token k x ∷ [])
 read_reads ty before one (kind.Mark punct.Comma) x = reads_at (next_global ty (globals_text before one (the_mark punct.Comma x)))
@@ -36,7 +36,7 @@ read_reads ty before one (kind.Literal n) x = tt
 read_reads ty before one (kind.Word w) x = tt
 read_reads ty before one kind.Name x = tt
 
--- behind its name
+-- after its name
 pub named_reads : {ts names : List PureToken} {gs : List Global} (n : Identifier) → IsType ts → GlobalsText names gs →
     (k : TokenKind) (x : Identifier) → Reaches (global_named k n gs) ((ts ++ (names ++ a_name n ∷ [])) ++ token k x ∷ [])
 named_reads n ty before (kind.Mark punct.Assign) x = reads_at (assigned_global {n = n} ty before (the_mark punct.Assign x))
@@ -46,14 +46,14 @@ named_reads n ty before (kind.Literal v) x = tt
 named_reads n ty before (kind.Word w) x = tt
 named_reads n ty before kind.Name x = tt
 
--- behind the name of an item
+-- after the name of an item
 pub titled_reads : {outer void : Bool} {n : Identifier} {text : List PureToken} → TitleText outer void n text →
     (k : TokenKind) (x : Identifier) → Reaches (first_global outer void k n) (text ++ token k x ∷ [])
 titled_reads {n = n} (title absent (grammar.typed ty)) k x = named_reads n ty no_globals k x
 titled_reads (title absent (grammar.void h)) k x = tt
 titled_reads (title (present e) r) k x = tt
 
--- behind a sign
+-- after a sign
 pub signed_reads : {ts names : List PureToken} {t u : PureToken} {gs : List Global} (n : Identifier) (minus : Bool) → IsType ts →
     GlobalsText names gs → Marked punct.Assign t → Marked (sign_mark minus) u → (k : TokenKind) (x : Identifier) →
     Reaches (global_signed minus k n gs) ((ts ++ (names ++ a_name n ∷ t ∷ u ∷ [])) ++ token k x ∷ [])
@@ -65,7 +65,7 @@ signed_reads n minus ty before a m (kind.Mark p) x = tt
 signed_reads n minus ty before a m (kind.Word w) x = tt
 signed_reads n minus ty before a m kind.Name x = tt
 
--- behind `=`
+-- after `=`
 pub assigned_reads : {ts names : List PureToken} {t : PureToken} {gs : List Global} (n : Identifier) → IsType ts → GlobalsText names gs →
     Marked punct.Assign t → (k : TokenKind) (x : Identifier) →
     Reaches (global_assigned k n gs) ((ts ++ (names ++ a_name n ∷ t ∷ [])) ++ token k x ∷ [])

@@ -71,7 +71,7 @@ unsigned_fails ts at f l p m n gs = subst (λ o. Tells ts f o) (stops (drop at t
     stops [] l p h = refl
     stops (t ∷ us) l p h = sym (limited-no t us (GlobalAssigned n gs) (go t.kind l p h))
 
--- no value stands behind the name
+-- no value follows the name
 pub limited-valueless : (rest : List PureToken) (n : Identifier) (gs : List Global) → Lacks (kind.Mark punct.Assign) rest →
     limited rest (GlobalNamed n gs) ≡ limited rest (GlobalRead (gs ++ global_bare n ∷ []))
 limited-valueless [] n gs l = refl
@@ -122,7 +122,7 @@ unfinished_globals ts at f gs c m = subst (λ o. Tells ts f o) (stops (drop at t
     stops [] c s = refl
     stops (t ∷ us) c s = sym (limited-no t us (GlobalRead gs) (go t.kind c s))
 
--- behind the name of an item, where no parenthesis stands
+-- after the name of an item, where no parenthesis follows
 
 pub limited-first : (rest : List PureToken) (n : Identifier) → Lacks (kind.Mark punct.OpenParenthesis) rest →
     limited rest (Titled (new_head false false n)) ≡ limited rest (GlobalNamed n [])

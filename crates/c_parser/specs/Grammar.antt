@@ -1,8 +1,6 @@
 -- The grammar, as a relation between whole lists of tokens and trees. Beside each text stands a
--- list that says for each of
--- its tokens whether it is too deep: past the limit of operators in a full expression, or the first
--- of a statement that
--- nests too deep.
+-- list that says for each of its tokens whether it is too deep: past the limit of operators in a
+-- full expression, or the first of a statement that nests too deep.
 use Rattle.std.specs.Prelude.{◌≡◌, ℕ, ◌+◌, ◌≤◌, nat_le, List, [], ◌∷◌, ◌++◌, Bool, true, false, ◌&&◌, if◌then◌else◌, Option, Some, None, slice_get, option_map, ℤ, neg_ℤ}
 use Rattle.c_tree.specs.declared.tree.Pos.{Pos}
 use Rattle.c_tree.specs.declared.tree.Op.{Op}
@@ -84,7 +82,7 @@ is_counted kind.Name = false
 is_counted (kind.Literal n) = false
 is_counted (kind.Word w) = false
 
--- in a full expression, of which so many were counted: which tokens are past the limit
+-- in a full expression, of which n tokens were counted: which of the rest are past the limit
 abbrev pub counted : ℕ → List PureToken → List Bool
 counted n [] = []
 counted n (t ∷ ts) = (is_counted t.kind && nat_le max_operators n)
@@ -288,7 +286,7 @@ pub data IsForInit : List PureToken → List Bool → ForInit → Type 0 where
 
 -- Statements
 
--- the statement ends in an `if` without `else`, so that an `else` behind it would belong to that
+-- the statement ends in an `if` without `else`, so that an `else` after it would belong to that
 -- one
 abbrev pub takes_else : StatementTree → Bool
 takes_else (tree.if_then e a) = true

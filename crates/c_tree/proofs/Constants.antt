@@ -1,4 +1,4 @@
--- A constant expression comes to its value before the run, or it stops.
+-- A constant expression has the value known before the run, or it stops.
 use Rattle.std.proofs.Common.{◌≡◌, Bool, true, false, ◌&&◌, Option, None, Some, ℤ, ◌+ℤ◌, ◌-ℤ◌, ◌*ℤ◌, neg_ℤ, refl, subst}
 use Rattle.std.specs.Prelude.{option_and_then, if◌then◌else◌}
 use Rattle.c_tree.specs.declared.tree.Op.{Op}

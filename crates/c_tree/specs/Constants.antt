@@ -1,4 +1,4 @@
--- Which expressions have a value before the run, and what they come to.
+-- Which expressions have a value before the run, and what it is.
 use Rattle.std.specs.Prelude.{Option, None, Some, ℤ, neg_ℤ}
 use Rattle.c_tree.specs.declared.tree.Op.{Op}
 use Rattle.c_tree.specs.Operators.{exact, operation}
@@ -25,7 +25,7 @@ constant_value (source.negate e) = negation_of (constant_value e)
 constant_value (source.not e) = None
 constant_value (source.binary op a b) = operation_of op (constant_value a) (constant_value b)
 
--- what a constant comes to: its value, or the run stops
+-- what a constant gives: its value, or the run stops
 abbrev pub Known : Option ℤ → Relation ℤ
 Known (Some c) = Gives c
 Known None = Ends stopped

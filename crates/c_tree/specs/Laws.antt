@@ -33,7 +33,7 @@ ReplaysRun =
     Replays P ins fuel (Comes out) used →
     (d : ℕ) × (after : List ℤ) × Runs P d P.main [] P.globals (take used ins) out after
 
--- in each run a constant expression comes to its value before the run, or stops where it has none
+-- in each run a constant expression has the value known before the run, or stops where it has none
 abbrev pub ConstantsAreKnown : Type 0
 ConstantsAreKnown =
     (P : PureProgram) (d : ℕ) (e : Expression) (s : State) → IsTrue (is_constant e) →

@@ -28,7 +28,7 @@ fn told(alloc: Global, text: &str) -> Result<(&'static str, usize), Fail> {
     })
 }
 
-/// A text, a middle part so many times, and a text.
+/// A text, a middle part `count` times, and a text.
 fn repeated(alloc: Global, head: &str, part: &str, count: u32, tail: &str) -> Result<String, Fail> {
     let mut text = String::from_str(alloc, head)?;
     for _ in 0..count {

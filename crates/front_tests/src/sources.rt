@@ -11,7 +11,7 @@ pub fn answer(alloc: Global, source: &str) -> Result<String, AllocError> {
     }
 }
 
-/// A text, a part so many times, and a text.
+/// A text, a part `count` times, and a text.
 pub fn repeated(
     alloc: Global,
     head: &str,

@@ -176,7 +176,7 @@ module _ (P : PureProgram) where
   test_keeps false t a b m o h =
       then_assoc (Exec true (AnyRun P) b (entered m.frame)) (AfterTurn P t a b) (Leaving m) (world m) o h
 
-  -- a loop that tests behind its body begins its body
+  -- a loop that tests after its body begins its body
   pub again_keeps : (b : Statement) (t : Expression) (m : Snapshot) (o : Progress ℤ) → ResultsOf (runs b, with_wait (turn_of b t) m) o →
       Then (LoopsAgain P b t (entered m.frame)) (Leaving m) (world m) o
   again_keeps b t m o h =
@@ -460,7 +460,7 @@ module _ (P : PureProgram) where
   valued_keeps v [] m o t h = h
   valued_keeps v (x ∷ k) m o t h = given_keeps v x (record m { waits = k }) o t h
 
-  -- what a statement has behind its count
+  -- what a statement has after its count
   abbrev Statement_work : Statement → State → Relation Flow
   Statement_work (block ss) s = Execs true (AnyRun P) ss s
   Statement_work (set x e) s = Then (Eval true (AnyRun P) e s) (λ v. Gives (normal (with_slot s x v)))
@@ -519,7 +519,7 @@ module _ (P : PureProgram) where
   ran_keeps (return (Some e)) m o h =
       then_gives (Eval true (AnyRun P) e (entered m.frame)) returned (Leaving m) (world m) o h
 
-  -- what an expression has behind its count
+  -- what an expression has after its count
   abbrev Expression_work : Expression → State → Relation ℤ
   Expression_work (literal n) s = Gives n
   Expression_work (read x) s = Gives (s x)

@@ -93,7 +93,7 @@ pub data State : Type 0 where
   Typing : Words → Typed → State
   -- the name of a procedure or a prototype was read
   Titled : Head → State
-  -- a comma was read behind these globals
+  -- a comma was read after these globals
   GlobalNext : List Global → State
   -- the name of a further global was read
   GlobalNamed : Identifier → List Global → State
@@ -293,7 +293,7 @@ abbrev pub typed_on : Option Words → Typed → TokenKind → Identifier → Mo
 typed_on (Some w) d k x = on (Typing w d)
 typed_on None d k x = typed d k x
 
--- behind a global
+-- after a global
 abbrev pub global_read : TokenKind → List Global → Move
 global_read (kind.Mark punct.Comma) gs = on (GlobalNext gs)
 global_read (kind.Mark punct.Semicolon) gs = done (tree.globals gs)
@@ -694,7 +694,7 @@ is_deep _ k = false
 
 -- Whole texts
 
--- how a text ends: in items, each with the text behind it; too early; at a token that may not come;
+-- how a text ends: in items, each with the text after it; too early; at a token that may not come;
 -- at a token that is too deep
 pub data Outcome : Type 0 where
   Parsed : List (FileItem × List PureToken) → Outcome
@@ -749,7 +749,7 @@ with_past p (tree.procedure q) = tree.procedure
 abbrev pub past_between : List PureToken → List PureToken → Option Pos
 past_between ts rest = past_place (take (length ts - length rest) ts)
 
--- the items of a text, of which each was read up to what is left behind it
+-- the items of a text, of which each was read up to what is left after it
 abbrev pub filed : List PureToken → List (FileItem × List PureToken) → List FileItem
 filed ts [] = []
 filed ts (i ∷ is) = with_past (past_between ts i.1) i.0 ∷ filed i.1 is
@@ -787,7 +787,7 @@ pub data CallSite : Type 0 where
   AsOperand : List Part → Purpose → CallSite
   AsStatement : Spot → CallSite
 
--- the reader after a call's parenthesis, at an argument, behind an argument, behind the call
+-- the reader after a call's parenthesis, at an argument, after an argument, after the call
 abbrev pub call_begun : ℕ → Identifier → CallSite → State
 call_begun c n (AsOperand ps p) = Called c n ps p
 call_begun c n (AsStatement p) = CallOpened c n p

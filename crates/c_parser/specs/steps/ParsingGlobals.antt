@@ -27,7 +27,7 @@ pub record MissesLiteral (ts : List PureToken) (at : ℕ) (f : Fault) : Type 0 w
   pub lacks : LacksLiteral (drop at ts)
   pub tells : Tells ts f (rejected (drop at ts))
 
--- behind `=`
+-- after `=`
 pub record ReadsSigned (ts : List PureToken) (at : ℕ) (v : ℤ) (next : ℕ) : Type 0 where
   pub later : at < next
   pub within : next ≤ length ts
@@ -38,7 +38,7 @@ abbrev pub FailsSigned : List PureToken → ℕ → Fault → Type 0
 FailsSigned ts at f = (n : Identifier) (gs : List Global) →
     Tells ts f (limited (drop at ts) (GlobalAssigned n gs))
 
--- behind the name of a global
+-- after the name of a global
 pub record ReadsValue (ts : List PureToken) (at : ℕ) (v : Option ℤ) (next : ℕ) : Type 0 where
   pub later : at ≤ next
   pub within : next ≤ length ts
@@ -58,7 +58,7 @@ pub record ReadsGlobal (ts : List PureToken) (at : ℕ) (g : Global) (next : ℕ
 abbrev pub FailsGlobal : List PureToken → ℕ → Fault → Type 0
 FailsGlobal ts at f = (gs : List Global) → Tells ts f (limited (drop at ts) (GlobalNext gs))
 
--- behind the name of the first global
+-- after the name of the first global
 pub record ReadsGlobals (ts : List PureToken) (at : ℕ) (first : Identifier) (gs : List Global)
     (next : ℕ) : Type 0 where
   pub later : at < next

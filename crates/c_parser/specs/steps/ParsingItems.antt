@@ -20,13 +20,13 @@ abbrev pub entered : Bool → State
 entered true = Externed
 entered false = Begin
 
--- an item goes on there behind its `extern`, or begins there without one
+-- an item goes on there after its `extern`, or begins there without one
 abbrev pub BeginsItem : Bool → List PureToken → Type 0
 BeginsItem true ts = Unit {0}
 BeginsItem false [] = ⊥
 BeginsItem false (t ∷ ts) = t.kind ≡ kind.Word keyword.Extern → ⊥
 
--- behind the type of a result
+-- after the type of a result
 abbrev pub resulted_state : Bool → Bool → State
 resulted_state true outer = Voided outer
 resulted_state false outer = Typing AllRead (Result outer)
@@ -136,7 +136,7 @@ head_of h = record {
   whole = h.parameters.whole;
 }
 
--- behind a procedure's opening brace
+-- after a procedure's opening brace
 abbrev pub ReadsProcedure : List PureToken → ℕ → ℕ → Head → FileItem → ℕ → Type 0
 ReadsProcedure ts start at h i next = EndsItem ts start at (Start (Outermost h no_statements)) i
     next
@@ -144,14 +144,14 @@ ReadsProcedure ts start at h i next = EndsItem ts start at (Start (Outermost h n
 abbrev pub FailsProcedure : List PureToken → ℕ → Head → Fault → Type 0
 FailsProcedure ts at h f = Tells ts f (limited (drop at ts) (Start (Outermost h no_statements)))
 
--- behind an item's closing parenthesis
+-- after an item's closing parenthesis
 abbrev pub ReadsClosed : List PureToken → ℕ → ℕ → Head → FileItem → ℕ → Type 0
 ReadsClosed ts start at h i next = EndsItem ts start at (Closed h) i next
 
 abbrev pub FailsClosed : List PureToken → ℕ → Head → Fault → Type 0
 FailsClosed ts at h f = Tells ts f (limited (drop at ts) (Closed h))
 
--- behind an item's name
+-- after an item's name
 abbrev pub ReadsTitled : List PureToken → ℕ → ℕ → Head → FileItem → ℕ → Type 0
 ReadsTitled ts start at h i next = EndsItem ts start at (Titled h) i next
 
