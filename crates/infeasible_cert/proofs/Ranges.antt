@@ -82,7 +82,7 @@ base-range atoms n x b le eb lt ex =
           ap lower_range ex ∙ sym (range-lower (columns_of (rows_of atoms)) ((n - length atoms) / 2) lt)
           ∙ ap (row_at (range_rows (columns_of (rows_of atoms)))) odd
 
--- the rows of nodes are behind the others
+-- the rows of nodes are after the others
 pub below-apart : (rows : List LinearSum) (nodes : Nodes) → rows_below rows nodes ≡ rows ++ rows_below [] nodes
 below-apart rows Top = sym (append-nil rows)
 below-apart rows (Steps' p above derived) =
@@ -90,7 +90,7 @@ below-apart rows (Steps' p above derived) =
 below-apart rows (Bound' p above x a c) =
     ap (λ ts. ts ++ single x a c ∷ []) (below-apart rows above) ∙ append_assoc rows (rows_below [] above) (single x a c ∷ [])
 
--- a row with its number, or how far the number is behind the last one
+-- a row with its number, or how far the number is past the last one
 abbrev pub IsFound : List LinearSum → ℕ → Result Row ℕ → Type 0
 IsFound rows n r =
     MatchResult r (λ row. (n < length rows) × (sum_of row ≡ row_at rows n)) (λ behind. n ≡ length rows + behind)

@@ -25,7 +25,7 @@ pub fn right_is_sound()
 /// How deep branches may nest: `max_nesting` of the definitions.
 const MAX_NESTING: u32 = 512;
 
-/// How many columns of a cube are listed; those behind them are looked up in the cube.
+/// How many columns of a cube are listed; those after them are looked up in the cube.
 const LISTED_COLUMNS: usize = 1024;
 
 /// Whether the certificate is right for the cube. Then no assignment of 64-bit values meets the

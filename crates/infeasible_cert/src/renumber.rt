@@ -107,7 +107,7 @@ fn renumber(
 
 impl Certificate {
     /// The certificate of all rows of a cube, made of one of some of them: each number of a row
-    /// becomes the one that the row has in the cube, and those of what stands behind the rows
+    /// becomes the one that the row has in the cube, and those of what stands after the rows
     /// (ranges, derived rows, sides) move up by as much as there are more rows. Where a number
     /// would be beyond 32 bits, memory is said to be out.
     pub fn renumbered(

@@ -42,7 +42,7 @@ pub enum Nodes<'a> {
     },
 }
 
-/// The rows of a cube and of its ranges, and behind them those of nodes.
+/// The rows of a cube and of its ranges, and after them those of nodes.
 #[derive(Clone, Copy)]
 pub struct Rows<'a> {
     pub columns: &'a Columns<'a>,
@@ -89,7 +89,7 @@ fn range_row<'a>(column: u32, is_upper: bool) -> Row<'a>
     }
 }
 
-/// A row of a cube or of a range, or how far the number is behind the last one.
+/// A row of a cube or of a range, or how far the number is past the last one.
 fn find_base<'a>(columns: &'a Columns<'a>, number: u64) -> Result<Row<'a>, u64>
     ensures { MatchResult result
         (λ row. (number < length (base_rows columns.now.atoms.now))
@@ -108,7 +108,7 @@ fn find_base<'a>(columns: &'a Columns<'a>, number: u64) -> Result<Row<'a>, u64>
     }
 }
 
-/// The row of a number among those of nodes, or how far the number is behind the last one.
+/// The row of a number among those of nodes, or how far the number is past the last one.
 fn find_below<'a>(nodes: &Nodes<'a>, number: u64) -> Result<Row<'a>, u64>
     ensures { MatchResult result (λ row. (number < length (rows_below [] nodes.now))
         × (sum_of row ≡ row_at (rows_below [] nodes.now) number))
@@ -144,7 +144,7 @@ fn find_below<'a>(nodes: &Nodes<'a>, number: u64) -> Result<Row<'a>, u64>
     }
 }
 
-/// The row of a number, or how far the number is behind the last one.
+/// The row of a number, or how far the number is past the last one.
 pub fn find<'a>(rows: &Rows<'a>, number: u64) -> Result<Row<'a>, u64>
     ensures { MatchResult result (λ row. (number < length (rows_in rows.now))
         × (sum_of row ≡ row_at (rows_in rows.now) number))

@@ -49,7 +49,7 @@ without-first v x p ps e h =
     let none : p.1 *ℤ v p.0 ≡ p.1 *ℤ pos 0 = ap (λ z. p.1 *ℤ z) (ap v (sym (eqb-true x p.0 e)) ∙ h) in
     omega (arith, ints, none)
 
--- the parts behind the first one, as the code takes them
+-- the parts after the first one, as the code takes them
 abbrev pub behind_first : List (ℕ × ℤ) → List (ℕ × ℤ)
 behind_first ps = take (length ps - 1) (drop 1 ps)
 

@@ -131,7 +131,7 @@ elimination_append (x ∷ xs) ys rows = by_remainder (after_column x rows) (λ n
   by_remainder wide rest = refl
   by_remainder too_many rest = refl
 
--- the rows behind a column that was eliminated
+-- the rows after a column that was eliminated
 record RemainsBehind (x : ℕ) (rows next : List LinearSum) : Type 0 where
   pub width : list_all is_within (pair_sums x rows) ≡ true
   pub few : length next ≤ MAX_ROWS
@@ -161,7 +161,7 @@ behind_remains x rows w n =
     ap (λ b. if b then counted (behind x rows) else wide) w
     ∙ ap (λ b. if b then remains (behind x rows) else too_many) (le_yes (length (behind x rows)) MAX_ROWS n)
 
--- Columns behind which others join
+-- Columns after which others join
 
 -- some rows of both lists, which cover them all and further rows too
 record StandFor (rows own more ranges : List LinearSum) : Type 0 where
@@ -174,7 +174,7 @@ record StandForLeft (own more ranges : List LinearSum) (left : Remainder) : Type
   pub given : left ≡ remains whole
   pub stand : StandFor whole own more ranges
 
--- behind a column too, where there is room for the other rows
+-- after a column too, where there is room for the other rows
 record StandBehind (x : ℕ) (rows next more ranges : List LinearSum) : Type 0 where
   pub given : after_column x rows ≡ remains (behind x rows)
   pub stand : StandFor (behind x rows) next more ranges
@@ -347,7 +347,7 @@ by-parts firsts last own others left pre pair apart h room n p =
       other_range : (x : ℕ) → Among x firsts → IsAbsent x (range_rows (last ∷ []))
       other_range x k = range_absent x last (λ e. apart (subst (λ y. Contains firsts y) e (among-contains firsts x k)))
 
--- Room behind each column
+-- Room after each column
 
 abbrev paired : List LinearSum → List LinearSum → List (LinearSum × LinearSum)
 paired us ls = flat_map (λ u. map (λ l. (u, l)) ls) us
@@ -426,7 +426,7 @@ more_left : (m n : ℕ) (stages : List Stage) → m ≤ n → most_rows m stages
 more_left m n [] h = omega arith
 more_left m n (s ∷ ss) h = omega (arith, h, more_left (rows_behind m s) (rows_behind n s) ss (omega (arith, h)))
 
--- where there is room for the rows that are left at most behind some stage
+-- where there is room for the rows that are left at most after some stage
 pub stages-room : (columns : List ℕ) (rows : List LinearSum) (stages : List Stage) (left : List LinearSum) (more : ℕ) →
     AreStages columns rows stages left → most_rows (length rows) stages + more ≤ MAX_ROWS → KeepsRoom more columns rows
 stages-room [] rows stages left more h room = tt

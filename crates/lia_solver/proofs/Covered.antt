@@ -1,5 +1,6 @@
 -- What comes of rows that cover each other is the same.
 use Rattle.std.proofs.Common.{◌≡◌, ◌⊎◌, inl, inr, ℕ, ◌<◌, ◌≤◌, Bool, true, false, List, [], ◌∷◌, ◌++◌, length, map, ℤ, pos, ◌+ℤ◌, ◌-ℤ◌, ◌*ℤ◌, neg_ℤ, arith, refl, sym, ap, subst, ◌∙◌}
+use Rattle.std.specs.Cmp.{both_ways}
 use Rattle.std.specs.Prelude.{◌≤ℤ◌, ◌<ℤ◌, filter, int_le, nat_le, if◌then◌else◌}
 use Rattle.std.specs.List.{list_all, list_any}
 use Rattle.std.proofs.lemmas.Int.{ints}
@@ -148,11 +149,6 @@ with_value-same x rows others too_many_rows h k = refl
 
 -- Limits
 
-pub tests-same : (a b : Bool) → (a ≡ true → b ≡ true) → (b ≡ true → a ≡ true) → a ≡ b
-tests-same true b f g = sym (f refl)
-tests-same false true f g = g refl
-tests-same false false f g = refl
-
 pub all-from-among : {X : Type 0} (p : X → Bool) (xs : List X) → ((t : X) → Among t xs → p t ≡ true) → list_all p xs ≡ true
 all-from-among p [] h = refl
 all-from-among p (x ∷ xs) h = rw (h x (inl refl)) (all-from-among p xs (λ t a. h t (inr a)))
@@ -176,7 +172,7 @@ width-among x rows others h w = all-from-among is_within (pair_sums x others) (�
 pub width-strongest : (x : ℕ) (rows others : List LinearSum) → AreStrongest rows → AreStrongest others → Covers rows others →
     Covers others rows → SameWidth x rows others
 width-strongest x rows others h k c d =
-    tests-same _ _ (width-among x rows others (λ t. strongest-among others rows t k h d c))
+    both_ways _ _ (width-among x rows others (λ t. strongest-among others rows t k h d c))
     (width-among x others rows (λ t. strongest-among rows others t h k c d))
 
 pub count-same : (rows others : List LinearSum) → AreStrongest rows → AreStrongest others → Covers rows others → Covers others rows →
@@ -207,9 +203,9 @@ contradiction-covers rows others h e = found (any-among is_contradiction others 
 pub contradiction-same : (rows others : List LinearSum) → Covers rows others → Covers others rows → list_any is_contradiction rows
     ≡ list_any is_contradiction others
 contradiction-same rows others h k =
-    tests-same _ _ (contradiction-covers others rows k) (contradiction-covers rows others h)
+    both_ways _ _ (contradiction-covers others rows k) (contradiction-covers rows others h)
 
--- Behind a column
+-- After a column
 
 abbrev pub behind : ℕ → List LinearSum → List LinearSum
 behind x rows = reduced (filter (is_free x) rows ++ map tightened (pair_sums x rows))
@@ -252,7 +248,7 @@ behind-is x rows w = record {
         same = ap tightened p.2 ∙ g.2;
       })
 
--- behind a column nothing but the strongest rows is left
+-- after a column nothing but the strongest rows is left
 pub record SameBehind (x : ℕ) (rows others : List LinearSum) : Type 0 where
   pub covers : Covers (behind x rows) (behind x others)
   pub covered : Covers (behind x others) (behind x rows)

@@ -1,4 +1,4 @@
--- Rows that say as much as others, before a column and behind it.
+-- Rows that say as much as others, before a column and after it.
 use Rattle.std.proofs.Common.{◌≡◌, ◌⊎◌, inl, inr, ℕ, ◌<◌, Bool, true, false, List, ℤ, pos, ◌+ℤ◌, ◌-ℤ◌, ◌*ℤ◌, arith, refl, sym, ap, subst, ◌∙◌}
 use Rattle.std.specs.Prelude.{IsTrue, ◌≤ℤ◌, ◌<ℤ◌, nat_lt, int_lt, unsigned_abs, if◌then◌else◌}
 use Rattle.std.proofs.lemmas.Bool.{ltb-true}
@@ -127,7 +127,7 @@ tightened-stronger s t h =
     subst (λ (ps : List (ℕ × ℤ)). IsAtLeast (tightened (record { parts = ps; constant = s.constant })) (tightened t)) (sym h.parts)
     (tightened-grows t.parts t.constant s.constant h.constant)
 
--- The rows behind a column
+-- The rows after a column
 
 -- stronger rows of a pair
 pub record IsPairAbove (x : ℕ) (rows : List LinearSum) (u l : LinearSum) : Type 0 where
@@ -155,7 +155,7 @@ pair-above x rows others u l h p =
       lower = b.2;
     }
 
--- what covers the rows before a column covers them behind it
+-- what covers the rows before a column covers them after it
 pub covers-behind : (x : ℕ) (rows others next beyond : List LinearSum) → Covers rows others → IsAfter x rows next →
     IsAfter x others beyond → Covers next beyond
 covers-behind x rows others next beyond h a b = λ t k. by_origin t (b.from t k) where

@@ -72,7 +72,7 @@ extended-same : (x : ℕ) (values : List (ℕ × ℤ)) (rows : List LinearSum) (
     with_value x rows (chosen values) ≡ extended_in x entries values
 extended-same x values rows entries b = λ i. valued x (b.low i) (b.high i) (b.floor i) values
 
--- rows of a column stand until the columns behind it are eliminated
+-- rows of a column stand until the columns after it are eliminated
 pub sides-stay : (x : ℕ) (xs : List ℕ) (low : ℕ) (old new : List Entry) → IsReady low (x ∷ xs) old → AreSameBelow (x + 1) old new →
     SameSides x (live low old) new
 sides-stay x xs low old new r s = record {
@@ -177,7 +177,7 @@ floor-between x values entries = greatest-start least_value (map (floor_of x val
 pub high-between : (x : ℕ) (values : List (ℕ × ℤ)) (entries : List Entry) → high_in x values entries ≤ℤ greatest_value
 high-between x values entries = least-start greatest_value (map (upper_of x values) (uppers_in x entries))
 
--- what an extension comes to
+-- the outcome of an extension
 pub extended-found : (x : ℕ) (xs : List ℕ) (old new : List Entry) (values : List (ℕ × ℤ)) (c : Chosen) → outcome_by c
     ≡ extended_in x new values → AreKept (x ∷ xs) old new → (IsTrue (int_lt (high_in x values new) (low_in x values new)) →
     floor_in x values new <ℤ greatest_value) → IsChosenIn (x ∷ xs) old new c

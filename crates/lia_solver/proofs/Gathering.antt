@@ -1,5 +1,6 @@
 -- What the rows of a table say is what all rows that were added to it say.
 use Rattle.std.proofs.Common.{◌≡◌, inl, inr, ℕ, ◌<◌, ◌≤◌, ◌^◌, true, false, List, [], ◌∷◌, length, ℤ, pos, negsuc, arith, refl, sym, ap, subst, ◌∙◌}
+use Rattle.std.specs.Cmp.{both_ways}
 use Rattle.std.specs.Prelude.{IsTrue, ◌≤ℤ◌, unsigned_abs}
 use Rattle.std.specs.List.{list_all}
 use Rattle.std.proofs.lemmas.Int.{ints}
@@ -23,7 +24,7 @@ use Rattle.lia_solver.specs.steps.Gathered.{IsSpanned, AreGathered, AreNarrowBel
 use Rattle.lia_solver.specs.steps.Tables.{starts_from, live, IsHeld}
 use Rattle.lia_solver.proofs.Behind.{IsReady, live-among, live-place, held-covered, live-terms, first-starts, upper-above, lower-below}
 use Rattle.lia_solver.proofs.ChosenPoints.{NamesOnly}
-use Rattle.lia_solver.proofs.Covered.{SameFirst, SameWidth, tests-same, width-among, outcome-same}
+use Rattle.lia_solver.proofs.Covered.{SameFirst, SameWidth, width-among, outcome-same}
 use Rattle.lia_solver.proofs.Covering.{Covers, covers-among, covered-weaker, covered-upper, covered-lower, upper-same, lower-same, sum-stronger}
 use Rattle.lia_solver.proofs.FirstColumns.{above-upper, below-lower}
 use Rattle.lia_solver.proofs.Stepping.{within-all, column-wide}
@@ -130,7 +131,7 @@ within-between s t r h k a b =
 
 pub gathered-width : (x : ℕ) (xs : List ℕ) (rows : List Row) (entries : List Entry) → AreGathered rows entries →
     IsReady 0 (x ∷ xs) entries → AreNarrowBelow x entries → SameWidth x (live 0 entries) (terms_of rows)
-gathered-width x xs rows entries g r n = tests-same _ _ (λ w. within-all x (terms_of rows) (λ u l p. within w u l p))
+gathered-width x xs rows entries g r n = both_ways _ _ (λ w. within-all x (terms_of rows) (λ u l p. within w u l p))
     (width-among x (terms_of rows) (live 0 entries) (gathered-inside rows entries g)) where
       here : (i : ℕ) → i < length entries → Among (sum_at entries i) (live 0 entries)
       here i h = live-among 0 entries i h (from_start (sum_at entries i).parts)

@@ -143,7 +143,7 @@ overfull-is x xs low old new ready o =
           subst (λ (s : LinearSum). IsTrue (is_within (pair_sum x (s, l)))) f.3 (subst (λ (s : LinearSum). IsTrue
           (is_within (pair_sum x (sum_at old f.0, s)))) f.4 (o.narrow f.0 f.1 f.2))
 
--- the others are ready behind it
+-- the others are ready after it
 pub ready-next : (x : ℕ) (xs : List ℕ) (low : ℕ) (old new : List Entry) → x < 2 ^ 32 → AreReady low (x ∷ xs) old → IsBehind x old new →
     AreReady (x + 1) xs new
 ready-next x xs low old new h ready b =

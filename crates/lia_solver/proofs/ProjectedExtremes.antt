@@ -20,7 +20,7 @@ use Rattle.lia_solver.proofs.Covering.{Covers, covers-among}
 use Rattle.lia_solver.proofs.Strongest.{AreStrongest, strongest-among}
 use Rattle.lia_solver.proofs.SameAnswers.{LiesBetween, Enclose, enclose_append, enclosed_width, extremes_enclose}
 
--- Behind a column
+-- After a column
 
 enclosed_covered : (rows others : List LinearSum) → Enclose rows others → Covers rows others
 enclosed_covered rows others e t a = let b = e.between t a in inr (b.upper, b.upper_there, b.above)
@@ -51,7 +51,7 @@ pub behind_count : (x : ℕ) (rows others : List LinearSum) → SameBehind x row
 behind_count x rows others s =
     count-same (behind x rows) (behind x others) (behind-strongest x rows) (behind-strongest x others) s.covers s.covered
 
--- Behind all columns
+-- After all columns
 
 -- some rows are left, which these enclose
 record EnclosesLeft (rows : List LinearSum) (left : Remainder) : Type 0 where

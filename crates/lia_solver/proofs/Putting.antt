@@ -202,7 +202,7 @@ put-ranges columns first i number next x old mid half new h e m k a p q small =
 
 -- Rows of blocks
 
--- rows behind those that have the first numbers
+-- rows after those that have the first numbers
 pub put-behind : (first second : List Atom) (next : ℕ) (old mid new : List Entry) → next ≡ length first →
     ArePut (numbered_from 0 (rows_of first)) old mid → ArePut (numbered_from next (rows_of second)) mid new →
     ArePut (numbered_from 0 (rows_of (first ++ second))) old new

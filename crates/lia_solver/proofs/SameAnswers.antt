@@ -1,5 +1,6 @@
--- What extreme rows come to is what all rows come to.
+-- The extreme rows have the same answer as all rows.
 use Rattle.std.proofs.Common.{◌≡◌, inl, inr, ◌⊎◌, ℕ, zero, suc, ◌<◌, Bool, true, false, List, [], ◌∷◌, ◌++◌, length, Some, ℤ, pos, ◌+ℤ◌, Contains, All, arith, refl, sym, ap, subst, ◌∙◌}
+use Rattle.std.specs.Cmp.{both_ways}
 use Rattle.std.specs.Prelude.{IsTrue, nat_lt, nat_le, slice_get, if◌then◌else◌}
 use Rattle.std.specs.List.{list_all}
 use Rattle.std.proofs.lemmas.Int.{ints}
@@ -24,7 +25,7 @@ use Rattle.shadow_elim.proofs.Keeping.{IsPairOf, among-pairs}
 use Rattle.shadow_elim.proofs.Members.{Among, among-append_left, among-append_right, among-append_cases, among-map, map-among, all-among, contains-among, among-contains}
 use Rattle.shadow_elim.proofs.Staying.{IsAtLeast, at-least-itself}
 use Rattle.infeasible_cert.proofs.Alike.{columns_of_extremes}
-use Rattle.lia_solver.proofs.Covered.{SameFirst, SameWidth, tests-same, width-among, outcome-same}
+use Rattle.lia_solver.proofs.Covered.{SameFirst, SameWidth, width-among, outcome-same}
 use Rattle.lia_solver.proofs.Covering.{covers-among, upper-same, lower-same, sum-stronger}
 use Rattle.lia_solver.proofs.Gathering.{within-between}
 use Rattle.lia_solver.proofs.Stepping.{within-all}
@@ -45,7 +46,7 @@ pub record Enclose (rows others : List LinearSum) : Type 0 where
   pub some_of : (t : LinearSum) → Among t rows → Among t others
   pub between : (t : LinearSum) → Among t others → LiesBetween rows t
 
--- the same rows behind both
+-- the same rows after both
 pub enclose_append : (rows others more : List LinearSum) → Enclose rows others → Enclose (rows ++ more) (others ++ more)
 enclose_append rows others more e = record {
   some_of = λ t a. some_by t (among-append_cases rows more t a);
@@ -77,7 +78,7 @@ enclose_append rows others more e = record {
 
 pub enclosed_width : (x : ℕ) (rows others : List LinearSum) → Enclose rows others → SameWidth x rows others
 enclosed_width x rows others e =
-    tests-same _ _ (λ w. within-all x others (λ u l p. within w u l p)) (width-among x others rows e.some_of) where
+    both_ways _ _ (λ w. within-all x others (λ u l p. within w u l p)) (width-among x others rows e.some_of) where
       sum_within : list_all is_within (pair_sums x rows) ≡ true → (s r : LinearSum) → Among s rows → Among r rows →
           IsTrue (is_upper x s) → IsTrue (is_lower x r) → IsTrue (is_within (pair_sum x (s, r)))
       sum_within w s r a b u l = all-among is_within (pair_sums x rows) (pair_sum x (s, r)) w
@@ -99,7 +100,7 @@ enclosed_first : (columns : List ℕ) (rows others : List LinearSum) → Enclose
 enclosed_first [] rows others e = tt
 enclosed_first (x ∷ xs) rows others e = enclosed_width x rows others e
 
--- they come to the same
+-- they have the same outcome
 pub enclosed_outcome : (columns : List ℕ) (rows others : List LinearSum) → Enclose rows others → outcome columns rows
     ≡ outcome columns others
 enclosed_outcome columns rows others e =
@@ -146,7 +147,7 @@ extremes_enclose ns rows all e = record {
     below = record { parts = b.below.parts; constant = b.below.constant };
   }
 
--- a branch of extreme rows comes to what the branch of all rows comes to
+-- a branch of extreme rows has the outcome of the branch of all rows
 pub extremes_outcome : (ns : List ℕ) (rows all : List Atom) → AreExtremes ns rows all → outcome_of rows ≡ outcome_of all
 extremes_outcome ns rows all e =
     let columns = columns_of (rows_of all) in
@@ -184,7 +185,7 @@ between_append rows a t b = record {
   below = b.below;
 }
 
--- the same row behind both
+-- the same row after both
 pub extremes_append : (ns : List ℕ) (rows all : List Atom) (a : Atom) → AreExtremes ns rows all →
     AreExtremes (ns ++ length all ∷ []) (rows ++ a ∷ []) (all ++ a ∷ [])
 extremes_append ns rows all a e = record {
@@ -299,7 +300,7 @@ solution_follows ns rows all e =
     (ap (λ (xs : List ℕ). nat_lt MAX_COLUMNS (length xs)) (columns_of_extremes ns rows all e))
     (search_follows MAX_SPLITS [] [] ns rows all refl e)
 
--- What both come to
+-- The answers of both
 
 pub found_extremes : (ns : List ℕ) (rows all : List Atom) (values : List (ℕ × ℤ)) → AreExtremes ns rows all →
     solution rows ≡ found values → solution all ≡ found values

@@ -1,5 +1,6 @@
 -- Rows of which each is the only one with its coefficients.
 use Rattle.std.proofs.Common.{◌≡◌, inl, inr, ◌≤◌, Bool, true, false, not, ◌&&◌, List, [], ◌∷◌, ◌++◌, length, ℤ, arith, refl, sym, ap, subst, ◌∙◌}
+use Rattle.std.specs.Cmp.{both_ways}
 use Rattle.std.specs.Prelude.{◌≤ℤ◌, ◌<ℤ◌, int_lt, if◌then◌else◌}
 use Rattle.std.specs.Cmp.{IsEquivalence}
 use Rattle.std.specs.List.{IsDistinct, AllByRecursion, list_any}
@@ -142,15 +143,10 @@ strongest-among rows others t h k c d a =
 parts-laws : IsEquivalence same_parts
 parts-laws = record {
   refl = λ t. (same_parts-decides t.parts t.parts).1 refl;
-  symm = λ s t. equal (same_parts s t) (same_parts t s) (flip s t) (flip t s);
-  congr = λ s t r e. equal (same_parts s r) (same_parts t r) (along s t r ((same_parts-decides s.parts t.parts).0 e))
+  symm = λ s t. both_ways (same_parts s t) (same_parts t s) (flip s t) (flip t s);
+  congr = λ s t r e. both_ways (same_parts s r) (same_parts t r) (along s t r ((same_parts-decides s.parts t.parts).0 e))
       (along t s r (sym ((same_parts-decides s.parts t.parts).0 e)));
 } where
-  equal : (a b : Bool) → (a ≡ true → b ≡ true) → (b ≡ true → a ≡ true) → a ≡ b
-  equal true b f g = sym (f refl)
-  equal false true f g = g refl
-  equal false false f g = refl
-
   flip : (s t : LinearSum) → same_parts s t ≡ true → same_parts t s ≡ true
   flip s t e = (same_parts-decides t.parts s.parts).1 (sym ((same_parts-decides s.parts t.parts).0 e))
 

@@ -7,7 +7,7 @@ use Rattle.shadow_elim.specs.declared.limit.Limit.{Limit as Limits}
 use Rattle.lia_solver.specs.declared.solved.Solved.{Solved}
 use Rattle.lia_solver.specs.declared.solved.Solved.TheVariants.{Point, Never, Limit}
 
--- the answer is what the search comes to
+-- the answer is that of the search
 abbrev pub IsAnswer : Search → Solved → Type 0
 IsAnswer search (Point at) = search ≡ found at
 IsAnswer search (Never certificate) = IsNothing search

@@ -1,4 +1,4 @@
-//! What one branch of a question comes to.
+//! How one branch of a question ends.
 
 ghost use Rattle.std.specs.Prelude.{◌≡◌, ◌++◌, IfOk, IsTrue};
 ghost use Rattle.linear_formula.specs.Formula.{are_terms};
@@ -30,7 +30,7 @@ pub enum BranchOutcome {
     Rows,
 }
 
-/// What the rows of a question, of the splits down to a branch and of the columns' ranges come to,
+/// The answer of the rows of a question, of the splits down to a branch and of the columns' ranges,
 /// in a table that is filled anew.
 pub fn solve_branch(
     alloc: Global,

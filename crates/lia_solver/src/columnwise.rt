@@ -1,4 +1,4 @@
-//! What the rows of a table come to: one column after another is eliminated, and then the columns
+//! The answer of a table's rows: one column after another is eliminated, and then the columns
 //! get values, the last one first.
 
 ghost use Rattle.std.specs.Prelude.{◌≡◌, ◌+◌, ◌<◌, ◌≤ℤ◌, ◌<ℤ◌, ℕ, [], int_lt, IfOk, IsTrue};
@@ -77,7 +77,7 @@ fn without_columns(alloc: Global, table: &Table, count: usize) -> Result<Chosen,
     }
 }
 
-/// Eliminates the columns, and gives them values where no contradiction is left. Memory for so many
+/// Eliminates the columns, and gives them values where no contradiction is left. Memory for `count`
 /// values is taken at once. The recursion is as deep as there are columns.
 #[cycle(solve_columns)]
 pub fn solve_columns(

@@ -37,7 +37,7 @@ impl Work {
     }
 }
 
-/// What the elimination of a column comes to: a table of what is left, or a limit.
+/// How the elimination of a column ends: with a table of what is left, or at a limit.
 pub enum Eliminated {
     Done,
     Wide,

@@ -34,7 +34,7 @@ struct Left {
     simple: bool,
 }
 
-/// What an atom's question comes to.
+/// The answer to an atom's question.
 enum Answer {
     /// Nothing meets the left cube and the negation. The cube is given back for the next atom.
     Never(Certificate, Left),
@@ -110,7 +110,7 @@ fn search(alloc: Global, left: Left, negation: Atom) -> Result<Answer, OutOfMemo
     }
 }
 
-/// What the atom's question comes to. Where one row of a simple cube entails the atom, nothing is
+/// The answer to the atom's question. Where one row of a simple cube entails the atom, nothing is
 /// searched.
 fn ask(alloc: Global, left: Left, atom: &Atom) -> Result<Answer, OutOfMemory>
     requires { IsLeft left.cube.atoms left }

@@ -72,7 +72,7 @@ fn are_all_sums_narrow(column: u32, table: &Table) -> bool
     true
 }
 
-/// Whether with the least constants no sum of the first column is too wide. Behind it only the
+/// Whether with the least constants no sum of the first column is too wide. After it only the
 /// greatest constants are left.
 pub fn is_narrow(columns: &[u32], table: &Table) -> bool
     requires { (rows : List Row) × AreGathered rows table.now }

@@ -49,7 +49,7 @@ impl Certificates {
     }
 }
 
-/// What a cube comes to.
+/// The answer of a cube.
 #[derive(Drop)]
 pub enum Solved {
     /// The cube holds here; each of its columns is listed.

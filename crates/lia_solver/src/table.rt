@@ -17,7 +17,7 @@ const FEW: usize = 16;
 /// How many chains there are at most.
 const MANY: usize = 4096;
 
-/// So many rows a chain, and there are `GROWTH` times as many chains.
+/// With this many rows a chain there are `GROWTH` times as many chains.
 const FULL: usize = 4;
 
 const GROWTH: usize = 16;

@@ -10,7 +10,7 @@ use crate::pairing::{first_size, sum_of};
 use crate::table::Table;
 use linear_formula::term::MAX_COEFFICIENT;
 
-/// So many sums are worth two look-ups.
+/// This many sums are worth two look-ups.
 const MANY: usize = 16;
 
 /// The least and the greatest value of a column by the rows of it alone.

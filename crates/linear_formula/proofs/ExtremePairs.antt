@@ -17,7 +17,7 @@ use Rattle.linear_formula.proofs.ExtremeRows.{get_append_left, get_append_right,
 
 -- One more row
 
--- the number behind a list is that of the next row
+-- the number after a list is that of the next row
 get_last : (all : List Atom) (n : ℕ) (a : Atom) → n ≡ length all → slice_get (all ++ a ∷ []) n ≡ Some a
 get_last all n a e =
     subst (λ m. slice_get (all ++ a ∷ []) m ≡ Some a) (omega (arith, e)) (get_append_right all (a ∷ []) 0 a refl)
@@ -160,7 +160,7 @@ pairs_widened pairs all i p q n a e l at parts widened h =
           (λ b. within_set pairs all i p q a l at w b.term) all h.within) last;
     }
 
--- Pairs behind others
+-- Pairs after others
 
 set_behind : (before pairs : List ExtremePair) (i : ℕ) (q : ExtremePair) →
     set (before ++ pairs) (length before + i) q ≡ before ++ set pairs i q

@@ -123,7 +123,7 @@ own-extremes rows = record {
   between = All-weaker (Contains rows) (λ a. IsBetween rows a.term) (between_itself rows) rows (All-contains_itself rows);
 }
 
--- with one more row behind all
+-- with one more row after all
 pub push_extremes : (ns : List ℕ) (rows all : List Atom) (n : ℕ) (a : Atom) → n ≡ length all → AreExtremes ns rows all →
     AreExtremes (ns ++ n ∷ []) (rows ++ a ∷ []) (all ++ a ∷ [])
 push_extremes ns rows all n a e h =

@@ -72,7 +72,7 @@ pub renamed-holds : (v : ℕ → ℤ) (map : List (ℕ × ℕ)) (atoms : List At
     HoldsAll (renamed_valuation map v) atoms
 renamed-holds v map atoms = renamed_by-holds v (renamed_column map) atoms
 
--- so many atoms have been renamed
+-- k atoms have been renamed
 pub record Renaming (f : ℕ → ℕ) (atoms start out : List Atom) (k : ℕ) : Type 0 where
   pub items : out ++ renamed_atoms_by f (drop k atoms) ≡ start ++ renamed_atoms_by f atoms
   pub within : IsTrue (are_within start) → IsTrue (are_within out)

@@ -16,7 +16,7 @@ use std::sync::Arc;
 
 /// Rows of a cube, each with its number in it: of those with the same coefficients the one with the
 /// greatest constant and the one with the least. All other rows follow from the greatest ones, and
-/// what is asked of the cube comes to the same of these rows alone.
+/// an answer for these rows alone is an answer for the cube.
 #[derive(Debug, Drop)]
 pub struct Extremes {
     pub cube: Cube,
@@ -56,7 +56,7 @@ impl Model for PairList {
     ghost view = { λ l. l.shared.value.items };
 }
 
-/// Extreme rows of so many rows, which copies share.
+/// Extreme rows of `count` rows, which copies share.
 #[derive(Debug, Drop)]
 pub(crate) struct Outline {
     /// Pairs with which no row is compared any more.
@@ -65,7 +65,7 @@ pub(crate) struct Outline {
     count: u32,
 }
 
-/// With how many pairs, the last ones, a row is compared. Where there are so many, they are kept
+/// With how many pairs, the last ones, a row is compared. Where there are this many, they are kept
 /// apart and no later row is compared with them, so that what one more block takes doesn't grow. A
 /// row whose pair isn't found gets another one.
 const MANY: usize = 256;
@@ -173,7 +173,7 @@ fn place_of(pairs: &[ExtremePair], key: u64, parts: &[(u32, i128)]) -> Option<us
     None
 }
 
-/// Takes in a row, behind pairs that it isn't compared with.
+/// Takes in a row, after pairs that it isn't compared with.
 fn take_in(
     alloc: Global,
     pairs: &mut Vec<ExtremePair>,
@@ -324,8 +324,8 @@ impl Outline {
         })
     }
 
-    /// The same with more rows behind. Where there are more than 32 bits count, memory is said to
-    /// be out.
+    /// The same with more rows at the end. Where there are more than 32 bits count, memory is said
+    /// to be out.
     pub(crate) fn with(&self, alloc: Global, more: &[Atom]) -> Result<Outline, OutOfMemory>
         ensures { IfOk result
             (λ o. (all : List AnAtom) → Outlines self.now all → Outlines o (all ++ more.now)) }
@@ -349,7 +349,7 @@ impl Outline {
         self.count as usize
     }
 
-    /// The extreme rows, and the rows behind them.
+    /// The extreme rows, and the rows after them.
     pub(crate) fn extremes(
         &self,
         alloc: Global,
@@ -363,7 +363,7 @@ impl Outline {
         Ok(all)
     }
 
-    /// The extreme rows, with room for so many more beside the newest.
+    /// The extreme rows, with room for `more` others beside the newest.
     fn rows(&self, alloc: Global, more: usize) -> Result<Extremes, OutOfMemory>
         ensures { IfOk result
             (λ e. (all : List AnAtom) → Outlines self.now all → IsOutline e all) }
@@ -381,7 +381,7 @@ impl Outline {
 }
 
 impl Extremes {
-    /// Of no rows, with room for so many.
+    /// Of no rows, with room for `room` rows.
     pub fn with_capacity(alloc: Global, room: usize) -> Result<Extremes, OutOfMemory>
         ensures { IfOk result (λ e. IsOutline e []) }
     {
@@ -433,7 +433,7 @@ impl Extremes {
         Ok(())
     }
 
-    /// Copies of these rows behind all.
+    /// Copies of these rows at the end.
     fn push_copies(&mut self, alloc: Global, atoms: &[SharedAtom]) -> Result<(), OutOfMemory>
         ensures { OnOk result
             ((all : List AnAtom) → IsOutline self.old all → IsOutline self.new (all ++ atoms.now)) }
@@ -444,7 +444,7 @@ impl Extremes {
         Ok(())
     }
 
-    /// One more row behind all.
+    /// One more row at the end.
     pub fn push(&mut self, atom: Atom) -> Result<(), OutOfMemory>
         ensures { OnOk result
             ((all : List AnAtom) → IsOutline self.old all → IsOutline self.new (all ++ atom ∷ [])) }
@@ -506,7 +506,7 @@ impl Extremes {
     }
 }
 
-/// The numbers that so many rows have behind so many.
+/// The numbers in `more`, each raised by `before`.
 fn push_later(numbers: &mut Vec<u32>, before: u32, more: &[u32]) -> Result<(), OutOfMemory>
     ensures { OnOk result
         (numbers.new.items ≡ numbers.old.items ++ map (λ n. before + n) more.now) }
@@ -520,7 +520,7 @@ fn push_later(numbers: &mut Vec<u32>, before: u32, more: &[u32]) -> Result<(), O
     Ok(())
 }
 
-/// The first numbers, so many.
+/// The first `count` numbers.
 fn first_numbers(alloc: Global, count: u32) -> Result<Vec<u32>, OutOfMemory>
     ensures { IfOk result (λ ns. ns.items ≡ range_with_len 0 count) }
 {

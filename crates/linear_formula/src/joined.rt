@@ -123,7 +123,7 @@ impl JoinedCube {
         Ok(JoinedCube::new(blocks, Atoms::new(alloc)))
     }
 
-    /// The atoms of both, in order. The blocks are shared, the atoms behind them are copied, and
+    /// The atoms of both, in order. The blocks are shared, the atoms after them are copied, and
     /// those of the other are moved.
     pub fn followed_by(&self, alloc: Global, other: Cube) -> Result<JoinedCube, OutOfMemory>
         ensures { IfOk result (λ c. c.atoms ≡ self.now.atoms ++ other.atoms) }

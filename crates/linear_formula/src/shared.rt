@@ -58,7 +58,7 @@ impl Model for Blocks {
 }
 
 /// All of the atoms, as a `Cube` has them. A copy takes a pointer for all blocks, two for their
-/// extreme rows and one for each atom behind the blocks, and no atom anew.
+/// extreme rows and one for each atom after the blocks, and no atom anew.
 #[derive(Debug, Drop)]
 pub struct SharedCube {
     blocks: Blocks,
@@ -81,7 +81,7 @@ impl Model for SharedCube {
         × Outlines c.outline c.blocks };
 }
 
-/// How many atoms a block has, or more. A copy takes fewer pointers for the atoms behind the blocks
+/// How many atoms a block has, or more. A copy takes fewer pointers for the atoms after the blocks
 /// where it is smaller, and the list of the blocks is copied more often.
 const BLOCK: usize = 32;
 
@@ -226,7 +226,7 @@ impl SharedCube {
         Ok(())
     }
 
-    /// The atoms behind the last block become one.
+    /// The atoms after the last block become a block.
     fn close(&mut self, alloc: Global) -> Result<(), OutOfMemory>
         ensures { OnOk result (self.new ≡ self.old) }
     {
@@ -234,7 +234,7 @@ impl SharedCube {
         Ok(())
     }
 
-    /// The atoms behind the last block, and these, become one.
+    /// The atoms after the last block, and these, become a block.
     fn closed_with(&self, alloc: Global, more: &[Atom]) -> Result<SharedCube, OutOfMemory>
         ensures { IfOk result (λ c. c.atoms ≡ self.now.atoms ++ more.now) }
     {
@@ -288,7 +288,7 @@ impl SharedCube {
     }
 
     /// The atoms of both, in order. Its own are shared, and the other's are copied. Where they are
-    /// many, all that are behind the last block become one.
+    /// many, all that are after the last block become a block.
     pub fn and(&self, alloc: Global, other: &Cube) -> Result<SharedCube, OutOfMemory>
         ensures { IfOk result (λ c. c.atoms ≡ self.now.atoms ++ other.now.atoms) }
     {
@@ -314,14 +314,14 @@ impl SharedCube {
         !self.blocks.as_slice().is_empty()
     }
 
-    /// Extreme rows of the cube: those of the blocks, and the rows behind them.
+    /// Extreme rows of the cube: those of the blocks, and the rows after them.
     pub fn extremes(&self, alloc: Global) -> Result<Extremes, OutOfMemory>
         ensures { IfOk result (λ e. IsOutline e self.now.atoms) }
     {
         self.outline.extremes(alloc, &self.last)
     }
 
-    /// The atoms of both, in order. The full blocks are shared, the atoms behind them are copied,
+    /// The atoms of both, in order. The full blocks are shared, the atoms after them are copied,
     /// and those of the other are moved.
     pub fn joined(&self, alloc: Global, other: Cube) -> Result<JoinedCube, OutOfMemory>
         ensures { IfOk result (λ c. c.atoms ≡ self.now.atoms ++ other.atoms) }
@@ -341,7 +341,7 @@ impl SharedCube {
         Ok(Cube { atoms })
     }
 
-    /// Copies of the atoms, with room for so many more.
+    /// Copies of the atoms, with room for `more` others.
     fn copied(&self, alloc: Global, more: usize) -> Result<Atoms, OutOfMemory>
         ensures { IfOk result (λ atoms. atoms ≡ self.now.atoms) }
     {
@@ -378,7 +378,7 @@ fn copies_onto(out: &mut SharedCube, alloc: Global, atoms: &[Atom]) -> Result<()
     Ok(())
 }
 
-/// Copies of shared atoms, with room for so many more.
+/// Copies of shared atoms, with room for `more` others.
 fn unshared(alloc: Global, atoms: &[SharedAtom], more: usize) -> Result<Atoms, OutOfMemory>
     ensures { IfOk result (λ all. all ≡ atoms.now) }
 {

@@ -24,7 +24,7 @@ pub const MAX_COEFFICIENT: i128 = 1 << 40;
 /// The greatest number of parts of a term.
 pub const MAX_PARTS: usize = 1024;
 
-/// So many summands are added one after the other; more are, column by column.
+/// Up to this many summands are added one after the other; more are, column by column.
 const FEW_SUMMANDS: usize = 8;
 
 /// The greatest absolute value of a term's constant.

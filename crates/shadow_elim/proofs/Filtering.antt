@@ -1,5 +1,6 @@
 -- What stays of the rows that pass a test, and of rows that stayed already.
 use Rattle.std.proofs.Common.{◌≡◌, inl, inr, Bool, true, false, not, ◌&&◌, ◌||◌, cond, List, [], ◌∷◌, ◌++◌, arith, refl, sym, ap, ◌∙◌}
+use Rattle.std.specs.Cmp.{both_ways}
 use Rattle.std.proofs.Math.Bool.{or-false}
 use Rattle.std.specs.Prelude.{filter, if◌then◌else◌}
 use Rattle.std.specs.List.{list_any}
@@ -76,11 +77,6 @@ filter-reduced p h rows = filter-reduced_after p h [] rows
 abbrev AreCovered : (bs ts cs rs : List LinearSum) → Type 0
 AreCovered bs ts cs rs = (t : LinearSum) → is_trivial t ≡ false → (list_any (is_as_strong t) bs || list_any (is_stronger t) ts)
     ≡ (list_any (is_as_strong t) cs || list_any (is_stronger t) rs)
-
-both_ways : (x y : Bool) → (x ≡ true → y ≡ true) → (y ≡ true → x ≡ true) → x ≡ y
-both_ways true y f g = sym (f refl)
-both_ways false true f g = g refl
-both_ways false false f g = refl
 
 pub among-any : (p : LinearSum → Bool) (xs : List LinearSum) (t : LinearSum) → Among t xs → p t ≡ true → list_any p xs ≡ true
 among-any p [] t h e = absurd h

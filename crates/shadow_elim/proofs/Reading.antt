@@ -1,4 +1,4 @@
--- Terms of few parts that are read, and sums behind others.
+-- Terms of few parts that are read, and sums after others.
 use Rattle.std.proofs.Common.{◌≡◌, ℕ, ◌+◌, ◌<◌, length, drop, List, [], ◌∷◌, ◌++◌, Bool, true, false, None, Some, Option, ℤ, pos, ◌+ℤ◌, ◌*ℤ◌, arith, refl, sym, ap, ◌∙◌}
 use Rattle.std.specs.Prelude.{IsTrue, if◌then◌else◌}
 use Rattle.std.proofs.lemmas.Int.{ints}
@@ -40,7 +40,7 @@ read_more by ps c m k u t r h et kept em eu er =
     ∙ ap (λ (v : LinearSum). plus_multiple (at ps k).1 v t) eu ∙ ap (plus_multiple (at ps k).1 (by (at ps k).0)) et
     ∙ ap (λ (qs : List (ℕ × ℤ)). combination (summands_of_parts by qs ++ (pos 1, constant_sum c) ∷ []) (pos 0)) (sym (drop_at ps k h))
 
--- Sums behind others
+-- Sums after others
 
 pub first_behind : (sums more : List Sum) (o : Option Sum) → first_wide sums ≡ None → first_wide more ≡ o → first_wide (sums ++ more) ≡ o
 first_behind [] more o e f = f
@@ -58,7 +58,7 @@ first_in_front (t ∷ sums) more s e = by_test (is_within (total t)) e (first_in
   by_test true f next = next f
   by_test false f next = f
 
--- the limit of the first wide sum, with others behind and in front
+-- the limit of the first wide sum, with others after and before it
 pub limit_in_front : (sums more : List Sum) (k : Kept) → IsFirstWide sums k → IsFirstWide (sums ++ more) k
 limit_in_front sums more k h = record { sum = h.sum; first = first_in_front sums more h.sum h.first; same = h.same }
 

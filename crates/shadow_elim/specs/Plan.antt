@@ -10,7 +10,7 @@ use Rattle.shadow_elim.specs.declared.limit.Limit.{Limit}
 use Rattle.shadow_elim.specs.declared.limit.Limit.TheVariants.{Columns, Wide, Rows, Branches}
 use Rattle.shadow_elim.specs.Points.{Outcome, chosen, refuted, split, too_wide, too_many_rows, outcome}
 
--- what a branch comes to, whose rows are those of its cube and of the ranges of its columns
+-- the outcome of a branch whose rows are those of its cube and of the ranges of its columns
 abbrev pub outcome_of : List Atom → Outcome
 outcome_of atoms = outcome (columns_of (rows_of atoms)) (base_rows atoms)
 
@@ -55,7 +55,7 @@ search (suc depth) splits atoms =
     (search depth (splits ++ cube_of atoms ∷ []) (with_row atoms (at_most x k))))
     (outcome_of atoms)
 
--- what a cube comes to
+-- the answer for a cube
 abbrev pub solution : List Atom → Search
 solution atoms =
     if nat_lt MAX_COLUMNS (length (columns_of (rows_of atoms))) then limit_met Columns else search

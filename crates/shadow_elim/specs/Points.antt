@@ -48,8 +48,8 @@ lower_floor x values rows =
 abbrev pub nearest : (low high : ℤ) → ℤ
 nearest low high = if int_lt (pos 0) low then low else (if int_lt high (pos 0) then high else pos 0)
 
--- What a branch comes to: values for its columns, a contradiction, a split of a column into at most
--- k and at least k + 1, or a limit of the elimination.
+-- The outcome of a branch: values for its columns, a contradiction, a split of a column into at
+-- most k and at least k + 1, or a limit of the elimination.
 pub data Outcome : Type 0 where
   chosen : List (ℕ × ℤ) → Outcome
   refuted : Outcome

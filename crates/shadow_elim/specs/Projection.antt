@@ -1,4 +1,4 @@
--- What sums and an elimination come to: rows with the first inexact pair, or the first limit.
+-- The results of sums and of an elimination: rows with the first inexact pair, or the first limit.
 use Rattle.std.specs.Prelude.{ℕ, List, map, Option, None, Some}
 use Rattle.linear_formula.specs.LinearSum.{LinearSum}
 use Rattle.linear_formula.specs.declared.formula.Atom.{Atom}

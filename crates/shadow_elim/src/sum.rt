@@ -18,7 +18,7 @@ use linear_formula::reading::{Reading, summands};
 use linear_formula::term::{Parts, Term};
 use std::alloc::Global;
 
-/// The greatest number of parts that are added up one behind the other.
+/// The greatest number of parts that are added up one after the other.
 const SHORT: usize = 3;
 
 /// Multiples of terms and a constant.

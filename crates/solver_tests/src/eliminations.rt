@@ -72,7 +72,7 @@ fn tells_the_inexact_pair(rt: HostRuntime) -> Result<(), Fail> {
     Ok(())
 }
 
-/// What an elimination of the column 0 comes to: how many rows are left, or the error.
+/// The result of an elimination of column 0: how many rows are left, or the error.
 fn left(alloc: Global, cube: Result<Cube, LinError>) -> Result<usize, ShadowError> {
     let shadow = eliminate(alloc, &cube?, &[0])?;
     Ok(shadow.pre.cube.atoms.as_slice().len())
@@ -87,7 +87,7 @@ fn measures_before_it_tightens(rt: HostRuntime) -> Result<(), Fail> {
     Ok(())
 }
 
-/// Column 0 is at most each of so many columns, and at least each of so many others.
+/// Column 0 is at most each of `each` columns, and at least each of `each` others.
 fn fan(alloc: Global, each: u8) -> Result<Cube, LinError> {
     let mut atoms = Atoms::new(alloc);
     for i in 0..each {

@@ -12,7 +12,7 @@ use linear_formula::shared::SharedCube;
 use std::alloc::Global;
 use std::test::Fail;
 
-/// So many rows of three columns. Their constants go up and down from 0 to 16: no greatest one and
+/// `count` rows of three columns. Their constants go up and down from 0 to 16: no greatest one and
 /// no least one of a column comes at a regular place.
 fn scattered(alloc: Global, count: u8) -> Result<Cube, LinError> {
     let mut atoms = Atoms::new(alloc);
@@ -51,7 +51,7 @@ fn are_between(extremes: &Extremes, all: &[Atom]) -> bool {
     all.iter().all(|atom| is_between(atom, rows))
 }
 
-/// Whether the extreme rows of a cube with so many rows are right, and those of all full blocks are
+/// Whether the extreme rows of a cube with `count` rows are right, and those of all full blocks are
 /// at most two of each column.
 fn are_right(alloc: Global, count: u8) -> Result<bool, LinError> {
     let cube = scattered(alloc, count)?;
@@ -84,7 +84,7 @@ fn at_least(alloc: Global, value: i64) -> Result<Cube, LinError> {
     Ok(Cube { atoms })
 }
 
-/// The extreme rows of a cube and those of another behind it.
+/// The extreme rows of a cube and those of another after it.
 fn behind(alloc: Global, first: &Cube, second: Cube) -> Result<Extremes, OutOfMemory> {
     let extremes = SharedCube::of(alloc, first)?.extremes(alloc)?;
     extremes.followed_by(Extremes::of(alloc, second)?)

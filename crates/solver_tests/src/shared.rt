@@ -16,7 +16,7 @@ fn counted(alloc: Global, from: i64, to: i64) -> Result<Cube, LinError> {
     Ok(Cube { atoms })
 }
 
-/// Whether the constants of the rows are 0 and so on, and so many.
+/// Whether the constants of the rows are 0 and so on, and there are `count`.
 fn is_counted(cube: &Cube, count: i64) -> bool {
     let atoms = cube.atoms.as_slice();
     for (place, atom) in atoms.iter().enumerate() {
@@ -27,7 +27,7 @@ fn is_counted(cube: &Cube, count: i64) -> bool {
     atoms.len() as i64 == count
 }
 
-/// So many rows, each put behind those before it.
+/// `count` rows, each put after those before it.
 fn grown(alloc: Global, count: i64) -> Result<SharedCube, LinError> {
     let mut cube = SharedCube::new(alloc);
     for atom in counted(alloc, 0, count)?.atoms.into_vec() {

@@ -130,7 +130,7 @@ fn meets_wide_rows(rt: HostRuntime) -> Result<(), Fail> {
     Ok(())
 }
 
-/// A row for each of so many columns.
+/// A row for each of `count` columns.
 fn columns_from_0(alloc: Global, count: u32) -> Result<Cube, LinError> {
     let mut atoms = Atoms::new(alloc);
     for column in 0..count {
@@ -287,7 +287,7 @@ fn is_refuted(alloc: Global, cube: &Cube) -> Result<bool, LinError> {
     }
 }
 
-/// Where so many rows name the same two columns, few of their sums are made.
+/// Where many rows name the same two columns, few of their sums are made.
 #[test]
 fn solves_many_rows_of_two_columns(rt: HostRuntime) -> Result<(), Fail> {
     let alloc = rt.alloc();
@@ -354,7 +354,7 @@ fn are_alike(cube: &Cube, left: &Solved, right: &Solved) -> bool {
     }
 }
 
-/// Whether rows behind full blocks of columns at most 0 are answered as their cube is, and
+/// Whether rows after full blocks of columns at most 0 are answered as their cube is, and
 /// whether nothing meets them.
 fn is_answered(alloc: Global, rows: &[Row], never: bool) -> Result<bool, LinError> {
     let joined = joined_with(alloc, rows)?;
@@ -362,7 +362,7 @@ fn is_answered(alloc: Global, rows: &[Row], never: bool) -> Result<bool, LinErro
     are_answered(alloc, &joined, &cube, never)
 }
 
-/// The first columns, and these rows behind.
+/// The first columns, and these rows after them.
 fn joined_with(alloc: Global, rows: &[Row]) -> Result<JoinedCube, LinError> {
     let own = cube_of(alloc, rows)?;
     let first = columns_from_0(alloc, 130)?;

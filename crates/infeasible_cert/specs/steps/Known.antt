@@ -27,7 +27,7 @@ sum_of (Single x a c) = single x a c
 abbrev pub terms_of : List Derived → List LinearSum
 terms_of ds = map (λ d. d.row.term) ds
 
--- rows, and those of the nodes behind them
+-- rows, and those of the nodes after them
 abbrev pub rows_below : List LinearSum → Nodes → List LinearSum
 rows_below rows Top = rows
 rows_below rows (Steps' p above derived) = rows_below rows above ++ terms_of derived.now

@@ -3,7 +3,7 @@ use Rattle.std.specs.Prelude.{ℕ, ◌+◌, ◌-◌, nat_lt, List, length, map, 
 use Rattle.infeasible_cert.specs.declared.certificate.Derived.{Derived}
 use Rattle.infeasible_cert.specs.Refutation.{Refutation, close, branch}
 
--- the number that a row has when the rows before it are these of so many
+-- the number that row n has when the first rows are these of `count` rows
 abbrev pub number_among : List ℕ → ℕ → ℕ → ℕ
 number_among numbers count n = if nat_lt n (length numbers) then slice_index numbers n else
     (n - length numbers + count)

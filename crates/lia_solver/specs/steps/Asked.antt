@@ -1,4 +1,4 @@
--- What the question of one atom comes to.
+-- The answer to the question of one atom.
 use Rattle.std.specs.Prelude.{◌≡◌, ◌↔◌, true, IsTrue, List}
 use Rattle.linear_formula.specs.LinearSum.{Valuation, valuation, is_term}
 use Rattle.linear_formula.specs.Results.{negated}

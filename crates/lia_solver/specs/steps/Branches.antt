@@ -14,7 +14,7 @@ use Rattle.lia_solver.specs.declared.search.Searched.{Searched}
 use Rattle.lia_solver.specs.declared.search.Searched.TheVariants as searched
 use Rattle.lia_solver.specs.Answers.{IsAnswer, IfPoint}
 
--- what a branch came to, as an outcome of the plan
+-- how a branch ended, as an outcome of the plan
 abbrev pub planned : BranchOutcome → Outcome
 planned (branch.Point at) = chosen at
 planned (branch.Refuted rows) = refuted
@@ -43,7 +43,7 @@ IsRightOutcome question splits branch.Rows = Unit {0}
 abbrev pub IsBranch : List Atom → List Atom → Type 0
 IsBranch question splits = columns_of (rows_of (question ++ splits)) ≡ columns_of (rows_of question)
 
--- what the search of a branch came to, with the cubes that were split by then
+-- how the search of a branch ended, with the cubes that were split by then
 abbrev pub IsSearched : List Atom → List Atom → ℕ → List Cube → Search → Searched → Type 0
 IsSearched question splits depth cubes search (searched.Answer solved) =
     IsAnswer search solved × IfPoint solved (λ at. HoldsAll (valuation at) question)

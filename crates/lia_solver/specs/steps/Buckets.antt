@@ -12,7 +12,7 @@ next_hash h p =
 abbrev pub hash_of : List (ℕ × ℤ) → ℕ
 hash_of parts = fold next_hash 0 parts
 
--- the place of the chain among so many
+-- the place of the chain among `chains` chains
 abbrev pub chain_of : (chains hash : ℕ) → ℕ
 chain_of chains hash = hash * chains / 4294967296
 

@@ -1,4 +1,4 @@
--- More of what a branch, its search and the question of an atom come to.
+-- More of the answers of a branch, of its search and of the question of an atom.
 use Rattle.std.specs.Prelude.{List}
 use Rattle.linear_formula.specs.LinearSum.{Valuation, Is64, valuation}
 use Rattle.linear_formula.specs.Formula.{Holds, HoldsAll}

@@ -32,7 +32,7 @@ pub record AreGathered (rows : List Row) (entries : List Entry) : Type 0 where
   pub given : (i : ℕ) → i < length entries → IsGivenIn rows (entry_at entries i)
   pub least : (i : ℕ) → i < length entries → Contains (terms_of rows) (least_at entries i)
 
--- what becomes of a table when these are put behind its rows
+-- what becomes of a table when these are put after its rows
 abbrev pub ArePut : List Row → List Entry → List Entry → Type 0
 ArePut added old new = (rows : List Row) → AreGathered rows old → AreGathered (rows ++ added) new
 
@@ -60,7 +60,7 @@ pub record HasWideBelow (x : ℕ) (entries : List Entry) : Type 0 where
   pub paired : ArePaired x entries upper lower
   pub wide : ¬ IsTrue (is_within (pair_sum x (least_at entries upper, least_at entries lower)))
 
--- the same of the first column: behind it only the greatest constants are left
+-- the same of the first column: after it only the greatest constants are left
 abbrev pub IsNarrowFirst : List ℕ → List Entry → Type 0
 IsNarrowFirst [] entries = Unit {0}
 IsNarrowFirst (x ∷ xs) entries = AreNarrowBelow x entries

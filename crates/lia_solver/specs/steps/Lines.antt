@@ -22,7 +22,7 @@ entries_of pool lines =
 abbrev pub parts_at : List (ℕ × ℤ) → List Line → ℕ → List (ℕ × ℤ)
 parts_at pool lines i = slice_index_or (map (parts_of_line pool) lines) i []
 
--- the chain of the line at a place, of so many chains
+-- the chain of the line at a place, of `chains` chains
 abbrev pub bucket_at : (chains : ℕ) → List (ℕ × ℤ) → List Line → ℕ → ℕ
 bucket_at chains pool lines i = bucket_of chains (parts_at pool lines i)
 

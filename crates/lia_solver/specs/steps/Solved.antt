@@ -1,4 +1,4 @@
--- What the rows of a table come to, column by column.
+-- The answer of the rows of a table, column by column.
 use Rattle.std.specs.Prelude.{◌≡◌, ℕ, ◌+◌, ◌^◌, ◌<◌, ◌≤◌, true, List, [], ◌∷◌, length, map, filter, IsTrue, Contains, All, ℤ, pos, negsuc, neg_ℤ, int_le, ◌≤ℤ◌, ◌<ℤ◌, if◌then◌else◌}
 use Rattle.linear_formula.specs.LinearSum.{LinearSum, coefficient, is_ascending_from}
 use Rattle.infeasible_cert.specs.Right.{row_at}

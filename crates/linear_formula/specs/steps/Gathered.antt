@@ -1,4 +1,4 @@
--- Parts that were gathered by so many additions.
+-- Parts, and the number of additions that gathered them.
 use Rattle.std.specs.Prelude.{ℕ, List, ℤ}
 
 pub record Gathered : Type 0 where
