@@ -17,7 +17,7 @@ AreEdgesOf regions edges = (e a b : ℕ) → slice_get edges e ≡ Some (a, b) �
 abbrev pub IsOpen : (edges : List (ℕ × ℕ)) (shut : List Bool) (e a b : ℕ) → Type 0
 IsOpen edges shut e a b = (slice_get edges e ≡ Some (a, b)) × (is_at shut e ≡ false)
 
--- over these edges, none of which is shut, one behind the other
+-- over these edges, none of which is shut, one after the other
 abbrev pub IsRoute : (edges : List (ℕ × ℕ)) (shut : List Bool) → (from : ℕ) → List ℕ → (to : ℕ) →
     Type 0
 IsRoute edges shut from [] to = to ≡ from

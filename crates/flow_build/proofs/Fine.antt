@@ -92,7 +92,7 @@ module _ (globals : ℕ) (body : Statements) (nodes slots : ℕ) where
     pub below : n < nodes
     pub above : 2 ≤ n
 
-  -- a node that edges leave and come to
+  -- a node that edges leave and lead to
   pub record IsInner (n : ℕ) : Type 0 where
     pub below : n < nodes
     pub above : 2 ≤ n

@@ -150,7 +150,7 @@ module _ (P : PureProgram) (gs : List Graph) (ready : Ready P gs) where
   entered_told d told i args list w begins None e r h = absurd h
   entered_told d told i args list w begins (Some p) e r h = enters_told d told i p e args list w (begins p e) r h
 
-  -- what a call of the program comes to, the graphs' call comes to
+  -- the end of a call of the program is the end of the graphs' call
   call_told : (d : ℕ) → Tells d
   call_told zero q args w r fits ok h = absurd h
   call_told (suc d) q args w r fits ok h =

@@ -1,4 +1,4 @@
--- From what the source's step comes to, to an end of the graph: statements.
+-- From the end of the source's step to an end of the graph: statements.
 use Rattle.std.proofs.Common.{◌≡◌, ℕ, zero, suc, ◌+◌, ◌≤◌, List, [], ◌∷◌, ◌++◌, length, map, ap, Bool, true, false, cond, Some, None, ℤ, pos, IsTrue, refl, sym, ◌∙◌, subst, arith}
 use Rattle.c_tree.specs.Syntax.{Expression, Statement, block, set, set_global, ignore, assume, assert, if_else, loop, do_while, break, continue, return, Statements, no_statements, statement, PureProgram}
 use Rattle.c_tree.specs.Meaning.{State, with_slot, values_from, SetsGlobal, World, Progress, ends, Ending, stopped as source_stopped, failed as source_failed, Flow, normal, broken, continued, returned, Relation, Gives, Ends, Then, Choice, is_value, is_zero, Callee, Eval, AfterNormal, AfterBody, Turns, DoTurns, Exec, Execs}

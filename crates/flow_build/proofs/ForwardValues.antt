@@ -1,4 +1,4 @@
--- From what the source's step comes to, to an end of the graph: values and tests.
+-- From the end of the source's step to an end of the graph: values and tests.
 use Rattle.std.proofs.Common.{◌≡◌, ℕ, zero, suc, ◌+◌, ◌≤◌, List, [], ◌∷◌, ◌++◌, length, Bool, true, false, not, ◌&&◌, ◌||◌, cond, ℤ, pos, negsuc, ◌+ℤ◌, ◌-ℤ◌, ◌*ℤ◌, int_div, IsTrue, refl, sym, ap, ◌∙◌, subst, arith, map}
 use Rattle.std.proofs.lemmas.List.{map-append, length-map}
 use Rattle.c_tree.specs.Syntax.{PureProgram}

@@ -145,8 +145,7 @@ abbrev mutual
   statements_divisors (statement s ss) = statement_divisors s ++ statements_divisors ss
 
 -- a coefficient of an assignment: 1, -1, the value of a constant side of a product of the body, or
--- a
--- divisor of the body or its negative
+-- a divisor of the body or its negative
 abbrev pub IsCoefficient : Statements → ℤ → Type 0
 IsCoefficient body c =
     (c ≡ pos 1) ⊎ ((c ≡ negsuc 0) ⊎ (Contains (statements_factors body) c

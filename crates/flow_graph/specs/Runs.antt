@@ -28,7 +28,7 @@ pub data End : Type 0 where
 abbrev pub entry_list : PureProgram → ℕ → (args before : List ℤ) → List ℤ
 entry_list P p args before = cond (p == P.main) [] (args ++ before)
 
--- the exit list of a run that returns: the value and then the globals behind it
+-- the exit list of a run that returns: the value and then the globals after it
 abbrev pub exit_list : ℤ → (after : List ℤ) → List ℤ
 exit_list v after = v ∷ after
 

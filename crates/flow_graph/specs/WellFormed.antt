@@ -62,7 +62,7 @@ pub record IsEdge (nodes exit fail exits slots : ℕ) (e : Edge) : Type 0 where
   pub to_exit : is_return e ≡ (target e == exit)
   pub to_fail : is_assert e ≡ (target e == fail)
 
--- the entry with so many parameters
+-- the entry with `params` parameters
 abbrev pub is_entry_of : (params : ℕ) → Option Edge → Bool
 is_entry_of params (Some (Entry to n)) = n == params
 is_entry_of params _ = false

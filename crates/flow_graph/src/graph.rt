@@ -76,7 +76,7 @@ impl Slots {
 /// A step from one node to the next. Rows are read at the slots.
 #[derive(Debug, Drop)]
 pub enum Edge {
-    /// A frame begins, with so many entry values in the first slots and 0 in the others.
+    /// A frame begins, with `params` entry values in the first slots and 0 in the others.
     Entry {
         to: u32,
         params: u32,

@@ -59,7 +59,7 @@ pub const GLOBALS: &[(&str, &[&[i64]])] = &[
         "int g; int put(int v){ int old = g; g = v; return old; } int main(){ g = input(); return put(g + 1) * 100 + put(put(g) + g) * 10 + put(g - 1) + g; }",
         &[&[4]],
     ),
-    // behind && and ||, in tests
+    // after && and ||, in tests
     (
         "int g = 1; int f(){ g++; return g < 4; } int main(){ int r = g && f() && g == 2; r = r * 10 + (g == 2 || f()); r = r * 10 + (f() && g == 3 && !f()); if (g > 3 && f() || g == 5) r += 1000; return r * 10 + g; }",
         &[],

@@ -145,7 +145,7 @@ fn enters(rt: HostRuntime) -> Result<(), Fail> {
     Ok(())
 }
 
-/// What is told of the first pair of an elimination: its column, its upper and its lower row.
+/// What is said of the first pair of an elimination: its column, its upper and its lower row.
 type Told<'a> = (u32, Plain<'a>, Plain<'a>);
 
 /// An edge and a target whose preimage isn't exact, the rows, and the pair.

@@ -119,7 +119,7 @@ fn are_steps(edges: &[Edge], steps: &[Step]) -> bool {
     edges.len() == steps.len()
 }
 
-/// Whether edge 0 is the entry, and the steps stand behind it.
+/// Whether edge 0 is the entry, and the steps follow it.
 fn has_edges(edges: &[Edge], shape: &Shape) -> bool {
     match edges {
         [Edge::Entry { to: 2, params }, rest @ ..] => {
@@ -161,7 +161,7 @@ const COUNTS: Counts = Counts {
 const NO_GRAPHS: &[&[Step]] = &[
     // a node that isn't there
     &[(2, 4, Does::Input(0))],
-    // from the exit, and back to the node behind the entry
+    // from the exit, and back to the node after the entry
     &[(0, 3, Does::Input(0))],
     &[(3, 2, Does::Input(0))],
     // a slot that isn't there

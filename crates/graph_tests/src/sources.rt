@@ -363,7 +363,7 @@ pub const EXPRESSIONS: &[&str] = &[
     "g(f(1), f(2)) - g(2, x)",
 ];
 
-/// What stands before an expression and behind it.
+/// What stands before an expression and after it.
 pub const CONTEXTS: &[(&str, &str)] = &[
     ("return ", ";"),
     ("int y = ", "; return y - x;"),

@@ -49,7 +49,7 @@ fn keep_first(lists: &mut Vec<Ends>, regions: u32)
     }
 }
 
-/// Adds the edges behind the others.
+/// Adds the edges after the others.
 fn push_all(edges: &mut Vec<RegionEdge>, more: RegionEdges<'_>) -> Result<(), OutOfMemory>
     ensures { OnOk result (edges.new.items ≡ edges.old.items ++ more.entry) }
 {
@@ -60,7 +60,7 @@ fn push_all(edges: &mut Vec<RegionEdge>, more: RegionEdges<'_>) -> Result<(), Ou
 }
 
 impl Edges {
-    /// So many regions, and no edges.
+    /// `regions` regions, and no edges.
     pub fn new(alloc: Global, regions: u32) -> Result<Edges, OutOfMemory>
         ensures count { IfOk result (λ edges. edges.count ≡ regions) }
         ensures edges { IfOk result (λ edges. edges.edges ≡ []) }
@@ -92,7 +92,7 @@ impl Edges {
         Ok(())
     }
 
-    /// Adds regions without edges until there are so many.
+    /// Adds regions without edges until there are `regions`.
     pub fn extend(&mut self, alloc: Global, regions: u32) -> Result<(), OutOfMemory>
         requires { self.old.count ≤ regions }
         ensures count { OnOk result (self.new.count ≡ regions) }

@@ -104,7 +104,7 @@ one_call C longer edges i n to site at k start s ins used end f run more =
     (subst (λ l. Frame C edges k start l (inside n s) (used ++ more)) (sym (append_assoc ins used more)) (f (used ++ more)))
     (i, call_edge n to site, at, refl, (end, longer site.procedure (map s site.arguments) used [] end more run, refl))
 
--- The place behind
+-- The place after the call
 module _ (gs : List Graph) (g : Graph) (ok : IsGraph g.nodes g.exit g.fail g.params g.exits g.slots g.edges) (t : Trace)
     (h : IsTrail gs g t)
     (i from to : ℕ) (site : CallSite) (at : slice_get g.edges i ≡ Some (call_edge from to site)) (src : from ≡ t.node)

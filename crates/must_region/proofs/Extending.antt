@@ -125,7 +125,7 @@ module _ (g : Graph) (ok : IsGraph g.nodes g.exit g.fail g.params g.exits g.slot
     pub leave : (t.node < g.nodes) × (t.node ≢ g.exit) × (t.node ≢ g.fail)
     leave = (ok.are_edges i e at).leaves t.node src
 
-    -- the place behind an edge to an inner node
+    -- the place after an edge to an inner node
     pub behind : (v : Valuation) (to : ℕ) (slots : List LinearSum) → is_return e ≡ false → target e ≡ to →
         end_place g.exit v to slots t.failed ≡ inside to (slots_at v slots)
     behind v to slots r tgt = inner_place g.exit v to slots t.failed (kept.unfailed leave.2)
@@ -139,7 +139,7 @@ module _ (g : Graph) (ok : IsGraph g.nodes g.exit g.fail g.params g.exits g.slot
   symbol_good v v64 = subst (λ z. IsTrue (is_value z)) (sym (value-column v (first_symbol + t.symbols)))
       (value_of_64 (v (first_symbol + t.symbols)) (v64 (first_symbol + t.symbols)))
 
-  -- What meets the guard behind an edge steps over it
+  -- What meets the guard after an edge steps over it
 
   pub takes_step : (e : Edge) → slice_get g.edges i ≡ Some e → source e ≡ Some t.node → is_call e ≡ false → TakesStep g t e (extended t e)
   takes_step (Entry to params) at src plain v v64 h = absurd (none-some t.node src)

@@ -12,7 +12,7 @@ symbols_last first (suc count) =
     ap (λ ts. column_sum first ∷ ts) (symbols_last (first + 1) count ∙ ap (λ n. symbols_from (first + 1) count ++ column_sum n ∷ [])
     (let e : (first + 1) + count ≡ first + suc count = omega arith in e))
 
--- one symbol more behind others
+-- one symbol more after others
 pub one_symbol_more : (old new start : List LinearSum) (t : LinearSum) (first count : ℕ) → old ≡ start ++ symbols_from first count →
     t ≡ column_sum (first + count) →
     new ≡ old ++ t ∷ [] → new ≡ start ++ symbols_from first (count + 1)

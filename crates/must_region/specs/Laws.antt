@@ -59,13 +59,13 @@ ExtendsByMusts =
 -- Two laws about one step over an edge that is no call. They ask nothing of where the frame began,
 -- so they hold of each trail, and of a frame whose entry values are any terms.
 
--- what meets the guard behind the edge has stepped over it
+-- what meets the guard after the edge has stepped over it
 abbrev pub StepsAreTaken : Type 0
 StepsAreTaken =
     (g : Graph) (t : Trace) (i : ℕ) (e : Edge) →
     HasTerms g t → Leaves g t i e → TakesStep g t e (extended t e)
 
--- each step is that of an assignment which meets the guard behind the edge
+-- each step is that of an assignment which meets the guard after the edge
 abbrev pub NoStepIsLost : Type 0
 NoStepIsLost =
     (g : Graph) (t : Trace) (i : ℕ) (e : Edge) →

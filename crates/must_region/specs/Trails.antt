@@ -28,7 +28,7 @@ end_place exit v node slots (Some id) = failing id (slots_at v slots)
 end_place exit v node slots None = if node == exit then left (values_of v slots) else inside node
     (slots_at v slots)
 
--- From its beginning, over so many edges, whatever inputs stand behind those of the trail. The
+-- From its beginning, over k edges, whatever inputs follow those of the trail. The
 -- depth is that of the calls.
 abbrev pub IsFrameAt : List Graph → Graph → Trace → Valuation → Type 0
 IsFrameAt gs g t v =
@@ -64,9 +64,8 @@ GivesRuns gs path =
     (end_with path.exit (values_of v path.outcome))
 
 -- A step is taken over an edge that is no call, which needs no graphs. Where v meets the guard
--- behind the edge, it meets the one before it, and the state at v steps over the edge to the place
--- behind it. The step reads the values of the inputs that are new, whatever inputs stand behind
--- them.
+-- after the edge, it meets the one before it, and the state at v steps over the edge to the place
+-- after it. The step reads the values of the inputs that are new, whatever inputs follow them.
 abbrev pub TakesStep : Graph → Trace → Edge → Trace → Type 0
 TakesStep g t e new =
     (v : Valuation) → Is64 v → HoldsAll v new.guard.atoms →
@@ -77,7 +76,7 @@ TakesStep g t e new =
 
 -- No step is lost over an edge that is no call. Where v meets the guard and the state at v steps
 -- over the edge, some assignment that agrees with v at the old symbols meets the extended guard,
--- and gives the place behind the step and the inputs that were read.
+-- and gives the place after the step and the inputs that were read.
 abbrev pub LosesNoStep : Graph → Trace → Edge → Trace → Type 0
 LosesNoStep g t e new =
     (v : Valuation) → Is64 v → HoldsAll v t.guard.atoms → (ins rest : List ℤ) (b : Place) →

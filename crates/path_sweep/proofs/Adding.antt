@@ -1,4 +1,4 @@
--- What an edge adds to a path, and the frame behind it.
+-- What an edge adds to a path, and the frame after it.
 use Rattle.std.proofs.Common.{◌≡◌, ℕ, List, [], ◌∷◌, ◌++◌, ◌+◌, length, map, Option, Some, None, Result, Ok, Err, false, ◌==◌, refl, sym, subst, ap, ◌∙◌}
 use Rattle.std.specs.Prelude.{slice_get, slice_index_or, IfOk, OnOk, IsTrue}
 use Rattle.std.proofs.lemmas.Option.{same_Some, none-some, get_or_from_slice_get}

@@ -1,4 +1,4 @@
--- The steps of the walk: how far the feasible paths are counted. The bound is the running path with the number of its next edge behind it.
+-- The steps of the walk: how far the feasible paths are counted. The bound is the running path with the number of its next edge at the end.
 use Rattle.std.proofs.Common.{◌≡◌, ◌⊎◌, inl, inr, ℕ, suc, ◌<◌, ◌≤◌, List, [], ◌∷◌, ◌++◌, arith, refl, sym, subst, ap, ◌∙◌, append-nil}
 use Rattle.path_sweep.specs.Order.{Before, AreThose}
 use Rattle.path_sweep.proofs.Ordering.{compared, push_those, those_same}
@@ -58,7 +58,7 @@ deeper_down (j ∷ p) (x ∷ q) (inr h) = on (deeper_down p q h.1) where
   on (inl k) = inl (inr (h.0, k))
   on (inr e) = inr (ap (λ n. n ∷ q) h.0 ∙ ap (λ r. j ∷ r) e)
 
--- behind all edges of a path
+-- after all edges of a path
 pub back_up : (p : List ℕ) (j i : ℕ) (q : List ℕ) → Before q ((p ++ j ∷ []) ++ i ∷ []) → Before q (p ++ suc j ∷ [])
 back_up [] j i [] h = tt
 back_up [] j i (x ∷ q) (inl h) = inl (omega (arith, h))
@@ -67,7 +67,7 @@ back_up (y ∷ p) j i [] h = tt
 back_up (y ∷ p) j i (x ∷ q) (inl h) = inl h
 back_up (y ∷ p) j i (x ∷ q) (inr h) = inr (h.0, back_up p j i q h.1)
 
--- it goes on behind this path with an edge from i on
+-- it goes on after this path with an edge from i on
 pub record GoesOn (p : List ℕ) (i : ℕ) (q : List ℕ) : Type 0 where
   pub edge : ℕ
   pub from : i ≤ edge
@@ -148,7 +148,7 @@ empty_behind : (xs more : List ℕ) → xs ++ more ≡ [] → more ≡ []
 empty_behind [] more e = e
 empty_behind (x ∷ xs) more e = absurd (cc)
 
--- a list with one more behind another one begins with it or is it
+-- a list with one more after another one begins with it or is it
 snoc_front : (xs more ys : List ℕ) (y : ℕ) → xs ++ more ≡ ys ++ y ∷ [] → (more ≡ []) ⊎ Begins xs ys
 snoc_front [] [] ys y e = inl refl
 snoc_front [] (z ∷ more) ys y e = inr (record { more = ys; is = refl })

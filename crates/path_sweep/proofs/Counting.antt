@@ -48,7 +48,7 @@ module _ (gs : List Graph) (main : ℕ) where
   fails_apart v (gave terms) id e = absurd (cc)
   fails_apart v (fails j) id e = let same : j ≡ id = cc in ap fails same
 
-  -- a path that fails comes to a failure
+  -- a path that fails ends in a failure
   pub fails_as : AreGraphs gs → (g : Graph) → slice_get gs main ≡ Some g → g.params ≡ 0 → (q : List ℕ) (after : Walked) →
       ComesTo gs q (begun g) after → (id : ℕ) → FailsAt gs main id q → after.at ≡ fails id
   fails_as linked g at none q after comes id f =
@@ -123,7 +123,7 @@ module _ (gs : List Graph) (main : ℕ) where
   asked : (q : List ℕ) → Undecided gs main q → (p : List ℕ) × (i : ℕ) × (q ≡ p ++ i ∷ []) × IsFeasible gs main p
   asked q u = (u.1.question.front, u.1.question.edge, u.1.question.is, u.1.question.feasible)
 
-  -- what stands before the path with this number behind it was counted
+  -- what stands before the path with this number after it was counted
   pub record Reached (p : List ℕ) (i : ℕ) (paths : List (List ℕ)) : Type 0 where
     pub those : AreThose (FeasibleBefore gs main (p ++ i ∷ [])) paths
     pub clear : (q : List ℕ) → Before q (p ++ i ∷ []) → Undecided gs main q → ⊥

@@ -1,4 +1,4 @@
--- What a path comes to keeps: a term for each slot of each frame, and terms that name its symbols alone.
+-- The state of a path keeps: a term for each slot of each frame, and terms that name its symbols alone.
 use Rattle.std.proofs.Common.{◌≡◌, ℕ, zero, suc, ◌+◌, ◌-◌, ◌≤◌, List, [], ◌∷◌, ◌++◌, length, map, drop, replicate, Some, Bool, true, ◌==◌, nat_lt, nat_le, ℤ, pos, arith, refl, sym, subst, ◌∙◌, length-append}
 use Rattle.std.specs.Prelude.{slice_get, slice_set, IsTrue}
 use Rattle.std.specs.List.{list_all}

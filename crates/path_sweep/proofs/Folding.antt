@@ -19,7 +19,7 @@ module _ (gs : List Graph) (id : ℕ) (rest : List ℤ) where
     pub count : ℕ
     pub ends : EndsIn (GraphRun gs depth) g.edges count a ins mid end
 
-  -- behind such an end the execution goes on to the failure: the frame failed, or returned, and the
+  -- after such an end the execution goes on to the failure: the frame failed, or returned, and the
   -- one that called it goes on
   abbrev Goes : End → List Caller → List ℤ → Type 0
   Goes stopped cs mid = ⊥

@@ -137,7 +137,7 @@ links_end g links left z h =
     let hs = subst (λ n. LinksFrom g.nodes g.edges n links.first.items links.next.items) z h in
     record { first = λ node. hs.firsts node; next = λ node k l. hs.nexts node k (omega arith) l }
 
--- the links of so many graphs
+-- the links of the first `count` graphs
 pub record AllSoFar (gs : List Graph) (count : ℕ) (all : List Links) : Type 0 where
   pub many : length all ≡ count
   pub each : (p : ℕ) (g : Graph) → p < count → slice_get gs p ≡ Some g → (l : Links) × (slice_get all p ≡ Some l) × AreLinks g l

@@ -19,7 +19,7 @@ use Rattle.must_region.proofs.Agreeing.{Agree}
 use Rattle.must_region.proofs.Extending.{behind, leave, exit_place, takes_step}
 use Rattle.must_region.proofs.Losing.{loses_none}
 
--- where the trace stands behind the edge
+-- where the trace stands after the edge
 abbrev pub place_by : Valuation → Edge → Trace → Place
 place_by v (Assert from to id rows) t = failing id (slots_at v t.slots)
 place_by v (Return from to slots) t = left (values_of v t.slots)

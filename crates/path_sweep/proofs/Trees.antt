@@ -1,4 +1,4 @@
--- The path tree: fronts of feasible paths are feasible, and a path comes to one thing by terms.
+-- The path tree: fronts of feasible paths are feasible, and a path has one state by terms.
 use Rattle.std.proofs.Common.{◌≡◌, ◌≢◌, ℕ, List, [], ◌∷◌, ◌++◌, map, ℤ, refl, sym, subst, ap, ◌∙◌, append_assoc}
 use Rattle.std.proofs.lemmas.Option.{same_Some}
 use Rattle.c_tree.specs.Meaning.{State}
@@ -13,7 +13,7 @@ use Rattle.path_sweep.specs.Executions.{Caller, Standing, entering, running, end
 use Rattle.path_sweep.specs.Guards.{Waiting, Stage, enters, runs, gave, fails, Walked, opened, FollowsEdge, FollowsAt, Follows, ComesTo}
 use Rattle.path_sweep.proofs.Bounds.{Begins}
 
--- Inputs that are left stand behind those that are used
+-- Inputs that are left follow those that are used
 module _ (gs : List Graph) where
   plain_cut : (g : Graph) (cs : List Caller) (e : Edge) (s : State) (b : Standing) (ins rest : List ℤ) →
       (place : Place) × Step (GraphRun [] 0) e s ins place rest × (b ≡ standing_at g cs place) →
@@ -105,7 +105,7 @@ module _ (gs : List Graph) where
   begins_with main [] f = absurd (f.some refl)
   begins_with main (i ∷ p) f = record { more = p; is = ap (λ n. n ∷ p) f.taken.takes.2.0 }
 
-  -- what it comes to is one thing
+  -- its state is one
   edge_one : (w : Walked) (g : Graph) (node : ℕ) (slots entry : List LinearSum) (ws : List Waiting) (e : Edge) (sums sums' : List Sum)
       (x y : Walked) → FollowsEdge gs w g node slots entry ws e sums x → FollowsEdge gs w g node slots entry ws e sums' y →
       (sums ≡ sums') × (x ≡ y)

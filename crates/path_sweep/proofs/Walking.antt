@@ -1,4 +1,4 @@
--- What a path comes to, one edge more, and what is known of its question.
+-- The state of a path, one edge more, and what is known of its question.
 use Rattle.std.proofs.Common.{◌≡◌, ◌⊎◌, inl, inr, ℕ, List, [], ◌∷◌, ◌++◌, length, map, take, Some, None, refl, sym, subst, ap, ◌∙◌, append_assoc, append-nil, ℤ}
 use Rattle.std.specs.Prelude.{slice_get}
 use Rattle.std.proofs.lemmas.Option.{same_Some, none-some}

@@ -47,7 +47,7 @@ module _ (gs : List Graph) (main : ℕ) where
   abbrev pub FeasibleBefore : List ℕ → List ℕ → Type 0
   FeasibleBefore bound path = IsFeasible gs main path × Before path bound
 
-  -- The tree has at most so many edges, and these are its paths.
+  -- The tree has at most `edges` edges, and these are its paths.
   pub record IsWhole (edges : ℕ) (counted : List (List ℕ)) : Type 0 where
     pub those : AreThose (IsFeasible gs main) counted
     pub few : length counted ≤ edges
@@ -94,7 +94,7 @@ abbrev pub inputs_in : Option (Vec ℤ Global) → Option (List ℤ)
 inputs_in None = None
 inputs_in (Some v) = Some v.items
 
--- The sweep ends so behind these counted paths, and there is an entry for each assertion.
+-- The sweep ends so after these counted paths, and there is an entry for each assertion.
 pub record EndsSo (gs : List Graph) (main asserts edges : ℕ) (swept : Swept) : Type 0 where
   pub counted : List (List ℕ)
   pub ends : IsEnd gs main edges counted swept.end
@@ -102,7 +102,7 @@ pub record EndsSo (gs : List Graph) (main asserts edges : ℕ) (swept : Swept) :
   pub entries : (id : ℕ) (o : Option (Vec ℤ Global)) → slice_get swept.found.items id ≡ Some o →
       IsEntry gs main counted id (inputs_in o)
 
--- where no question meets a limit, and the tree has at most so many edges, the sweep is whole
+-- where no question meets a limit, and the tree has at most `edges` edges, the sweep is whole
 abbrev pub ComesWhole : List Graph → (main edges : ℕ) → SweepEnd → Type 0
 ComesWhole gs main edges end =
     ((q : List ℕ) → Undecided gs main q → ⊥) → (paths : List (List ℕ)) →

@@ -1,4 +1,4 @@
--- What a path comes to by terms: its guard, its inputs, and where it stands.
+-- The state of a path by terms: its guard, its inputs, and where it stands.
 use Rattle.std.specs.Prelude.{◌≡◌, ℕ, ◌-◌, List, [], ◌∷◌, ◌++◌, map, replicate, None, Some, slice_get, pos}
 use Rattle.linear_formula.specs.LinearSum.{LinearSum, Valuation}
 use Rattle.linear_formula.specs.Results.{constant_sum}

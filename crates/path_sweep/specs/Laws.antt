@@ -63,7 +63,7 @@ HasOneEnd =
     × (IsMore gs main edges c → IsLimited gs main edges d x → ⊥)
     × (IsLimited gs main edges c x → IsLimited gs main edges d y → x ≡ y)
 
--- where no question meets a limit, and the tree has at most so many edges, no other end comes
+-- where no question meets a limit, and the tree has at most `edges` edges, no other end comes
 abbrev pub SweepsAreWhole : Type 0
 SweepsAreWhole =
     (gs : List Graph) (main edges : ℕ) → ((q : List ℕ) → Undecided gs main q → ⊥) →

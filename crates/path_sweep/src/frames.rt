@@ -10,7 +10,7 @@ pub enum Place {
     Entering,
     /// At a node of its graph.
     At(u32),
-    /// Behind the return of the first frame; the slots are the returned terms.
+    /// After the return of the first frame; the slots are the returned terms.
     Returned,
     /// At an assertion that fails.
     Failed(AssertId),

@@ -24,7 +24,7 @@ pub struct Following {
     graphs: Vec<Links>,
 }
 
-/// So many times nothing.
+/// Nothing, `count` times.
 fn nothing(alloc: Global, count: usize) -> Result<Vec<Option<usize>>, OutOfMemory>
     ensures { IfOk result (λ v. v.items ≡ replicate count None) }
 {

@@ -108,7 +108,7 @@ fn over_call(
     })
 }
 
-/// Behind a return: the frame that called goes on, with the returned terms in the slots of the
+/// After a return: the frame that called goes on, with the returned terms in the slots of the
 /// results.
 fn returned(
     alloc: Global,

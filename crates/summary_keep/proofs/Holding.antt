@@ -1,5 +1,6 @@
 -- What is kept holds of the new program.
-use Rattle.std.proofs.Common.{◌≡◌, ◌==◌, ℕ, ◌+◌, List, [], ◌++◌, length, Bool, true, false, cond, Option, Some, None, ℤ, refl, sym, ◌∙◌, subst, ap, IsTrue}
+use Rattle.std.proofs.Common.{◌≡◌, ◌==◌, ℕ, ◌+◌, List, [], ◌++◌, length, cond, Option, Some, None, ℤ, refl, sym, ◌∙◌, subst, ap, IsTrue}
+use Rattle.std.specs.Cmp.{both_ways}
 use Rattle.std.specs.Prelude.{slice_get, if◌then◌else◌}
 use Rattle.std.specs.Option.{option_map}
 use Rattle.std.proofs.lemmas.Option.{same_Some, none-some}
@@ -91,15 +92,10 @@ module _ (P Q : PureProgram) (fp : IsWellFormed P) (fq : IsWellFormed Q) (procs 
         in
         subst (λ z. end_with z values ≡ end_of new after) (sym e.2) (ap failed (same_Some e.0 s.0 one) ∙ ap (λ z. end_of z after) (sym s.2))
 
-    same_test : (a b : Bool) → (a ≡ true → b ≡ true) → (b ≡ true → a ≡ true) → a ≡ b
-    same_test true b f g = sym (f refl)
-    same_test false true f g = g refl
-    same_test false false f g = refl
-
     same_main : (p q : ℕ) → IsTrue (R p q) → (q == Q.main) ≡ (p == P.main)
     same_main p q h =
         let r = is.all p q h in
-        same_test (q == Q.main) (p == P.main) (λ k. eq-eqb p P.main (r.main.1 (eqb-true q Q.main k)))
+        both_ways (q == Q.main) (p == P.main) (λ k. eq-eqb p P.main (r.main.1 (eqb-true q Q.main k)))
         (λ k. eq-eqb q Q.main (r.main.0 (eqb-true p P.main k)))
 
     same_arity : (p q : ℕ) → IsTrue (R p q) → arity_of_program Q q ≡ arity_of_program P p

@@ -28,7 +28,7 @@ use summary_form::path::Path;
 use summary_form::query::{ExitKind, Query};
 use summary_form::summary::Summary;
 
-/// What the question of one summary comes to.
+/// The answer to the question of one summary.
 #[derive(Drop)]
 pub enum Asked {
     Answers(AnswerProof),

@@ -21,7 +21,7 @@ fn low_sum(alloc: Global, slots: u32) -> Result<Cube, Fail> {
     Ok(cube_of(alloc, &[(parts.as_slice(), 0)])?)
 }
 
-/// So many inputs, each in a slot of its own, and then a condition on their sum.
+/// `inputs` inputs, each in a slot of its own, and then a condition on their sum.
 fn edges_of(alloc: Global, inputs: u32) -> Result<Edges, Fail>
     requires { inputs ≤ 1000 }
 {

@@ -1,4 +1,4 @@
-//! Sweeps, told by plain values.
+//! Sweeps, said by plain values.
 
 ghost use Rattle.std.specs.Prelude.{◌≡◌, IsTrue, Some, slice_get};
 ghost use Rattle.flow_graph.specs.declared.graph.Graph.{Graph as AGraph};

@@ -90,7 +90,7 @@ fn kind_by(number: u32) -> (u32, ExitKind)
 
 const PUSHES: u32 = 400;
 
-/// Whether a table answers as a look at each summary does while so many are pushed.
+/// Whether a table answers as a look at each summary does while `PUSHES` are pushed.
 fn plays(alloc: Global) -> Result<bool, LinError> {
     let mut table = Table::with_room(alloc, PUSHES)?;
     let mut seed: u32 = 1;

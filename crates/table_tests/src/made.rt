@@ -40,7 +40,7 @@ pub fn must(alloc: Global) -> Result<Arc<Summary>, Fail>
     Ok(Arc::new(alloc, Summary::Must(path))?)
 }
 
-/// Two summaries, and room for so many.
+/// Two summaries, and room for no more.
 pub fn table_of(
     alloc: Global,
     first: Arc<Summary>,

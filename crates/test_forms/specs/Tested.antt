@@ -29,7 +29,7 @@ is_edge nodes exit fail exits slots e =
     && (nat_lt (target e) nodes && (has_slots slots e
     && (has_terms e && (has_lists exits e && has_ends exit fail e))))
 
--- an edge behind the entry, which leads to the first node
+-- an edge after the entry, which leads to the first node
 abbrev pub is_later : (fail first : ℕ) → Edge → Bool
 is_later fail first e = not (is_entry e) && not (leads fail e first)
 
@@ -44,7 +44,7 @@ is_linked gs (Call from to proc args results) =
     takes (slice_get gs proc) (length args) (length results)
 is_linked gs _ = true
 
--- edges behind one another, with the exit 0 and the failure 1
+-- edges one after another, with the exit 0 and the failure 1
 abbrev pub is_graph : (nodes params exits slots : ℕ) → List Edge → Bool
 is_graph nodes params exits slots edges =
     is_entry_of params (slice_get edges 0)

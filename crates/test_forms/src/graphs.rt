@@ -9,11 +9,11 @@ use flow_graph::graph::{Edge, Edges, Graph};
 use flow_graph::graphs::{GraphList, Graphs};
 use std::alloc::Global;
 
-/// A graph with the exit 0, the failure 1, and node 2 behind the entry.
+/// A graph with the exit 0, the failure 1, and node 2 after the entry.
 #[derive(Clone, Copy)]
 pub struct Shape<'a> {
     pub counts: Counts,
-    /// The edges behind the entry, in order.
+    /// The edges after the entry, in order.
     pub steps: &'a [Step<'a>],
 }
 

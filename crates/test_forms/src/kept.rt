@@ -141,7 +141,7 @@ fn is_edge(counts: Counts, edge: &Edge) -> bool
             && (slots && (has_lists(edge, counts.exits) && has_ends(edge))))
 }
 
-/// Whether the edge is no entry, and doesn't lead back to the node behind the entry.
+/// Whether the edge is no entry, and doesn't lead back to the node after the entry.
 fn is_later(first: u32, edge: &Edge) -> bool
     ensures { result ≡ later 1 first edge.now }
 {
@@ -200,7 +200,7 @@ pub fn is_graph(counts: Counts, edges: &[Edge]) -> bool
     passes(counts, edges)
 }
 
-/// Whether the graph has so many entry values and exit values.
+/// Whether the graph has `args` entry values and `results` exit values.
 fn takes(graphs: &[Graph], proc: u32, args: usize, results: usize) -> bool
     ensures { result ≡ taken (slice_get graphs.now proc) args results }
 {

@@ -15,7 +15,7 @@ use summary_form::path::{Path, Terms};
 use summary_form::query::ExitKind;
 
 /// What a path is: the rows of its guard, and the sums of its entry values, of its inputs and of
-/// its exit values, over so many symbols.
+/// its exit values, over `symbols` symbols.
 #[derive(Clone, Copy)]
 pub struct Says<'a> {
     pub proc: u32,

@@ -32,7 +32,7 @@ assign 9 10 1 0 0
 return 10 0 1 1
 ";
 
-/// Values alone, inputs and a loop, a procedure behind `main`, globals, a quotient, negative
+/// Values alone, inputs and a loop, a procedure after `main`, globals, a quotient, negative
 /// numbers up to the ends of 64 bits.
 const PROGRAMS: &[&str] = &[
     SUM,

@@ -1,4 +1,4 @@
--- Rows that are read, and the rows of a range behind them.
+-- Rows that are read, and the rows of a range after them.
 use Rattle.std.proofs.Common.{◌≡◌, List, [], ◌++◌, None, Option, ℕ, ap, sym, ◌∙◌}
 use Rattle.linear_formula.specs.LinearSum.{LinearSum}
 use Rattle.linear_formula.specs.declared.formula.Atom.{Atom}

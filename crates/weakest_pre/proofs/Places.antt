@@ -1,4 +1,4 @@
--- The columns before an edge, read at the sums in the places of those behind it.
+-- The columns before an edge, read at the sums in the places of those after it.
 use Rattle.std.proofs.Common.{◌≡◌, ◌⊎◌, inl, inr, cond, zero, suc, get_or, ℕ, ◌<◌, ◌≤◌, ◌+◌, ◌-◌, Bool, true, false, List, [], ◌∷◌, length, map, ℤ, pos, ◌+ℤ◌, ◌*ℤ◌, ◌==◌, nat_lt, nat_le, arith, refl, ◌∙◌, ap, sym}
 use Rattle.std.specs.Prelude.{IsTrue, if◌then◌else◌}
 use Rattle.std.specs.List.{list_all}

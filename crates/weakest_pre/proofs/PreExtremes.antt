@@ -1,4 +1,4 @@
--- The preimage of extreme rows: the extremes of the preimage of all rows, with what the edge adds behind both.
+-- The preimage of extreme rows: the extremes of the preimage of all rows, with what the edge adds after both.
 use Rattle.std.proofs.Common.{◌≡◌, ℕ, suc, ◌+◌, ◌-◌, ◌≤◌, Bool, true, false, List, [], ◌∷◌, ◌++◌, length, None, Some, Option, append-nil, arith, refl, sym, ap, subst, ◌∙◌}
 use Rattle.std.specs.Prelude.{slice_index_or, if◌then◌else◌}
 use Rattle.std.specs.List.{range_with_len}
@@ -32,7 +32,7 @@ KeepsColumns (Call from to proc args results) = ⊥
 KeepsColumns (Assert from to id rows) = Unit {0}
 KeepsColumns (Return from to slots) = Unit {0}
 
--- the same rows behind extreme rows and behind all
+-- the same rows after extreme rows and after all
 pub extremes_before : (ns : List ℕ) (rows all own : List Atom) → AreExtremes ns rows all →
     AreExtremes (ns ++ range_with_len (length all) (length own)) (rows ++ own) (all ++ own)
 extremes_before ns rows all own x = record {
@@ -45,7 +45,7 @@ extremes_before ns rows all own x = record {
       (between_itself own (slice_index_or own i d) (All-contains_itself own i d h)));
 }
 
--- What is read of the rows, with own rows behind
+-- What is read of the rows, with own rows after
 
 -- how many rows the edge adds, and the extremes
 record IsBehind (ns : List ℕ) (rows all pre whole : List Atom) : Type 0 where
@@ -101,7 +101,7 @@ module _ (ns : List ℕ) (rows all pre : List Atom) (pair : Pair) (x : AreExtrem
       Whole edge ns rows all pre
   given edge whole e h = (whole, e, h.more, h.count, h.extremes)
 
-  -- sums of the rows, with others behind
+  -- sums of the rows, with others after
   record IsSummed (by : ℕ → LinearSum) (own : List Sum) : Type 0 where
     whole : List Atom
     given : summed (row_sums by all ++ own) (λ l. gives l None) ≡ gives whole None
@@ -142,7 +142,7 @@ module _ (ns : List ℕ) (rows all pre : List Atom) (pair : Pair) (x : AreExtrem
   all_tested : (own : List Atom) → gives (rows ++ own) None ≡ gives pre pair → IsBehind ns rows all pre (all ++ own)
   all_tested own e = behind ns rows all own rows all pre refl refl x (gives-rows (rows ++ own) pre None pair e)
 
--- the preimage of extreme rows has the extremes of the preimage of all rows; what the edge adds of its own stands behind both
+-- the preimage of extreme rows has the extremes of the preimage of all rows; what the edge adds of its own stands after both
 pub pre-extremes : (edge : Edge) (ns : List ℕ) (rows all pre : List Atom) (pair : Option (ℕ × (LinearSum × LinearSum))) →
     KeepsColumns edge → AreExtremes ns rows all → preimage edge rows ≡ gives pre pair →
     (whole : List Atom) × (preimage edge all ≡ gives whole None) × (length rows ≤ length pre)

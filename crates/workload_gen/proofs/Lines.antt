@@ -48,7 +48,7 @@ line_short i h = by_choice (i % 3 == 0)
     by_choice true = failing_short i h
     by_choice false = safe_short i h
 
--- texts for so many numbers
+-- texts for n numbers
 pieces_short : (f : ℕ → List ℕ) (most : ℕ) → ((i : ℕ) → i < 100 → length (f i) ≤ most) →
     (n a : ℕ) → a + n ≤ 100 → length (flat_map f (range_with_len a n)) ≤ n * most
 pieces_short f most short zero a h = omega arith

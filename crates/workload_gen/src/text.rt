@@ -65,7 +65,7 @@ fn push_main(text: &mut String, number: u32) -> Result<(), OutOfMemory>
     Ok(())
 }
 
-/// The text of the workload program with so many procedures beside `main`. Each has one assertion,
+/// The text of the workload program with `number` procedures beside `main`. Each has one assertion,
 /// and that of every third one can fail.
 pub fn program_of(alloc: Global, number: u32) -> Result<Vec<u8>, OutOfMemory>
     requires some { 1 ≤ number }

@@ -10,7 +10,7 @@ use std::test::Fail;
 use test_programs::program::program_of;
 use workload_gen::{MAX_NUMBER, program_of as text_of};
 
-/// The program with so many procedures beside `main`, as the front end reads it.
+/// The program with `number` procedures beside `main`, as the front end reads it.
 fn program(alloc: Global, number: u32) -> Result<Program, Fail>
     requires some { 1 ≤ number }
     requires few { number ≤ MAX_NUMBER }

@@ -20,7 +20,7 @@ int main() { int k = input(); int v = input(); if (k == 1) { p1(v); } if (k == 2
 if (k == 3) { p3(v); } return 0; }
 ";
 
-/// The bytes of the program of so many procedures.
+/// The bytes of the program of `number` procedures.
 fn length(alloc: Global, number: u32) -> Result<usize, AllocError>
     requires some { 1 ≤ number }
     requires few { number ≤ MAX_NUMBER }

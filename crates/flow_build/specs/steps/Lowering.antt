@@ -99,8 +99,7 @@ landing_of_all no_values from lo = from
 landing_of_all (value v vs) from lo = landing_of_all vs (landing v from lo) (lo + nodes_of v)
 
 -- from a node where slot a is at least 0, and from one where it is below, to a node where slot t
--- has
--- the quotient by k
+-- has the quotient by k
 abbrev pub picks : (k a t above below to : ℕ) → List Block
 picks k a t above below to =
     one above (Pick above to t (record { atoms = rows_above k a t }))

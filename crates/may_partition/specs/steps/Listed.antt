@@ -5,7 +5,7 @@ use Rattle.may_partition.specs.declared.region.RegionEdge.{RegionEdge}
 use Rattle.may_partition.specs.Parted.{has_regions}
 use Rattle.may_partition.specs.Shown.{is_live}
 
--- so many regions, and the edges between them
+-- a number of regions, and the edges between them
 pub record Sides : Type 0 where
   pub count : ℕ
   pub edges : List RegionEdge

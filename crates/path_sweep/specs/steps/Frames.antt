@@ -18,7 +18,7 @@ use Rattle.path_sweep.specs.declared.frames.Place.TheVariants.{Entering, At, Ret
 use Rattle.path_sweep.specs.declared.step.Step.{Step}
 use Rattle.path_sweep.specs.steps.Linking.{Leaves}
 
--- the frame of the level waits behind its edge, which is a call
+-- the frame of the level waits after its edge, which is a call
 pub record IsWaiting (gs : List Graph) (l : Level) (w : Waiting) : Type 0 where
   pub graph : slice_get gs l.frame.proc ≡ Some w.graph
   pub from : ℕ
@@ -55,7 +55,7 @@ CanFollow (runs g node slots entry ws) k = Leaves g.edges node k
 CanFollow (gave terms) k = ⊥
 CanFollow (fails id) k = ⊥
 
--- a path with so many symbols, no rows and no inputs
+-- a path with this number of symbols, no rows and no inputs
 abbrev pub bare : ℕ → Stage → Walked
 bare symbols stage = record { symbols = symbols; guard = []; inputs = []; at = stage }
 
@@ -71,7 +71,7 @@ bare_trace symbols node slots entry = record {
   failed = None;
 }
 
--- the frame behind a return to this level
+-- the frame after a return to this level
 pub record IsBack (f : Frame) (l : Level) (w : Waiting) (terms : List LinearSum) : Type 0 where
   pub proc : f.proc ≡ l.frame.proc
   pub place : f.place ≡ At w.to
@@ -93,26 +93,26 @@ pub record IsMoved (f : Frame) (place : Place) (t : Trace) (new : Frame) : Type 
   pub entry : new.entry ≡ t.entry
   pub caller : new.caller ≡ f.caller
 
--- behind a return
+-- after a return
 abbrev pub IsReturned : List Graph → List Level → Frame → Option ℕ → Trace → Frame → Type 0
 IsReturned gs levels f None t new = IsMoved f Returned t new
 IsReturned gs levels f (Some c) t new =
     (l : Level) (w : Waiting) → slice_get levels c ≡ Some l → IsWaiting gs l w →
     IsBack new l w t.slots
 
--- the frame behind the edge, over which this is the trace
+-- the frame after the edge, over which this is the trace
 abbrev pub IsBehind : List Graph → List Level → Frame → Edge → Trace → Frame → Type 0
 IsBehind gs levels f (Assert from to id rows) t new = IsMoved f (Failed id) t new
 IsBehind gs levels f (Return from to slots) t new = IsReturned gs levels f f.caller t new
 IsBehind gs levels f edge t new = IsMoved f (At t.node) t new
 
--- some stage of the frame, behind which the edge may follow
+-- some stage of the frame, after which the edge may follow
 pub record HasNext (gs : List Graph) (levels : List Level) (f : Frame) (edge : ℕ) : Type 0 where
   pub stage : Stage
   pub is : IsStage gs levels f stage
   pub can : CanFollow stage edge
 
--- what the edge adds behind this stage of the frame; the frame behind it stands over one more level
+-- what the edge adds after this stage of the frame; the frame after it stands over one more level
 pub record IsStep (gs : List Graph) (levels : List Level) (f : Frame) (symbols edge : ℕ)
     (step : Step) (stage : Stage) : Type 0 where
   pub sums : List Sum

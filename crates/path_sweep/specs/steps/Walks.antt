@@ -25,7 +25,7 @@ use Rattle.path_sweep.specs.declared.walk.Walk.{Walk}
 use Rattle.path_sweep.specs.steps.Linking.{IsFirst}
 use Rattle.path_sweep.specs.steps.Frames.{IsStage, CanFollow}
 
--- what the path of edge 0 comes to
+-- the state of the path of edge 0
 abbrev pub first_walked : Graph → Walked
 first_walked g = record {
   symbols = 0;
@@ -46,7 +46,7 @@ pub record IsLevel (gs : List Graph) (levels : List Level) (l : Level) (w : Walk
   pub fits : l.edge < 2 ^ 64
   pub stage : IsStage gs levels l.frame w.at
 
--- behind those that are done, the levels lead from one to the other
+-- after those that are done, the levels lead from one to the other
 abbrev pub Leads : List Graph → (done levels : List Level) → Walked → Walked → Type 0
 Leads gs done [] w new = new ≡ w
 Leads gs done (l ∷ levels) w new =

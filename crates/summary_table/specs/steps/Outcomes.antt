@@ -1,4 +1,4 @@
--- What the question of one summary comes to.
+-- The answer to the question of one summary.
 use Rattle.shadow_elim.specs.RightLimit.{IsRight}
 use Rattle.summary_form.specs.Answering.{Answers}
 use Rattle.summary_form.specs.declared.query.Query.{Query}
