@@ -1,4 +1,4 @@
--- Every call from the source into the target meets the rows that are asked for, and where no pair is told all values that meet them are
+-- Every call from the source into the target meets the rows that are asked for, and where no pair is given all values that meet them are
 -- those of such a call.
 use Rattle.std.proofs.Common.{◌≡◌, ℕ, zero, suc, ◌+◌, ◌-◌, ◌<◌, ◌≤◌, List, [], ◌∷◌, ◌++◌, length, drop, map, None, Some, Bool, true, false, not, ◌&&◌, ◌==◌, nat_lt, nat_le, ℤ, arith, refl, sym, subst, ap, ◌∙◌}
 use Rattle.std.specs.Prelude.{slice_get, IsTrue, Contains, if◌then◌else◌}
@@ -33,7 +33,7 @@ use Rattle.call_bridge.proofs.Leaving.{kind_fits, left_names}
 use Rattle.call_bridge.proofs.Naming.{rows_wider}
 use Rattle.call_bridge.proofs.Queries.{IsAnswer, answer_is, call_rows_named, call_rows_terms, is_call_column, inner_low, below_argument}
 
-entry_column : (s : State) (entry exit : List ℤ) (x : ℕ) → first_entry ≤ x → x < first_exit → columns_of s entry exit x ≡ value_at entry
+pub entry_column : (s : State) (entry exit : List ℤ) (x : ℕ) → first_entry ≤ x → x < first_exit → columns_of s entry exit x ≡ value_at entry
     (x - first_entry)
 entry_column s entry exit x low high =
     let a : nat_lt x first_entry ≡ false = le-ltb x first_entry low in
@@ -41,7 +41,7 @@ entry_column s entry exit x low high =
     rw (a, b) refl
 
 -- the value of a place among the arguments
-map_at : (s : State) (args : List ℕ) (j a : ℕ) → slice_get args j ≡ Some a → value_at (map s args) j ≡ s a
+pub map_at : (s : State) (args : List ℕ) (j a : ℕ) → slice_get args j ≡ Some a → value_at (map s args) j ≡ s a
 map_at s [] j a e = absurd (none-some a e)
 map_at s (x ∷ args) zero a e = ap s (same_Some x a e)
 map_at s (x ∷ args) (suc j) a e = map_at s args j a e
@@ -60,7 +60,8 @@ argument_value called values j h =
     ap (valuation_of called values) (b ∙ c) ∙ d ∙ ap (value_at called) e
 
 -- the value of the column of result i
-exit_column_value : (s : State) (entry exit : List ℤ) (i : ℕ) → i < first_entry → columns_of s entry exit (first_exit + i) ≡ value_at exit i
+pub exit_column_value : (s : State) (entry exit : List ℤ) (i : ℕ) → i < first_entry → columns_of s entry exit (first_exit + i)
+    ≡ value_at exit i
 exit_column_value s entry exit i h =
     let a : nat_lt (first_exit + i) first_entry ≡ false = le-ltb (first_exit + i) first_entry (omega arith) in
     let b : nat_lt (first_exit + i) first_exit ≡ false = le-ltb (first_exit + i) first_exit (omega arith) in
@@ -193,7 +194,7 @@ module _ (site : CallSite) (source target : List Atom) (f : FitsCall site source
       f.source_names
       (hold-renaming w (renamed_column (argument_columns 0 site.arguments)) source h)
 
-  target_in : (exit : ExitKind) → LiesBehind exit site.results s entry values target →
+  pub target_in : (exit : ExitKind) → LiesBehind exit site.results s entry values target →
       HoldsAll w (rows_of_sums
       (row_sums (renaming (λ x. renamed_column (argument_columns 0 site.arguments) (exit_column exit site.results x)))
       target))
@@ -384,7 +385,7 @@ module _ (exit : ExitKind) (site : CallSite) (source target : List Atom) (f : Fi
         by_test true = columns_64 s entry [] vs ve none_values x
         by_test false = values_64 (map s site.arguments) values (values_map s vs site.arguments) vx (as_entry x)
 
-  -- where no pair is told, values that meet the rows are those of a call
+  -- where no pair is given, values that meet the rows are those of a call
   module _ (none : pair ≡ None) (called values : List ℤ) (vc : AreAllValues called) (vx : AreAllValues values)
       (many : length called ≡ length site.arguments) (h : HoldsAll (valuation_of called values) rows) where
     v_bits : Is64 (λ x. valuation_of called values (as_entry x))

@@ -296,7 +296,7 @@ replacing_high x low symbols done (z ∷ args) (t ∷ terms) n h =
     ns.0)
     in ne_eqb x y (λ q. omega (arith, q, low, k))) h)
 
--- The target behind the call, at a valuation that reads the caller's columns as they are
+-- The target after the call, at a valuation that reads the caller's columns as they are
 
 module _ (results : List ℕ) (results_low : (j a : ℕ) → slice_get results j ≡ Some a → a < first_entry) (target : List Atom)
     (named : IsTrue (rows_name_only inner_column target))
@@ -439,7 +439,7 @@ module _ (must : Path) (site : CallSite) (target : List Atom) (f : FitsMust must
   pub must_holds : HoldsMust must site target rows
   must_holds s entry vs ve l = held s entry vs ve l
 
-  -- where no pair is told, the must leads into the target from every state of the preimage
+  -- where no pair is given, the must leads into the target from every state of the preimage
   module _ (none : pair ≡ None) (s : State) (entry : List ℤ) (vs : AreValues s) (ve : AreAllValues entry)
       (h : HoldsAll (columns_of s entry []) rows) where
     found : (w : Valuation) × Is64 w × ((x : ℕ) → (Contains (symbol_columns (must_rows must site target)) x → ⊥) →

@@ -67,7 +67,7 @@ among_in first count j h =
     both_in (nat_le first (first + j)) (nat_lt (first + j) (first + count)) (le-leb first (first + j) (omega arith))
     (lt-ltb (first + j) (first + count) (omega (arith, h)))
 
-among_out : (first count x : ℕ) → IsTrue (is_among first count x) → (first ≤ x) × (x < first + count)
+pub among_out : (first count x : ℕ) → IsTrue (is_among first count x) → (first ≤ x) × (x < first + count)
 among_out first count x h =
     let r = both (nat_le first x) (nat_lt x (first + count)) h in
     (leb-true first x r.0, ltb-true x (first + count) r.1)
@@ -109,10 +109,10 @@ renamed_named exit site x h =
     r.1))
     (argument_cases 0 site.arguments x)
 
-inner_named : (exit : ExitKind) (count exits x : ℕ) → IsTrue (inner_column x) → IsTrue (is_call_column exit count exits x)
+pub inner_named : (exit : ExitKind) (count exits x : ℕ) → IsTrue (inner_column x) → IsTrue (is_call_column exit count exits x)
 inner_named exit count exits x h = either_in (inner_column x) (is_exit_of exit exits x || is_among first_argument count x) (inl h)
 
-exit_is : (count exits j : ℕ) → j < exits → IsTrue (is_call_column kind.Return count exits (first_exit + j))
+pub exit_is : (count exits j : ℕ) → j < exits → IsTrue (is_call_column kind.Return count exits (first_exit + j))
 exit_is count exits j h =
     either_in (inner_column (first_exit + j)) (is_exit_of kind.Return exits (first_exit + j) || is_among first_argument count
     (first_exit + j))
@@ -132,7 +132,7 @@ result_cases i (a ∷ some) x = by_test (x == a) (result_cases (i + 1) some x) w
   by_test false (inl e) = inl e
   by_test false (inr r) = inr (suc r.0, omega (arith, r.1), omega (arith, r.2))
 
-behind_named : (exit : ExitKind) (count : ℕ) (results : List ℕ) (x : ℕ) → IsTrue (inner_column x) →
+pub behind_named : (exit : ExitKind) (count : ℕ) (results : List ℕ) (x : ℕ) → IsTrue (inner_column x) →
     IsTrue (is_call_column exit count (length results) (exit_column exit results x))
 behind_named kind.Return count results x h =
     ⊎_elim (λ e. subst (λ y. IsTrue (is_call_column kind.Return count (length results) y)) (sym e)
@@ -197,7 +197,7 @@ call_rows_named exit site source target f =
     rows_named (is_call_column exit (length site.arguments) (length site.results)) (call_sums exit site source target)
     (call_sums_named exit site source target f)
 
-call_number : (exit : ExitKind) (count exits x : ℕ) → count < first_entry + 1 → exits < first_entry + 1 →
+pub call_number : (exit : ExitKind) (count exits x : ℕ) → count < first_entry + 1 → exits < first_entry + 1 →
     IsTrue (is_call_column exit count exits x) → IsTrue (is_number x)
 call_number exit count exits x few few_exits h =
     lt-ltb x (2 ^ 32) (⊎_elim (λ k. let l = inner_low x k in omega (arith, l)) (λ k. ⊎_elim (λ m. by_exit exit m)

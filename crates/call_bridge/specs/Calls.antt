@@ -8,7 +8,7 @@ use Rattle.flow_graph.specs.Columns.{columns_of, is_slot_column, is_entry_column
 use Rattle.summary_form.specs.declared.query.ExitKind.{ExitKind}
 use Rattle.summary_form.specs.declared.query.ExitKind.TheVariants as kind
 
--- the place behind the call meets the rows: with its slots set, or as it failed
+-- the place after the call meets the rows: with its slots set, or as it failed
 abbrev pub LiesBehind : ExitKind → (results : List ℕ) → State → (entry values : List ℤ) →
     List Atom →
     Type 0

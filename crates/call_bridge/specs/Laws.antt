@@ -15,6 +15,7 @@ use Rattle.summary_form.specs.NotMays.{Fits}
 use Rattle.call_bridge.specs.Calls.{inner_column}
 use Rattle.call_bridge.specs.Asked.{asked, start_of, end_of, query_of, FitsCall, HoldsCalls, HoldsNoOtherCall}
 use Rattle.call_bridge.specs.Musts.{must_preimage, FitsMust, HoldsMust, HoldsNoOtherMust}
+use Rattle.call_bridge.specs.Rests.{rest, FitsRest, HoldsRest}
 
 -- where an edge names slots, the arguments and the results of a call are slots
 pub record AreSlots (site : CallSite) : Type 0 where
@@ -78,4 +79,19 @@ abbrev pub MustPreimageIsRegion : Type 0
 MustPreimageIsRegion =
     (must : Path) (site : CallSite) (target rows : List Atom) (pair : Pair) →
     FitsMust must site target → must_preimage must site target ≡ gives rows pair →
+    IsRegion rows
+
+-- the rest holds of every state from which the call leads into the target without meeting the atom
+abbrev pub RestHolds : Type 0
+RestHolds =
+    (exit : ExitKind) (site : CallSite) (target : List Atom) (atom : Atom) (rows : List Atom)
+    (pair : Pair) →
+    FitsRest site target atom → rest exit site target atom ≡ gives rows pair →
+    HoldsRest exit site target atom rows
+
+abbrev pub RestIsRegion : Type 0
+RestIsRegion =
+    (exit : ExitKind) (site : CallSite) (target : List Atom) (atom : Atom) (rows : List Atom)
+    (pair : Pair) →
+    FitsRest site target atom → rest exit site target atom ≡ gives rows pair →
     IsRegion rows

@@ -90,7 +90,7 @@ fn result_columns(alloc: Global, results: &[Slot]) -> Result<Vec<(u32, u32)>, Ou
 }
 
 /// The exit values for the slots that get them.
-fn exit_columns(
+pub(crate) fn exit_columns(
     alloc: Global,
     exit: ExitKind,
     results: &[Slot],
