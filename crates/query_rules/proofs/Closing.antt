@@ -18,7 +18,7 @@ use Rattle.may_partition.specs.Connected.{AreConnected}
 use Rattle.may_partition.proofs.Making.{regions_length}
 use Rattle.must_region.specs.Traces.{Trace}
 use Rattle.flow_graph.proofs.Slots.{entry_edge}
-use Rattle.query_rules.specs.Paths.{IsPath, IsTurn, is_stuck, is_shut, is_marked, target_region}
+use Rattle.query_rules.specs.Paths.{IsAdvance, IsPath, IsTurn, is_stuck, is_shut, is_marked, target_region}
 use Rattle.query_rules.specs.invariants.Soundness.{HasOneOutside}
 use Rattle.query_rules.specs.declared.step.Step.{Step}
 use Rattle.query_rules.specs.declared.step.Mark.{Mark}
@@ -93,6 +93,11 @@ all_middle : {A : Type 0} (p : A → Bool) (before : List A) (x : A) (behind : L
 all_middle p [] x behind h = (both (p x) (list_all p behind) h).0
 all_middle p (y ∷ before) x behind h = all_middle p before x behind (both (p y) (list_all p (before ++ x ∷ behind)) h).1
 
+all_after : {A : Type 0} (p : A → Bool) (before : List A) (x : A) (behind : List A) → IsTrue (list_all p (before ++ x ∷ behind)) →
+    IsTrue (list_all p behind)
+all_after p [] x behind h = (both (p x) (list_all p behind) h).1
+all_after p (y ∷ before) x behind h = all_after p before x behind (both (p y) (list_all p (before ++ x ∷ behind)) h).1
+
 module _ (g : Graph) (m : Model) (k : RegionEdge) (t : IsTurn g m k) where
   -- the edge of a turn is live
   pub turn_live : IsTrue (m.parted.live k)
@@ -115,6 +120,35 @@ module _ (g : Graph) (m : Model) (k : RegionEdge) (t : IsTurn g m k) where
   turn_apart e = clash (sym turn_from ∙ subst (λ r. is_marked m.marks r ≡ false) e turn_to) where
     clash : true ≡ false → ⊥
     clash x = cc
+
+  -- such an edge may carry a trail on
+  pub turn_advances : IsAdvance g m k
+  turn_advances = record {
+    way = t.before ++ k ∷ t.behind;
+    is_way = t.is_open;
+    lives = turn_live;
+    free = not-true (is_shut m k) (all_middle (λ e. not (is_shut m e)) t.before k t.behind t.is_open.1);
+    frontier = t.frontier;
+    rest = t.behind;
+    leads_on = (
+      path_after t.before 0 (target_region g m.query) t.is_open.0,
+      all_after (λ e. not (is_shut m e)) t.before k t.behind t.is_open.1,
+    );
+  }
+    where
+      path_after : (before : List RegionEdge) (a b : ℕ) → IsPath m.parted a (before ++ k ∷ t.behind) b → IsPath m.parted k.to t.behind b
+      path_after [] a b p = p.2
+      path_after (e ∷ before) a b p = path_after before e.to b p.2
+
+module _ (g : Graph) (m : Model) (k : RegionEdge) (t : IsAdvance g m k) where
+  pub advance_from : is_marked m.marks k.from ≡ true
+  advance_from = (both (is_marked m.marks k.from) (not (is_marked m.marks k.to)) t.frontier).0
+
+  pub advance_to : is_marked m.marks k.to ≡ false
+  advance_to = not-true (is_marked m.marks k.to) (both (is_marked m.marks k.from) (not (is_marked m.marks k.to)) t.frontier).1
+
+  pub advance_free : is_stuck m.steps k ≡ false
+  advance_free = or_left_false (is_stuck m.steps k) _ t.free
 
 -- the mark of a trail at a region
 pub mark_there : (m : Model) (n : ℕ) (t : Trace) (r : ℕ) → MarksWith m n t r → (j : ℕ) × (k : Mark) × (slice_get m.marks j ≡ Some k)

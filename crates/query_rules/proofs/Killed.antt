@@ -3,6 +3,7 @@ use Rattle.std.proofs.Common.{◌≡◌, ⊎_elim, ℕ, zero, suc, ◌<◌, List
 use Rattle.std.specs.Prelude.{slice_get}
 use Rattle.std.proofs.lemmas.Option.{same_Some, none-some, slice_get_within}
 use Rattle.std.proofs.lemmas.List.{length-append}
+use Rattle.infeasible_cert.specs.declared.certificate.Certificate.{Certificate}
 use Rattle.flow_graph.specs.declared.graph.Graph.{Graph}
 use Rattle.summary_form.specs.declared.query.Query.{Query}
 use Rattle.summary_form.specs.declared.summary.Summary.{Summary}
@@ -81,8 +82,8 @@ module _ (table : List Summary) where
   AllKilled m = (n : ℕ) (k : RegionEdge) (by : Killer) → slice_get m.steps n ≡ Some (step.Kill k by) → IsKilledBy table m by
 
   abbrev Later : Model → Model → Type 0
-  Later m n = (i : ℕ) → KilledByChild m i → (before : List Step) (k : RegionEdge) (q : Query) (seen : ℕ) →
-      n.steps ≡ before ++ step.Ask k q seen ∷ [] → suc i < length n.asked
+  Later m n = (i : ℕ) → KilledByChild m i → (before : List Step) (k : RegionEdge) (q : Query) (follows : List Certificate) (seen : ℕ) →
+      n.steps ≡ before ++ step.Ask k q follows seen ∷ [] → suc i < length n.asked
 
   kept_by : (m n : Model) → Stay m.asked n.asked → levels_known n ≡ levels_known m → (l : Option ℕ) → n.lowest ≡ least m.lowest l →
       Later m n → (by : Killer) → IsKilledBy table m by → IsKilledBy table n by
@@ -96,7 +97,7 @@ module _ (table : List Summary) where
         low = h.low;
         is_news = w.2;
         covered = subst (λ o. Covers o h.low) (sym low) (covers_more m.lowest h.low l h.covered);
-        earlier = λ before k q seen e. later i h before k q seen e;
+        earlier = λ before k q follows seen e. later i h before k q follows seen e;
       }
   kept_by m n stay levels l low later (killer.Ancestor level proof) h = record {
     query = h.query;
@@ -126,9 +127,11 @@ module _ (table : List Summary) where
     tail_of a b ps qs e = cc
 
   -- after another step than an Ask
-  no_ask : (m n : Model) (s : Step) → n.steps ≡ m.steps ++ s ∷ [] → ((k : RegionEdge) (q : Query) (seen : ℕ) → s ≡ step.Ask k q seen → ⊥) →
+  no_ask : (m n : Model) (s : Step) → n.steps ≡ m.steps ++ s ∷ [] → ((k : RegionEdge) (q : Query) (follows : List Certificate) (seen : ℕ) →
+      s ≡ step.Ask k q follows seen → ⊥) →
       Later m n
-  no_ask m n s e not i h before k q seen f = absurd (not k q seen (last_is m.steps before s (step.Ask k q seen) (sym e ∙ f)))
+  no_ask m n s e not i h before k q follows seen f = absurd
+      (not k q follows seen (last_is m.steps before s (step.Ask k q follows seen) (sym e ∙ f)))
 
   none_new : (n : Model) (s : Step) → ((k : RegionEdge) (by : Killer) → s ≡ step.Kill k by → ⊥) → (k : RegionEdge) (by : Killer) →
       s ≡ step.Kill k by → IsKilledBy table n by
@@ -137,7 +140,8 @@ module _ (table : List Summary) where
   -- a step that neither asks nor kills, and leaves the entries
   plain : (m n : Model) (s : Step) → n.steps ≡ m.steps ++ s ∷ [] → n.asked ≡ m.asked → levels_known n ≡ levels_known m →
       n.lowest ≡ m.lowest →
-      ((k : RegionEdge) (q : Query) (seen : ℕ) → s ≡ step.Ask k q seen → ⊥) → ((k : RegionEdge) (by : Killer) → s ≡ step.Kill k by → ⊥) →
+      ((k : RegionEdge) (q : Query) (follows : List Certificate) (seen : ℕ) → s ≡ step.Ask k q follows seen → ⊥) →
+      ((k : RegionEdge) (by : Killer) → s ≡ step.Kill k by → ⊥) →
       AllKilled m → AllKilled n
   plain m n s e a levels low asks kills all =
       pushed m n s e all
@@ -164,12 +168,14 @@ module _ (table : List Summary) where
       is_news = l.is_news;
       covered = subst (λ o. Covers (least m.lowest o) l.lowest) (sym (ap lowest_of l.there ∙ ap news_lowest l.is_news))
           (covers_new m.lowest l.lowest);
-      earlier = λ before x q seen e. absurd (not_ask x q seen (last_is m.steps before (step.Kill k (killer.Child i)) (step.Ask x q seen)
+      earlier = λ before x q follows seen e. absurd
+          (not_ask x q follows seen (last_is m.steps before (step.Kill k (killer.Child i)) (step.Ask x q follows seen)
           e));
     }
       where
-        not_ask : (x : RegionEdge) (q : Query) (seen : ℕ) → step.Kill k (killer.Child i) ≡ step.Ask x q seen → ⊥
-        not_ask x q seen e = cc
+        not_ask : (x : RegionEdge) (q : Query) (follows : List Certificate) (seen : ℕ) → step.Kill k (killer.Child i) ≡ step.Ask x q follows
+            seen → ⊥
+        not_ask x q follows seen e = cc
     kill_here m n k (killer.Ancestor level proof) l =
         record { query = l.summary; there = l.there; covered = covers_new m.lowest (Some level) }
 
@@ -178,25 +184,26 @@ module _ (table : List Summary) where
     kill_step m n k by l all =
         pushed m (stepped g (take n table) (step.Kill k by) m) (step.Kill k by) refl all
         (kept_by m (stepped g (take n table) (step.Kill k by) m) (stay_same m.asked) refl (leans_on m.asked by) refl
-        (no_ask m (stepped g (take n table) (step.Kill k by) m) (step.Kill k by) refl (λ x q seen e. not_ask x q seen e)))
+        (no_ask m (stepped g (take n table) (step.Kill k by) m) (step.Kill k by) refl (λ x q follows seen e. not_ask x q follows seen e)))
         (λ x other e. subst (λ b. IsKilledBy table (stepped g (take n table) (step.Kill k by) m) b) (same x other e) (kill_here m n k by l))
       where
-        not_ask : (x : RegionEdge) (q : Query) (seen : ℕ) → step.Kill k by ≡ step.Ask x q seen → ⊥
-        not_ask x q seen e = cc
+        not_ask : (x : RegionEdge) (q : Query) (follows : List Certificate) (seen : ℕ) → step.Kill k by ≡ step.Ask x q follows seen → ⊥
+        not_ask x q follows seen e = cc
 
         same : (x : RegionEdge) (other : Killer) → step.Kill k by ≡ step.Kill x other → by ≡ other
         same x other e = cc
 
-    ask_step : (m : Model) (n : ℕ) (k : RegionEdge) (q : Query) (seen : ℕ) → AllKilled m →
-        AllKilled (stepped g (take n table) (step.Ask k q seen) m)
-    ask_step m n k q seen all =
+    ask_step : (m : Model) (n : ℕ) (k : RegionEdge) (q : Query) (follows : List Certificate) (seen : ℕ) → AllKilled m →
+        AllKilled (stepped g (take n table) (step.Ask k q follows seen) m)
+    ask_step m n k q follows seen all =
         let a : Asked = record { edge = k; query = q; child = 0; news = news.Waiting } in
-        pushed m (stepped g (take n table) (step.Ask k q seen) m) (step.Ask k q seen) refl all
-        (kept_by m (stepped g (take n table) (step.Ask k q seen) m) (stay_more m.asked (a ∷ [])) refl None (sym (least_none m.lowest))
-        (λ i h before x r t e. omega (arith, slice_get_within m.asked i h.entry h.there, length-append m.asked (a ∷ []))))
-        (none_new (stepped g (take n table) (step.Ask k q seen) m) (step.Ask k q seen) (λ x by e. not_kill x by e))
+        pushed m (stepped g (take n table) (step.Ask k q follows seen) m) (step.Ask k q follows seen) refl all
+        (kept_by m (stepped g (take n table) (step.Ask k q follows seen) m) (stay_more m.asked (a ∷ [])) refl None
+        (sym (least_none m.lowest))
+        (λ i h before x r f t e. omega (arith, slice_get_within m.asked i h.entry h.there, length-append m.asked (a ∷ []))))
+        (none_new (stepped g (take n table) (step.Ask k q follows seen) m) (step.Ask k q follows seen) (λ x by e. not_kill x by e))
       where
-        not_kill : (x : RegionEdge) (by : Killer) → step.Ask k q seen ≡ step.Kill x by → ⊥
+        not_kill : (x : RegionEdge) (by : Killer) → step.Ask k q follows seen ≡ step.Kill x by → ⊥
         not_kill x by e = cc
 
     feed_step : (m : Model) (n i : ℕ) (entry : Asked) → slice_get m.asked i ≡ Some entry → entry.news ≡ news.Starved → AllKilled m →
@@ -205,7 +212,7 @@ module _ (table : List Summary) where
         pushed m (stepped g (take n table) (step.Feed i) m) (step.Feed i) refl all
         (kept_by m (stepped g (take n table) (step.Feed i) m) (stay_updated (with_news news.Waiting) m.asked i not_starved) refl None
         (sym (least_none m.lowest)) (no_ask m (stepped g (take n table) (step.Feed i) m) (step.Feed i) refl
-        (λ x q seen e. not_ask x q seen e)))
+        (λ x q follows seen e. not_ask x q follows seen e)))
         (none_new (stepped g (take n table) (step.Feed i) m) (step.Feed i) (λ x by e. not_kill x by e))
       where
         clash : (low : Option ℕ) → news.Starved ≡ news.NotMay low → ⊥
@@ -215,8 +222,8 @@ module _ (table : List Summary) where
             (with_news news.Waiting a).news ≡ news.NotMay low
         not_starved a low at is = absurd (clash low (sym starved ∙ (ap (λ (x : Asked). x.news) (same_Some entry a (sym there ∙ at)) ∙ is)))
 
-        not_ask : (x : RegionEdge) (q : Query) (seen : ℕ) → step.Feed i ≡ step.Ask x q seen → ⊥
-        not_ask x q seen e = cc
+        not_ask : (x : RegionEdge) (q : Query) (follows : List Certificate) (seen : ℕ) → step.Feed i ≡ step.Ask x q follows seen → ⊥
+        not_ask x q follows seen e = cc
 
         not_kill : (x : RegionEdge) (by : Killer) → step.Feed i ≡ step.Kill x by → ⊥
         not_kill x by e = cc
@@ -226,7 +233,8 @@ module _ (table : List Summary) where
     news_told gs m i number known t all j k by at =
         kept_by m (after gs g table (heard i number known) m) (stay_updated (with_child number known) m.asked i stays) refl None
         (sym (least_none m.lowest))
-        (λ x h before y q seen e. updated_within (with_child number known) m.asked i (suc x) (h.earlier before y q seen e)) by
+        (λ x h before y q follows seen e. updated_within (with_child number known) m.asked i (suc x) (h.earlier before y q follows seen e))
+        by
         (all j k by at)
       where
         stays : (a : Asked) (low : Option ℕ) → slice_get m.asked i ≡ Some a → a.news ≡ news.NotMay low →
@@ -237,22 +245,26 @@ module _ (table : List Summary) where
     step_kept : (m : Model) (n : ℕ) (s : Step) → IsLegal g (take n table) m s → AllKilled m → AllKilled (stepped g (take n table) s m)
     step_kept m n (step.Extend k trail point) l all =
         plain m (stepped g (take n table) (step.Extend k trail point) m) (step.Extend k trail point) refl refl refl refl
-        (λ x q seen e. cc) (λ x by e. cc) all
-    step_kept m n (step.Split k atoms proofs) l all =
-        plain m (stepped g (take n table) (step.Split k atoms proofs) m) (step.Split k atoms proofs) refl refl refl refl
-        (λ x q seen e. cc) (λ x by e. cc) all
+        (λ x q follows seen e. cc) (λ x by e. cc) all
+    step_kept m n (step.Split k atoms follows proofs) l all =
+        plain m (stepped g (take n table) (step.Split k atoms follows proofs) m) (step.Split k atoms follows proofs) refl refl refl refl
+        (λ x q follows seen e. cc) (λ x by e. cc) all
     step_kept m n (step.Kill k by) l all = kill_step m n k by l.1 all
     step_kept m n (step.CallExtend k trail place point) l all =
         plain m (stepped g (take n table) (step.CallExtend k trail place point) m) (step.CallExtend k trail place point) refl refl refl refl
-        (λ x q seen e. cc) (λ x by e. cc) all
-    step_kept m n (step.CallSplit k place atoms proofs) l all =
-        plain m (stepped g (take n table) (step.CallSplit k place atoms proofs) m) (step.CallSplit k place atoms proofs) refl refl refl refl
-        (λ x q seen e. cc) (λ x by e. cc) all
-    step_kept m n (step.Ask k q seen) l all = ask_step m n k q seen all
+        (λ x q follows seen e. cc) (λ x by e. cc) all
+    step_kept m n (step.CallSplit k place atoms follows proofs) l all =
+        plain m (stepped g (take n table) (step.CallSplit k place atoms follows proofs) m) (step.CallSplit k place atoms follows proofs)
+        refl refl refl refl
+        (λ x q follows seen e. cc) (λ x by e. cc) all
+    step_kept m n (step.CallPart k by atom atoms follows proofs) l all =
+        plain m (stepped g (take n table) (step.CallPart k by atom atoms follows proofs) m) (step.CallPart k by atom atoms follows proofs)
+        refl refl refl refl (λ x q follows seen e. cc) (λ x by e. cc) all
+    step_kept m n (step.Ask k q follows seen) l all = ask_step m n k q follows seen all
     step_kept m n (step.Feed i) l all = feed_step m n i l.entry l.there l.starved all
     step_kept m n (step.Stuck k why seen) l all =
         plain m (stepped g (take n table) (step.Stuck k why seen) m) (step.Stuck k why seen) refl refl refl refl
-        (λ x q seen e. cc) (λ x by e. cc) all
+        (λ x q follows seen e. cc) (λ x by e. cc) all
 
     all_kept : (gs : List Graph) (es : List Happening) (m : Model) → AllHappen gs g table es m → AllKilled m →
         AllKilled (after_all gs g table es m)

@@ -294,16 +294,23 @@ module _ (gs : List Graph) (d : ℕ) (g : Graph) (q : Query) (p : Parted) (k : R
   spot_64 entry (standing (failing id s)) fit v i y go = absurd go
   spot_64 entry (standing halted) fit v i y go = absurd go
 
-  -- a certificate that refutes the source with the rows
-  pub idle_refuted : ((v : Valuation) → Is64 v → HoldsAll v (r.cube.atoms ++ rows) → ⊥) → IsIdle (GraphRun gs d) g q p k
-  idle_refuted never entry x y ox oy go sx sy =
+  -- where a step begins, the source and the rows hold
+  begins_in : (entry : List ℤ) (x y : Spot) → OnWay g q entry x → OnWay g q entry y → Goes (GraphRun gs d) g entry k.edge x y →
+      Stands Spot (spot_node g) (spot_columns entry) p.regions k.from x → Stands Spot (spot_node g) (spot_columns entry) p.regions k.to y →
+      HoldsAll (spot_columns entry x) (r.cube.atoms ++ rows)
+  begins_in entry x y ox oy go sx sy =
       let same_r : sx.region ≡ r = same_Some _ _ (sym sx.there ∙ er) in
       let hs : HoldsAll (spot_columns entry x) r.cube.atoms = subst (λ (z : Region). HoldsAll (spot_columns entry x) z.cube.atoms) same_r
       sx.lies.meets in
-      never (spot_columns entry x) (spot_64 entry x ox.arguments ox.valued k.edge y go) (holds_append (spot_columns entry x) r.cube.atoms
-      rows hs (before_step entry x y ox.arguments.values ox.valued oy.covered.there go sy))
+      holds_append (spot_columns entry x) r.cube.atoms rows hs (before_step entry x y ox.arguments.values ox.valued oy.covered.there go sy)
 
-  -- some of the rows split
-  pub cut_by : (atoms : List Atom) → ((v : Valuation) → HoldsAll v rows → HoldsAll v atoms) → IsCutBy (GraphRun gs d) g q p k atoms
-  cut_by atoms some entry x y ox oy go sx sy = some (spot_columns entry x) (before_step entry x y ox.arguments.values ox.valued
-      oy.covered.there go sy)
+  -- a certificate that refutes the source with the rows
+  pub idle_refuted : ((v : Valuation) → Is64 v → HoldsAll v (r.cube.atoms ++ rows) → ⊥) → IsIdle (GraphRun gs d) g q p k
+  idle_refuted never entry x y ox oy go sx sy =
+      never (spot_columns entry x) (spot_64 entry x ox.arguments ox.valued k.edge y go) (begins_in entry x y ox oy go sx sy)
+
+  -- what follows from both splits
+  pub cut_by : (atoms : List Atom) → ((v : Valuation) → Is64 v → HoldsAll v (r.cube.atoms ++ rows) → HoldsAll v atoms) →
+      IsCutBy (GraphRun gs d) g q p k atoms
+  cut_by atoms follow entry x y ox oy go sx sy =
+      follow (spot_columns entry x) (spot_64 entry x ox.arguments ox.valued k.edge y go) (begins_in entry x y ox oy go sx sy)

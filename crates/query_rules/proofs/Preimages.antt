@@ -13,10 +13,13 @@ use Rattle.shadow_elim.specs.ProjectionLaws.{Pair}
 use Rattle.shadow_elim.specs.Sums.{first_wide}
 use Rattle.shadow_elim.specs.declared.sum.Sum.{Sum}
 use Rattle.shadow_elim.proofs.Projecting.{or-cases}
+use Rattle.infeasible_cert.specs.declared.certificate.Certificate.{Certificate}
+use Rattle.flow_graph.specs.declared.graph.Graph.{Graph}
 use Rattle.flow_graph.specs.declared.graph.Edge.{Edge}
 use Rattle.flow_graph.specs.Columns.{first_entry, is_slot_column, is_entry_column, names_only, rows_name_only}
 use Rattle.flow_graph.specs.Shapes.{source, is_call}
-use Rattle.flow_graph.specs.WellFormed.{has_slots, has_terms, max_slots}
+use Rattle.flow_graph.specs.WellFormed.{IsGraph, has_slots, has_terms, max_slots}
+use Rattle.flow_graph.proofs.Slots.{list_more}
 use Rattle.weakest_pre.specs.Preimage.{preimage}
 use Rattle.shadow_elim.specs.Questions.{is_negatable}
 use Rattle.may_partition.specs.Fitting.{node_column, is_fit, is_fit_both}
@@ -25,7 +28,7 @@ use Rattle.may_partition.proofs.Splitting.{or_left, or_right}
 use Rattle.call_bridge.specs.Calls.{inner_column}
 use Rattle.call_bridge.specs.Laws.{IsRegion}
 use Rattle.call_bridge.specs.Musts.{is_number}
-use Rattle.query_rules.specs.Rows.{IsSome}
+use Rattle.query_rules.specs.Rows.{AreOwnRows, Follow, IsSome, is_own_column}
 use Rattle.call_bridge.proofs.Naming.{sums_name_only, rows_named, sums_are_terms, parts_wider, sums_wider}
 use Rattle.query_rules.proofs.NamedPreimages.{NamesColumns, named_behind, preimage_named, slot_within, some_named}
 
@@ -75,6 +78,35 @@ pub some_region : (atoms all : List Atom) → IsSome atoms all → IsRegion all 
 some_region atoms all s r =
     let k : NamesColumns inner_column atoms = some_named inner_column atoms all s (record { names = r.names; terms = r.terms }) in
     record { names = k.names; terms = k.terms }
+
+-- a graph's own rows
+own_inner : (g : Graph) → IsGraph g.nodes g.exit g.fail g.params g.exits g.slots g.edges → (x : ℕ) → IsTrue (is_own_column g x) →
+    IsTrue (inner_column x)
+own_inner g ok x h = ⊎_elim slot entry (or-cases (nat_lt x g.slots) (is_entry_column g.params x) h) where
+  slot : IsTrue (nat_lt x g.slots) → IsTrue (inner_column x)
+  slot k = let l = ltb-true x g.slots k in
+      slot_inner x (lt-ltb x max_slots (omega (arith, l, ok.few_slots)))
+
+  entry : IsTrue (is_entry_column g.params x) → IsTrue (inner_column x)
+  entry k =
+      let b = both (nat_le first_entry x) (nat_lt x (first_entry + g.params)) k in
+      let l = ltb-true x (first_entry + g.params) b.1 in
+      entry_inner x (both_in (nat_le first_entry x) (nat_lt x (first_entry + first_entry)) b.0
+      (lt-ltb x (first_entry + first_entry) (omega (arith, l, ok.params_in_slots, ok.few_slots))))
+
+pub own_region : (g : Graph) → IsGraph g.nodes g.exit g.fail g.params g.exits g.slots g.edges → (atoms : List Atom) → AreOwnRows g atoms →
+    IsRegion atoms
+own_region g ok atoms o = record {
+  names = list_more (λ (row : Atom). names_only (is_own_column g) row.term) (λ (row : Atom). names_only inner_column row.term) atoms
+      (λ a n. parts_wider (is_own_column g) inner_column (own_inner g ok) a.term.parts n) o.names;
+  terms = o.terms;
+}
+
+-- what follows from a preimage is a region's
+pub follow_region : (g : Graph) → IsGraph g.nodes g.exit g.fail g.params g.exits g.slots g.edges →
+    (source pre atoms : List Atom) (follows : List Certificate) → Follow g source pre atoms follows → IsRegion pre → IsRegion atoms
+follow_region g ok source pre atoms [] f r = some_region atoms pre f r
+follow_region g ok source pre atoms (c ∷ cs) f r = ⊎_elim (λ s. some_region atoms pre s r) (λ o. own_region g ok atoms o) f.0
 
 -- a region's row whose negation is within the limits
 one_fits : (exit node : ℕ) → (node ≡ exit → ⊥) → (a : Atom) → IsTrue (is_term a.term) → IsTrue (names_only inner_column a.term) →

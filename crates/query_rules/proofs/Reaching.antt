@@ -19,7 +19,8 @@ use Rattle.flow_graph.specs.Shapes.{source, target, leads, is_call, is_return}
 use Rattle.flow_graph.specs.Linked.{AreGraphs}
 use Rattle.flow_graph.specs.WellFormed.{IsGraph, IsEdge, has_slots, has_terms, max_slots, is_entry_of}
 use Rattle.flow_graph.specs.Runs.{Place, inside, left, failing, halted, Called, GraphRun}
-use Rattle.flow_graph.specs.Columns.{first_entry, rows_name_only, is_value_column, valuation_of}
+use Rattle.flow_graph.specs.Columns.{first_entry, rows_name_only, is_value_column, valuation_of, AreValues, AreAllValues}
+use Rattle.flow_graph.proofs.Numbers.{values_64}
 use Rattle.flow_graph.specs.Regions.{FitsEdge, is_region_column}
 use Rattle.flow_graph.proofs.Slots.{edges_name_slots}
 use Rattle.weakest_pre.specs.Predecessors.{HoldsPredecessors, asked_atoms}
@@ -30,7 +31,9 @@ use Rattle.summary_form.specs.Musts.{MustHolds}
 use Rattle.summary_form.specs.declared.summary.Summary.{Summary}
 use Rattle.summary_form.specs.declared.summary.Summary.TheVariants.{NotMay, Must}
 use Rattle.summary_form.specs.Instances.{graph_runs, arity_of, arity_in}
+use Rattle.summary_form.specs.Answering.{AnswersNo}
 use Rattle.summary_form.specs.NotMays.{NotMayHolds, Fits, Meets}
+use Rattle.shadow_elim.specs.Questions.{is_negatable}
 use Rattle.may_partition.specs.declared.region.Region.{Region}
 use Rattle.may_partition.specs.declared.region.RegionEdge.{RegionEdge}
 use Rattle.may_partition.specs.Parted.{end_node}
@@ -53,16 +56,16 @@ use Rattle.query_rules.specs.declared.step.Step.{Step}
 use Rattle.query_rules.specs.declared.step.Step.TheVariants as step
 use Rattle.query_rules.specs.Conditional.{Gives}
 use Rattle.query_rules.specs.Leaning.{levels_of}
-use Rattle.query_rules.specs.Legal.{Splits, SplitsCall, Kills, IsLegal}
+use Rattle.query_rules.specs.Legal.{Splits, SplitsCall, Kills, MayAsk, IsLegal}
 use Rattle.query_rules.specs.Paths.{HasNoPath}
 use Rattle.query_rules.specs.Rows.{Between, CallAt, AsksAt, IsPreimage, MustAt}
 use Rattle.query_rules.specs.States.{IsTrueNews, Happening, made, heard, after, Happens, AllHappen, after_all, IsStateOf, AllHold}
-use Rattle.query_rules.specs.Steps.{Model, effect, stepped, begin_model, with_news, with_child, lowest_of, news_lowest}
+use Rattle.query_rules.specs.Steps.{Model, effect, stepped, uncut, begin_model, with_news, with_child, lowest_of, news_lowest}
 use Rattle.query_rules.specs.invariants.Keeping.{Asks, Keeps, killed, split, core_of}
 use Rattle.query_rules.proofs.Closing.{turn_live}
 use Rattle.query_rules.proofs.Killing.{Predicts, takes_entries, takes_exits, idle_refuted, cut_by, IsCutBy}
-use Rattle.query_rules.proofs.Preimages.{preimage_region, behind_column, some_region, both_fit}
-use Rattle.query_rules.proofs.Shown.{refuted_never, entails_answers, some_hold, leads_node, column_named, names_same}
+use Rattle.query_rules.proofs.Preimages.{preimage_region, behind_column, follow_region, own_region, both_fit}
+use Rattle.query_rules.proofs.Shown.{refuted_never, entails_answers, follow_holds, leads_node, column_named, names_same}
 use Rattle.query_rules.proofs.Stepping.{keeps_kill, kill_table, kill_child, kill_ancestor, keeps_split, keeps_ask, keeps_update, begin_keeps, closed_alone, closed_given}
 use Rattle.query_rules.proofs.Walking.{not_end}
 
@@ -72,6 +75,12 @@ take_get zero (y ∷ xs) i x e = absurd (none-some x e)
 take_get (suc n) [] i x e = absurd (none-some x e)
 take_get (suc n) (y ∷ xs) zero x e = e
 take_get (suc n) (y ∷ xs) (suc i) x e = take_get n xs i x e
+
+-- the slots of a list hold values
+passed_values : (s : State) → AreValues s → (args : List ℕ) → AreAllValues (map s args)
+passed_values s vs [] i = refl
+passed_values s vs (x ∷ args) zero = vs x
+passed_values s vs (x ∷ args) (suc i) = passed_values s vs args i
 
 slots_below : (args : List ℕ) → IsTrue (list_all (λ x. nat_lt x max_slots) args) → (j a : ℕ) → slice_get args j ≡ Some a → a < first_entry
 slots_below [] h j a e = absurd (none-some a e)
@@ -366,19 +375,22 @@ module _ (gs : List Graph) (linked : AreGraphs gs) (g : Graph) where
         by_source None s l = absurd (not_outside m h k b.source b.at_source inner l)
         by_source (Some n) s l = (n, s)
 
-  split_holds : (m : Model) (k : RegionEdge) (atoms : List Atom) (proofs : List Certificate) → Good m → IsTrue (m.parted.live k) →
-      Splits g m k atoms proofs → Keeps gs g m.query (levels_of m.ancestors m.query) (split k atoms (core_of m))
-  split_holds m k atoms proofs h live l =
+  split_holds : (m : Model) (k : RegionEdge) (atoms : List Atom) (follows proofs : List Certificate) → Good m →
+      IsTrue (m.parted.live k) → Splits g m k atoms follows proofs →
+      Keeps gs g m.query (levels_of m.ancestors m.query) (split k atoms (core_of m))
+  split_holds m k atoms follows proofs h live l =
       let b = l.at.between in
       let src = source_node m h k live b l.inner in
       let p = predicts m h k live b l.at.plain l.pre l.is_pre in
-      let region : IsRegion atoms = some_region atoms l.pre l.some (pre_region m h k live b l.at.plain src.0 src.1 l.pre l.is_pre) in
+      let region : IsRegion atoms = follow_region g ok b.source.cube.atoms l.pre atoms follows l.parts.follow
+      (pre_region m h k live b l.at.plain src.0 src.1 l.pre l.is_pre) in
       let early = (apart_ends m h k live b).0 in
       keeps_split gs linked g m.query h.at ok m.ancestors (core_of m) k atoms (slice_get_within m.parted.regions k.from b.source
       b.at_source)
       (slice_get_within m.parted.regions k.to b.target b.at_target) b.source b.at_source (not_outside m h k b.source b.at_source l.inner)
-      (not_target m h k live b) early (both_fit g.exit b.source.node early atoms region l.negatable)
-      (λ d. cut_by gs d g m.query m.parted k b.source b.target b.at_source b.at_target l.pre p atoms (some_hold atoms l.pre l.some)) h.keeps
+      (not_target m h k live b) early (both_fit g.exit b.source.node early atoms region l.parts.negatable)
+      (λ d. cut_by gs d g m.query m.parted k b.source b.target b.at_source b.at_target l.pre p atoms
+      (follow_holds g b.source.cube.atoms l.pre atoms follows l.parts.follow)) h.keeps
 
   -- no step is over edge 0 from an inner node
   pub entry_idle : (C : Called) (m : Model) → Good m → (k : RegionEdge) (s : Region) → slice_get m.parted.regions k.from ≡ Some s →
@@ -405,33 +417,66 @@ module _ (gs : List Graph) (linked : AreGraphs gs) (g : Graph) where
 
   -- the preimage over a must is of the source's node
   must_rows : (table : List Summary) → AllHold gs table → (m : Model) (k : RegionEdge) (place : ℕ) (atoms : List Atom)
-      (proofs : List Certificate) → Good m → IsTrue (m.parted.live k) → SplitsCall g table m k place atoms proofs → IsRegion atoms
-  must_rows table holds m k place atoms proofs h live l =
+      (follows proofs : List Certificate) → Good m → IsTrue (m.parted.live k) → SplitsCall g table m k place atoms follows proofs →
+      IsRegion atoms
+  must_rows table holds m k place atoms follows proofs h live l =
       let c = l.call in
-      must_region l.path c.site c.between.target.cube.atoms (fits_must table holds m h k live c place l.path l.must_at) atoms
-      l.is_pre.0 l.is_pre.1
+      follow_region g ok c.between.source.cube.atoms l.pre atoms follows l.parts.follow
+      (must_region l.path c.site c.between.target.cube.atoms (fits_must table holds m h k live c place l.path l.must_at) l.pre
+      l.is_pre.0 l.is_pre.1)
 
-  call_split_holds : (table : List Summary) → AllHold gs table → (m : Model) (k : RegionEdge) (place : ℕ)
-      (atoms : List Atom) (proofs : List Certificate) → Good m → IsTrue (m.parted.live k) → SplitsCall g table m k place atoms proofs →
-      Keeps gs g m.query (levels_of m.ancestors m.query) (split (record { edge = 0; from = k.from; to = k.from }) atoms (core_of m))
-  call_split_holds table holds m k place atoms proofs h live l =
-      let b = l.call.between in
+  -- a split over a call cuts no edge
+  call_split_holds : (m : Model) (k : RegionEdge) (atoms : List Atom) → Good m → IsTrue (m.parted.live k) → CallAt g m k →
+      IsRegion atoms → IsTrue (list_all is_negatable atoms) →
+      Keeps gs g m.query (levels_of m.ancestors m.query) (split (uncut k) atoms (core_of m))
+  call_split_holds m k atoms h live call region negatable =
+      let b = call.between in
       let within = slice_get_within m.parted.regions k.from b.source b.at_source in
-      let inner = call_inner m h k live l.call in
+      let inner = call_inner m h k live call in
       let early = (apart_ends m h k live b).0 in
-      keeps_split gs linked g m.query h.at ok m.ancestors (core_of m) (record { edge = 0; from = k.from; to = k.from }) atoms within within
+      keeps_split gs linked g m.query h.at ok m.ancestors (core_of m) (uncut k) atoms within within
       b.source b.at_source (not_outside m h k b.source b.at_source inner) (not_target m h k live b) early
-      (both_fit g.exit b.source.node early atoms (must_rows table holds m k place atoms proofs h live l) l.negatable)
+      (both_fit g.exit b.source.node early atoms region negatable)
       (λ depth. entry_idle (GraphRun gs depth) m h k b.source b.at_source inner atoms) h.keeps
+
+  -- every call of the edge meets a weaker query
+  weaker_asks : (m : Model) → (k : RegionEdge) → (asked q : Query) → Asks g m.query.exit m.parted.regions k asked → AnswersNo asked q →
+      Asks g m.query.exit m.parted.regions k q
+  weaker_asks m k asked q a answers = record {
+    from = a.from;
+    to = a.to;
+    site = a.site;
+    call = a.call;
+    source = a.source;
+    target = a.target;
+    at_source = a.at_source;
+    at_target = a.at_target;
+    kind = a.kind;
+    is_kind = a.is_kind;
+    met = record {
+      of_procedure = answers.same_procedure ∙ a.met.of_procedure;
+      of_exit = answers.same_exit ∙ a.met.of_exit;
+      meets = λ s entry values vs ve vx hs hb. answers.entails (valuation_of (map s a.site.arguments) values)
+          (values_64 (map s a.site.arguments) values (passed_values s vs a.site.arguments) vx)
+          (a.met.meets s entry values vs ve vx hs hb);
+    };
+  }
+
+  -- and what a step may ask
+  pub may_asks : (m : Model) → Good m → (k : RegionEdge) → IsTrue (m.parted.live k) → (table : List Summary) (q : Query)
+      (follows : List Certificate) (seen : ℕ) → MayAsk g table m k q follows seen → Asks g m.query.exit m.parted.regions k q
+  may_asks m h k live table q follows seen l = ⊎_elim
+      (λ same. subst (Asks g m.query.exit m.parted.regions k) (sym same.0) (asks_of m h k live l.asked l.asks))
+      (λ weak. weaker_asks m k l.asked q (asks_of m h k live l.asked l.asks) (entails_answers l.asked q follows weak.entails)) l.follow
 
   -- The steps
   pub step_good : (table : List Summary) → AllHold gs table → (m : Model) (s : Step) → Good m → IsLegal g table m s →
       Good (stepped g table s m)
   step_good table holds m (step.Extend k n point) h l = record { at = h.at; fits = h.fits; keeps = h.keeps }
-  step_good table holds m (step.Split k atoms proofs) h l = record {
+  step_good table holds m (step.Split k atoms follows proofs) h l = record {
     at = h.at;
     fits = h.fits;
-    keeps = split_holds m k atoms proofs
+    keeps = split_holds m k atoms follows proofs
         h (turn_live g m k l.0) l.1;
   }
   step_good table holds m (step.Kill k by) h l = record {
@@ -441,16 +486,22 @@ module _ (gs : List Graph) (linked : AreGraphs gs) (g : Graph) where
         (turn_live g m k l.0) l.1;
   }
   step_good table holds m (step.CallExtend k n place point) h l = record { at = h.at; fits = h.fits; keeps = h.keeps }
-  step_good table holds m (step.CallSplit k place atoms proofs) h l = record {
+  step_good table holds m (step.CallSplit k place atoms follows proofs) h l = record {
     at = h.at;
     fits = h.fits;
-    keeps = call_split_holds table holds m k place atoms proofs h (turn_live g m k l.0) l.1;
+    keeps = call_split_holds m k atoms h (turn_live g m k l.0) l.1.call
+        (must_rows table holds m k place atoms follows proofs h (turn_live g m k l.0) l.1) l.1.parts.negatable;
   }
-  step_good table holds m (step.Ask k q seen) h l = record {
+  step_good table holds m (step.CallPart k by atom atoms follows proofs) h l = record {
+    at = h.at;
+    fits = h.fits;
+    keeps = call_split_holds m k atoms h (turn_live g m k l.0) l.1.call (own_region g ok atoms l.1.own) l.1.parts.negatable;
+  }
+  step_good table holds m (step.Ask k q follows seen) h l = record {
     at = h.at;
     fits = h.fits;
     keeps = keeps_ask gs linked g m.query h.at
-        ok m.ancestors (core_of m) k q (asks_of m h k (turn_live g m k l.0) q l.1.asks) h.keeps;
+        ok m.ancestors (core_of m) k q (may_asks m h k (turn_live g m k l.0) table q follows seen l.1) h.keeps;
   }
   step_good table holds m (step.Feed i) h l = record {
     at = h.at;

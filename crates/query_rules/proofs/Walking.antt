@@ -152,7 +152,7 @@ module _ (C : Called) (good : AllReturnValues C) (g : Graph) (ok : IsGraph g.nod
     wanted = wanted_outside q.exit;
   }
 
-  -- a place from which the run comes to such an end is on the way
+  -- a place from which the run reaches such an end is on the way
   on_way : (b : Place) → Fine g ok b → (k : ℕ) (ins : List ℤ) → EndsIn C g.edges k b ins [] (end_with q.exit values) →
       OnWay g q entry (standing b)
   on_way (inside n s) f k ins h = record {

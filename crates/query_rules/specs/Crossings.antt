@@ -1,7 +1,7 @@
 -- Crossings: how a trail goes from a source into a target, over an edge that is no call or over a
 -- call by a must. What holds of a crossing, what is decided of it without a limit, and what it
 -- asks.
-use Rattle.std.specs.Prelude.{◌≡◌, ◌≢◌, ◌⊎◌, ℕ, Bool, true, false, IsTrue, Contains, List, [], ◌∷◌, ◌++◌, map, None, Option, Some, pos, negsuc, slice_get}
+use Rattle.std.specs.Prelude.{◌≡◌, ◌≢◌, ◌⊎◌, ℕ, IsTrue, Contains, List, [], ◌∷◌, ◌++◌, map, None, Option, Some, pos, negsuc, slice_get}
 use Rattle.std.specs.List.{list_all}
 use Rattle.linear_formula.specs.LinearSum.{LinearSum, Valuation, Is64, valuation}
 use Rattle.linear_formula.specs.Formula.{HoldsAll}
@@ -28,7 +28,7 @@ use Rattle.must_region.specs.Rules.{carried, carried_sums, extended, sums_of}
 use Rattle.call_bridge.specs.Musts.{must_preimage, must_sums, slot_sums, plain_rows, must_rows, symbol_columns}
 use Rattle.query_rules.specs.declared.step.Mark.{Mark}
 use Rattle.query_rules.specs.Steps.{Model, Point}
-use Rattle.query_rules.specs.Rows.{CallAt, IsRefutedBy, IsSome, PlainEdge, marks_of, seen_at}
+use Rattle.query_rules.specs.Rows.{CallAt, Follow, IsRefutedBy, IsSome, PlainEdge, marks_of, seen_at}
 
 -- Questions
 
@@ -42,7 +42,7 @@ cube_question atoms = asks.Cube (cube_of atoms)
 abbrev pub negation_question : Atom → Question
 negation_question a = asks.Combine ((negsuc 0, a.term) ∷ []) (pos 1)
 
--- of a trail that comes to a target
+-- of a trail that reaches a target
 abbrev pub IsTrailQuestion : Query → Trace → List Sum → List Atom → Question → Type 0
 IsTrailQuestion query t sums target question =
     ((s : Sum) × Contains sums s × (question ≡ sum_question s))
@@ -83,8 +83,6 @@ pub record Crossing : Type 0 where
   pub preimage : Projected
   pub summing : List Sum
   pub eliminating : List Question
-  -- whether a source is split by all of the preimage's atoms alone, or by some of them
-  pub whole : Bool
 
 -- over an edge that is no call
 abbrev pub edge_crossing : Edge → (target : List Atom) → Crossing
@@ -97,7 +95,6 @@ edge_crossing edge target = record {
   eliminating = map
       (λ (x : ℕ). asks.Eliminate (cube_of (asked_atoms edge target)) (pre_columns edge))
       (pre_columns edge);
-  whole = false;
 }
 
 -- over a call by a must
@@ -113,17 +110,11 @@ must_crossing fail call target path = record {
   eliminating = asks.Eliminate
       (cube_of (must_rows path (call_site call) target))
       (symbol_columns (must_rows path (call_site call) target)) ∷ [];
-  whole = true;
 }
 
 -- the atoms are the preimage
 abbrev pub IsPreOf : Crossing → List Atom → Type 0
 IsPreOf c pre = (pair : Option (ℕ × (LinearSum × LinearSum))) × (c.preimage ≡ gives pre pair)
-
--- these are all of the atoms, or some of them, in order
-abbrev pub IsPartOf : (whole : Bool) → (atoms all : List Atom) → Type 0
-IsPartOf true atoms all = atoms ≡ all
-IsPartOf false atoms all = IsSome atoms all
 
 -- A trail
 
@@ -157,6 +148,18 @@ module _ (q : Query) (t : Trace) (c : Crossing) where
 
 -- A source, and the preimage in it
 
+-- The atoms are some of the preimage's or follow from it and the source; something in the source
+-- meets the preimage, and no point of the trail meets the atoms in the source.
+pub record IsSplitBy (g : Graph) (source pre : List Atom) (q : Query) (t : Trace)
+    (atoms : List Atom) (follows : List Certificate) (proof : Certificate) : Type 0 where
+  pub some_state : Valuation
+  pub values : Is64 some_state
+  pub possible : HoldsAll some_state (source ++ pre)
+  pub follow : Follow g source pre atoms follows
+  pub several : atoms ≢ []
+  pub negatable : IsTrue (list_all is_negatable atoms)
+  pub refuted : IsRefutedBy (seen_at q t (source ++ atoms)) proof
+
 module _ (source : List Atom) (c : Crossing) where
   -- nothing in the source meets the preimage
   pub record IsShownToKill : Type 0 where
@@ -164,19 +167,12 @@ module _ (source : List Atom) (c : Crossing) where
     pub is_pre : IsPreOf c pre
     pub never : IsNever (source ++ pre)
 
-  -- by atoms of the preimage, which something in the source meets and no point of the trail does,
-  -- the source is split from the trail
-  pub record IsSplitFrom (q : Query) (t : Trace) (atoms : List Atom) (proof : Certificate) :
-      Type 0 where
+  -- the source is split from the trail by atoms that follow from it and the preimage
+  pub record IsSplitFrom (g : Graph) (q : Query) (t : Trace) (atoms : List Atom)
+      (follows : List Certificate) (proof : Certificate) : Type 0 where
     pub pre : List Atom
     pub is_pre : IsPreOf c pre
-    pub part : IsPartOf c.whole atoms pre
-    pub several : atoms ≢ []
-    pub negatable : IsTrue (list_all is_negatable atoms)
-    pub some_state : Valuation
-    pub values : Is64 some_state
-    pub possible : HoldsAll some_state (source ++ pre)
-    pub refuted : IsRefutedBy (seen_at q t (source ++ atoms)) proof
+    pub splits : IsSplitBy g source pre q t atoms follows proof
 
 -- The trails that mark a source
 
@@ -222,7 +218,7 @@ module _ (q : Query) (ts : List Trace) (source : List Atom) (c : Crossing) where
         question ≡ negation_question a → IsAskedAcross question
     of_trail : OfSome (λ t. IsTrailQuestion q (c.carried t) (sums_across q t c) c.target question)
         ts → IsAskedAcross question
-    of_mark : (pre atoms : List Atom) → IsPreOf c pre → IsPartOf c.whole atoms pre →
+    of_mark : (pre atoms : List Atom) → IsPreOf c pre → IsSome atoms pre →
         OfSome (λ t. IsMarkQuestion q t (source ++ atoms) question) ts → IsAskedAcross question
 
 -- The crossings of a state

@@ -28,8 +28,8 @@ pub record KilledByChild (m : Model) (i : ℕ) : Type 0 where
   pub low : Option ℕ
   pub is_news : entry.news ≡ news.NotMay low
   pub covered : Covers m.lowest low
-  pub earlier : (before : List _) (k : RegionEdge) (q : Query) (seen : ℕ) →
-      m.steps ≡ before ++ step.Ask k q seen ∷ [] → suc i < length m.asked
+  pub earlier : (before : List _) (k : RegionEdge) (q : Query) (follows : List _) (seen : ℕ) →
+      m.steps ≡ before ++ step.Ask k q follows seen ∷ [] → suc i < length m.asked
 
 pub record KilledByLevel (m : Model) (level : ℕ) : Type 0 where
   pub query : Query

@@ -19,6 +19,7 @@ use Rattle.summary_form.specs.NotMays.{Fits}
 use Rattle.may_partition.specs.declared.region.RegionEdge.{RegionEdge}
 use Rattle.may_partition.specs.Parted.{begin_parted, region}
 use Rattle.must_region.specs.Rules.{begin_trail}
+use Rattle.query_rules.proofs.Closing.{turn_advances}
 use Rattle.query_rules.specs.Applying.{MayApply}
 use Rattle.query_rules.specs.Legal.{IsLegal}
 use Rattle.query_rules.specs.Paths.{IsPath}
@@ -146,14 +147,14 @@ module _ (w : IsGraph 3 0 1 1 1 1 returning_edges) where
 
   enters_legal : IsLegal (the_graph w) [] (first_model (the_graph w)) entry_step
   enters_legal = (
-    record {
+    turn_advances (the_graph w) (first_model (the_graph w)) enters (record {
       before = [];
       behind = returns ∷ [];
       is_open = ((refl, refl, (refl, refl, refl)), refl);
       frontier = refl;
       last = refl;
       shortest = λ es h. two_edges es h.0;
-    },
+    }),
     record {
       at = record {
         between = record {
@@ -174,14 +175,14 @@ module _ (w : IsGraph 3 0 1 1 1 1 returning_edges) where
 
   returns_legal : IsLegal (the_graph w) [] (entered_model (the_graph w)) return_step
   returns_legal = (
-    record {
+    turn_advances (the_graph w) (entered_model (the_graph w)) returns (record {
       before = enters ∷ [];
       behind = [];
       is_open = ((refl, refl, (refl, refl, refl)), refl);
       frontier = refl;
       last = refl;
       shortest = λ es h. two_edges es h.0;
-    },
+    }),
     record {
       at = record {
         between = record {

@@ -15,7 +15,7 @@ use Rattle.query_rules.specs.declared.step.Step.TheVariants as step
 use Rattle.query_rules.specs.Seen.{Seen, ShowsModel}
 use Rattle.query_rules.specs.Steps.{Model, begin_model, stepped}
 
--- the entry, and a return from the node behind it
+-- the entry, and a return from the node after it
 abbrev pub returning_edges : List Edge
 returning_edges = Entry 2 1 ∷ Return 2 0 (0 ∷ []) ∷ []
 

@@ -16,7 +16,7 @@ use test_forms::edges::call_of;
 use test_forms::paths::{Says, path_of};
 use test_forms::rows::{Plain, Row, are_rows, cube_of, is_term, term_of};
 
-/// A call of procedure 3, the rows before it and behind it, and what it asks.
+/// A call of procedure 3, the rows before it and after it, and what it asks.
 #[derive(Clone, Copy)]
 struct Asks<'a> {
     args: &'a [u32],
@@ -202,7 +202,7 @@ fn keeps_a_wide_elimination(rt: HostRuntime) -> Result<(), Fail> {
     Ok(())
 }
 
-/// Adds so many rows of a multiple of slot 3, each with a slot of its own.
+/// Adds `each` rows of a multiple of slot 3, each with a slot of its own.
 fn push_rows(
     atoms: &mut Atoms,
     alloc: Global,

@@ -55,7 +55,7 @@ fn must(alloc: Global) -> Result<Path, Fail> {
     path_for(alloc, &trail, &query)
 }
 
-/// What stands in the slots 2 and 3 behind a call that passes slots 0 and 1, as rows before it.
+/// What stands in the slots 2 and 3 after a call that passes slots 0 and 1, as rows before it.
 fn before(alloc: Global, target: &[Row]) -> Result<Cube, Fail> {
     let must = must(alloc)?;
     let call = call_of(alloc, (2, 3), 1, &[0, 1], &[2, 3])?;
@@ -72,14 +72,14 @@ fn are_alike(alloc: Global, first: &Cube, second: &Cube) -> Result<bool, OutOfMe
     Ok(follows(alloc, first, second)? && follows(alloc, second, first)?)
 }
 
-/// Whether these rows behind the call are those rows before it.
+/// Whether these rows after the call are those rows before it.
 fn comes_from(alloc: Global, behind: &[Row], rows: &[Row]) -> Result<bool, Fail> {
     let before = before(alloc, behind)?;
     let rows = cube_of(alloc, rows)?;
     Ok(are_alike(alloc, &before, &rows)?)
 }
 
-/// Rows behind the call, and what they are before it.
+/// Rows after the call, and what they are before it.
 const CASES: &[(&[Row], &[Row])] = &[
     // slot 2 is 5 where slot 1 was
     (

@@ -10,6 +10,8 @@ mod partitions;
 #[cfg(test)]
 mod played;
 #[cfg(test)]
+mod rests;
+#[cfg(test)]
 mod states;
 #[cfg(test)]
 mod trails;

@@ -253,7 +253,7 @@ fn another_assertion_is_not_live(rt: HostRuntime) -> Result<(), Fail> {
     Ok(())
 }
 
-/// A split: the graph, the edge, the rows, and the live edges behind it.
+/// A split: the graph, the edge, the rows, and the live edges after it.
 type Split<'a> = (Shape<'a>, Live, Row<'a>, &'a [Live]);
 
 const SPLITS: &[Split] = &[
@@ -313,7 +313,7 @@ fn splits(rt: HostRuntime) -> Result<(), Fail> {
     Ok(())
 }
 
-/// A region behind a split, and the part and the constant of its last atom.
+/// A region after a split, and the part and the constant of its last atom.
 const LAST_ATOMS: &[(Live, &[Row], usize, (i128, i128))] = &[
     ((3, 4, 2), &[SEVEN], 4, (1, -7)),
     ((3, 4, 2), &[SEVEN], 5, (-1, 8)),
@@ -384,7 +384,7 @@ fn after_kill(alloc: Global, shape: &Shape, at: Live) -> Result<Partition, Fail>
     Ok(partition)
 }
 
-/// A kill, of a call and of a pick, and the live edges behind it.
+/// A kill, of a call and of a pick, and the live edges after it.
 const KILLS: [(Shape, Live, &[Live]); 2] = [
     (
         SMALL,

@@ -29,7 +29,7 @@ struct Wanted<'a> {
     failed: Option<u32>,
 }
 
-/// Node 2 behind the entry; one parameter and two slots.
+/// Node 2 after the entry; one parameter and two slots.
 const ENTRY: Shape = Shape {
     counts: Counts {
         nodes: 3,
