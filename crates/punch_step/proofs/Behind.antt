@@ -1,4 +1,4 @@
--- One step behind a state that distances follow.
+-- One step after a state that distances follow.
 use Rattle.std.proofs.Common.{◌≡◌, ◌∙◌, List, Option, None, sym}
 use Rattle.flow_graph.specs.declared.graph.Graph.{Graph}
 use Rattle.summary_form.specs.declared.summary.Summary.{Summary}
@@ -9,7 +9,7 @@ use Rattle.punch_step.specs.Sliced.{HasStepped}
 use Rattle.punch_step.specs.declared.distances.Distances.{Distances}
 use Rattle.punch_step.specs.declared.slice.SliceEnd.{SliceEnd}
 use Rattle.punch_step.specs.steps.Following.{IsBehind, IsFollowed}
-use Rattle.punch_step.proofs.Ending.{same_query}
+use Rattle.query_rules.proofs.Effects.{same_query}
 
 pub is_behind : (gs : List Graph) (g : Graph) (table : List Summary) (m : Model) (before behind : Seen) (d : Distances) →
     IsAnalysed gs table g before m → IsFollowed before d → HasStepped gs g table m behind None → IsBehind behind d

@@ -21,7 +21,7 @@ use Rattle.punch_step.specs.declared.cut.Cut.{Cut}
 use Rattle.punch_step.specs.declared.plain.Frontier.{Frontier}
 use Rattle.punch_step.proofs.Choosing.{some_one}
 
--- the extreme rows of what is seen, with the number of one more row behind all
+-- the extreme rows of what is seen, with the number of one more row after all
 pub sees_by : (q : Query) (t : Trace) (source : List Atom) (all : Extremes) (s : Seen) → AreSeen q t source all →
     trace_of s.trail.now ≡ t → s.count ≡ suc all.count → s.numbers.items ≡ all.numbers.items ++ all.count ∷ [] →
     s.rows.atoms ≡ all.cube.atoms → Sees q t source s
@@ -56,17 +56,18 @@ cut_by_numbered q t source whole e i a cut h at is refuted =
     }
 
 -- the split by a cut of the preimage
-pub split_by : (f : Frontier) (source pre : Extremes) (cut : Cut) (proofs : List Certificate) (number : ℕ) →
+pub split_by : (f : Frontier) (source pre : Extremes) (cut : Cut) (follows proofs : List Certificate) (number : ℕ) → follows ≡ [] →
     IsOutline source f.source.now.atoms → (p : IsPreOutline f pre) → HasPoint (source.cube.atoms ++ pre.cube.atoms) → f.at.from ≢ 0 →
     IsTrue (list_all is_negatable cut.atoms.atoms) →
     ((whole : List Atom) → IsOutline pre whole → IsCut f.query.now (trail_at f) f.source.now.atoms whole cut) →
-    proofs ≡ cut.proof ∷ [] → MadeAt f number (step.Split f.at cut.atoms.atoms proofs)
-split_by f source pre cut proofs number s p point inner negatable cuts e =
+    proofs ≡ cut.proof ∷ [] → MadeAt f number (step.Split f.at cut.atoms.atoms follows proofs)
+split_by f source pre cut follows proofs number none s p point inner negatable cuts e =
     let c = cuts p.0 p.2 in
     let both = append-extremes source.numbers.items pre.numbers.items source.cube.atoms pre.cube.atoms f.source.now.atoms p.0
     s.extremes p.2.extremes in (
       refl,
       inner,
+      none,
       (
         cut.proof,
         e,

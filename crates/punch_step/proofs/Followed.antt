@@ -25,6 +25,7 @@ use Rattle.query_rules.specs.declared.step.Why.{Why}
 use Rattle.query_rules.specs.Paths.{gives_up, is_awaited, is_marked, is_stuck}
 use Rattle.query_rules.specs.Seen.{Seen}
 use Rattle.query_rules.specs.Steps.{Model, stepped}
+use Rattle.query_rules.proofs.Effects.{one_step_more}
 use Rattle.query_rules.proofs.Closing.{marks_within}
 use Rattle.query_rules.proofs.Marked.{state_marked}
 use Rattle.punch_step.specs.Analysed.{IsAnalysed}
@@ -43,23 +44,14 @@ pub on_ok : {T E P : Type 0} (r : Result T E) → P → OnOk r P
 on_ok (Ok x) p = p
 on_ok (Err e) p = tt
 
-more_steps : (g : Graph) (table : List Summary) (made : Step) (m : Model) → (stepped g table made m).steps ≡ m.steps ++ made ∷ []
-more_steps g table (step.Extend k n point) m = refl
-more_steps g table (step.Split k atoms proofs) m = refl
-more_steps g table (step.Kill k by) m = refl
-more_steps g table (step.CallExtend k n place point) m = refl
-more_steps g table (step.CallSplit k place atoms proofs) m = refl
-more_steps g table (step.Ask k q seen) m = refl
-more_steps g table (step.Feed i) m = refl
-more_steps g table (step.Stuck k why seen) m = refl
-
 same_asked : (g : Graph) (table : List Summary) (made : Step) (m : Model) → end_of made ≡ None → (stepped g table made m).asked ≡ m.asked
 same_asked g table (step.Extend k n point) m o = refl
-same_asked g table (step.Split k atoms proofs) m o = refl
+same_asked g table (step.Split k atoms follows proofs) m o = refl
 same_asked g table (step.Kill k by) m o = refl
 same_asked g table (step.CallExtend k n place point) m o = refl
-same_asked g table (step.CallSplit k place atoms proofs) m o = refl
-same_asked g table (step.Ask k q seen) m o = absurd cc
+same_asked g table (step.CallSplit k place atoms follows proofs) m o = refl
+same_asked g table (step.CallPart k by atom atoms follows proofs) m o = refl
+same_asked g table (step.Ask k q follows seen) m o = absurd cc
 same_asked g table (step.Feed i) m o = absurd cc
 same_asked g table (step.Stuck k why seen) m o = refl
 
@@ -97,7 +89,7 @@ module _ (s : Seen) (d : Distances) (b : IsBehind s d) where
   made = stepped b.graph b.table b.step b.model
 
   steps_are : s.steps ≡ b.before.steps ++ b.step ∷ []
-  steps_are = sym b.is.shows.steps ∙ more_steps b.graph b.table b.step m ∙ ap (λ xs. xs ++ b.step ∷ []) b.was.shows.steps
+  steps_are = sym b.is.shows.steps ∙ one_step_more b.graph b.table b.step m ∙ ap (λ xs. xs ++ b.step ∷ []) b.was.shows.steps
 
   asked_are : s.asked ≡ b.before.asked
   asked_are = sym b.is.shows.asked ∙ same_asked b.graph b.table b.step m b.goes_on ∙ b.was.shows.asked

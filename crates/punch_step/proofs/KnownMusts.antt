@@ -191,7 +191,7 @@ outer_both rows others all more o p = record {
   extremes = append-extremes o.numbers p.numbers rows others all more o.extremes p.extremes;
 }
 
--- the same rows before both, or behind both
+-- the same rows before both, or after both
 pub outer_behind : (before rows all : List Atom) → AreOuter rows all → AreOuter (before ++ rows) (before ++ all)
 outer_behind before rows all o = outer_both before rows before all (outer_itself before) o
 

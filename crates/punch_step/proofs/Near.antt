@@ -1,4 +1,4 @@
--- The nearest region behind open edges, edge by edge.
+-- The nearest region after open edges, edge by edge.
 use Rattle.std.proofs.Common.{◌≡◌, ◌≢◌, ◌⊎◌, inl, inr, ⊎_elim, ℕ, ◌≤◌, ◌==◌, Bool, true, false, ◌&&◌, ◌||◌, List, [], ◌∷◌, ◌++◌, arith, refl, sym, subst, ap, ◌∙◌}
 use Rattle.std.specs.Prelude.{IsTrue, slice_index}
 use borrow.Author.Tests.{eqb-true, eq-eqb}

@@ -122,7 +122,7 @@ inexact_is q t edge source target rows pair kept h e l =
     }
 
 module _ (q : Query) (t : Trace) (source : List Atom) (c : Crossing) where
-  -- whatever the trail's question came to, it isn't shown to come
+  -- whatever answer the trail's question has, it isn't shown to come
   pub first_not_shown : (first : Option Kept) → IsMissed q t c first → ¬ IsShownToCome q t c
   first_not_shown None f = λ s. met_not_never (rows_across q t c) s.met f.0.never
   first_not_shown (Some kept) f = f.2
@@ -261,13 +261,14 @@ limited_at f pre first kept h p possible right asked apart =
     })
 
 -- split by atoms of the preimage that no point of the trail meets
-pub split_step : (f : Frontier) (pre : Pre) (cut : Cut) (proofs : List Certificate) → IsPreAt f pre →
+pub split_step : (f : Frontier) (pre : Pre) (cut : Cut) (follows proofs : List Certificate) → follows ≡ [] → IsPreAt f pre →
     IsPossible (f.source.now.atoms ++ pre.cube.atoms) → f.at.from ≢ 0 → IsTrue (list_all is_negatable pre.cube.atoms) →
     IsCut f.query.now (trail_at f) f.source.now.atoms pre.cube.atoms cut → proofs ≡ cut.proof ∷ [] →
-    StepAt f (step.Split f.at cut.atoms.atoms proofs)
-split_step f pre cut proofs h possible inner negatable c e = (
+    StepAt f (step.Split f.at cut.atoms.atoms follows proofs)
+split_step f pre cut follows proofs none h possible inner negatable c e = (
   refl,
   inner,
+  none,
   (
     cut.proof,
     e,

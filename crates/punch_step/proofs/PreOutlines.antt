@@ -22,7 +22,7 @@ use Rattle.punch_step.specs.declared.plain.Frontier.{Frontier}
 use Rattle.punch_step.specs.declared.by_extremes.Told.{Told}
 use Rattle.punch_step.specs.declared.by_extremes.Told.TheVariants as told
 
--- Numbers behind others
+-- Numbers after others
 
 -- one more
 pub range_more : (a n : ℕ) → range_with_len a n ++ (a + n) ∷ [] ≡ range_with_len a (n + 1)
@@ -53,7 +53,7 @@ keeps_columns (Call from to proc args results) h e = absurd cc
 keeps_columns (Assert from to id rows) h e = tt
 keeps_columns (Return from to slots) h e = tt
 
--- by the numbers of the target's extreme rows, and those behind all
+-- by the numbers of the target's extreme rows, and those after all
 pub is_pre_outline : (f : Frontier) (target e : Extremes) → CanGo f → IsOutline target f.target.now.atoms →
     pre_columns f.edge.now ≡ [] → IsPreimage f.edge.now target.cube.atoms e.cube.atoms →
     e.numbers.items ≡ target.numbers.items ++ range_with_len target.count (length e.cube.atoms - length target.numbers.items) →
@@ -90,7 +90,7 @@ extremes_met v [] (a ∷ rows) all h k = absurd h
 extremes_met v (n ∷ ns) [] all h k = absurd h
 extremes_met v (n ∷ ns) (a ∷ rows) all h k = (holds_at v all n a h.0 k, extremes_met v ns rows all h.1 k)
 
--- What is told of both
+-- What is said of both
 
 -- the same rows
 pub same_outline : (e d : Extremes) (all : List Atom) → d.cube ≡ e.cube → d.numbers.items ≡ e.numbers.items → d.count ≡ e.count →

@@ -17,7 +17,7 @@ use Rattle.punch_step.specs.declared.by_extremes.Told.{Told}
 use Rattle.punch_step.specs.declared.by_extremes.Told.TheVariants as told
 use Rattle.punch_step.specs.declared.plain.Frontier.{Frontier}
 
--- What is told of rows: a point meets them, or nothing meets what they are the extremes of.
+-- What is said of rows: a point meets them, or nothing meets what they are the extremes of.
 abbrev pub IsTold : (numbers : List ℕ) (count : ℕ) (rows : List Atom) → Told → Type 0
 IsTold numbers count rows (told.Met at) = Is64 (valuation at) × HoldsAll (valuation at) rows
 IsTold numbers count rows (told.Never proof) =
@@ -55,7 +55,7 @@ pub record HasPoint (rows : List Atom) : Type 0 where
   pub holds : HoldsAll point rows
 
 -- the extreme rows of what is seen of a source at a trail's end, with the number that one more row
--- has behind them
+-- has after them
 pub record Sees (q : Query) (t : Trace) (source : List Atom) (s : Seen) : Type 0 where
   pub trail : trace_of s.trail.now ≡ t
   pub count : s.count ≡ suc (length (seen_at q t source))

@@ -31,7 +31,7 @@ pub record IsBareOf (must bare : Path) : Type 0 where
   pub entry : bare.entry ≡ must.entry
   pub outcome : bare.outcome ≡ must.outcome
 
--- extreme rows of the guard, where there are so many symbols before those of the must
+-- extreme rows of the guard, where `before` symbols stand before those of the must
 abbrev pub AreGuardRows : Path → (before : ℕ) → List Atom → Type 0
 AreGuardRows must before rows =
     AreOuter rows (renamed_atoms_by (shifted before) must.guard.atoms)
@@ -74,7 +74,7 @@ pub record IsPreOuter (c : Calling) (must : Path) (rows : List Atom) : Type 0 wh
   pub is_pre : IsPreOf (crossing_by c must) pre
   pub outer : AreOuter rows pre
 
--- What is kept of a must, for calls with these arguments behind so many symbols
+-- What is kept of a must, for calls with these arguments after a number of symbols
 
 pub record IsKept (must : Path) (args : List ℕ) (before : ℕ) (k : MustParts) : Type 0 where
   pub is_bare : IsBareOf must k.bare
@@ -88,7 +88,7 @@ HasKept must args before slot =
 
 -- What it tells
 
--- the rows with extreme ones of what is seen of atoms at the end of a trail come to no point
+-- the rows with extreme ones of what is seen of atoms at the end of a trail have no point
 abbrev pub IsNeverBehind : Query → Trace → (rows atoms : List Atom) → Type 0
 IsNeverBehind q t rows atoms =
     (ends : List Atom) × IsRead t atoms × AreOuter ends (seen_at q t atoms) × IsNever (rows ++ ends)

@@ -1,5 +1,5 @@
-//! The step over an edge that is no call, by the extreme rows of cubes that have many. What is told
-//! of them is told of all rows.
+//! The step over an edge that is no call, by the extreme rows of cubes that have many. An answer
+//! for the extreme rows is an answer for all rows.
 
 ghost use Rattle.std.specs.Prelude.{◌≡◌, ◌∷◌, ◌++◌, ◌+◌, ◌-◌, [], List, ℕ, length, false, IfOk, IfSome};
 ghost use Rattle.std.specs.List.{range_with_len};
@@ -60,7 +60,7 @@ enum Arrival {
     Unknown,
 }
 
-/// Extreme rows of what is seen of a source at the end of a trail, and their numbers, behind which
+/// Extreme rows of what is seen of a source at the end of a trail, and their numbers, after which
 /// stands that of one more row.
 #[derive(Drop)]
 struct Seen<'a> {
@@ -125,7 +125,7 @@ pub(crate) fn rows_seen(
     Ok(Some(guard.followed_by(start)?.followed_by(end)?))
 }
 
-/// What the rows tell, with the numbers that they have among so many.
+/// What the rows tell, with the numbers that they have among `count` rows.
 fn told_of(
     alloc: Global,
     memo: &mut Memo,
@@ -237,7 +237,7 @@ fn eliminated(alloc: Global, frontier: &Frontier) -> Result<Option<Extremes>, Ou
     }
 }
 
-/// The numbers of extreme rows, with those of so many rows in all that the others are behind them.
+/// The numbers of `all` rows: those of a target's extreme rows, then numbers after the target's.
 fn numbers_with(
     alloc: Global,
     target: &Extremes,
@@ -446,6 +446,7 @@ fn split(
     Ok(Some(Step::Split {
         edge: frontier.at,
         atoms: cut.atoms.atoms,
+        follows: Certificates::none(alloc),
         proofs: Certificates::from_vec(proofs),
     }))
 }

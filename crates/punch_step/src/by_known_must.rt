@@ -1,4 +1,4 @@
-//! That a must says neither over a call, by what is kept of it.
+//! Shows from the cache that a must doesn't help at a call.
 
 ghost use Rattle.std.specs.Prelude.{nat_lt, ◌≡◌, ◌∷◌, ◌++◌, [], List, IfOk, IfSome, IsTrue};
 ghost use Rattle.linear_formula.specs.Extremes.{IsOutline};

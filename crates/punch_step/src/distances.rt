@@ -1,11 +1,15 @@
 //! Distances to the target that are kept from step to step.
 
-ghost use Rattle.std.specs.Prelude.{ℕ, ◌≡◌, ◌≢◌, ◌≤◌, ◌<◌, ◌^◌, ◌==◌, ◌||◌, true, false, suc, length, slice_index, Some, None, IfOk, IsTrue, OnOk};
+ghost use Rattle.std.specs.Prelude.{ℕ, ◌≡◌, ◌≢◌, ◌≤◌, ◌<◌, ◌^◌, ◌==◌, ◌||◌, true, false, suc, length, slice_index, List, Some, None, IfOk, IsTrue, OnOk};
 ghost use Rattle.std.specs.List.{list_any};
 ghost use Rattle.abstract_path.specs.Routes.{is_at};
 ghost use Rattle.may_partition.specs.Parted.{parent};
 ghost use Rattle.may_partition.specs.Shown.{is_live};
-ghost use Rattle.punch_step.specs.steps.Far.{IfLastCrossing, IsNearest, LeadsNearer, crosses};
+ghost use Rattle.may_partition.specs.declared.region.RegionEdge.{RegionEdge as ARegionEdge};
+ghost use Rattle.query_rules.specs.Seen.{ShowsModel};
+ghost use Rattle.query_rules.specs.Steps.{Model};
+ghost use Rattle.punch_step.specs.Sides.{IsSide};
+ghost use Rattle.punch_step.specs.steps.Far.{IfLastCrossing, IsNearest, IsOpenWay, LeadsNearer, crosses};
 ghost use Rattle.punch_step.specs.steps.Following.{AreNoted, AreOf, IsBehind, IsFollowed, IsSplitFrom, KeepsRest};
 ghost use Rattle.punch_step.specs.steps.Walks.{IsWalk};
 ghost use Rattle.punch_step.specs.steps.Reaching.{AreMarksWithin};
@@ -126,7 +130,7 @@ impl Distances {
         !self.shut.has(edge)
     }
 
-    /// The least distance behind an open edge from the region, and such an edge: 0 where there is
+    /// The least distance after an open edge from the region, and such an edge: 0 where there is
     /// none.
     fn nearest(&self, partition: &Partition, region: u32) -> (u64, RegionEdge)
         requires far { AreOf partition.now self.now }
@@ -290,6 +294,7 @@ impl Distances {
             }
             Some(Step::Split { edge, .. }) => self.divide(alloc, state, edge.from),
             Some(Step::CallSplit { edge, .. }) => self.divide(alloc, state, edge.from),
+            Some(Step::CallPart { edge, .. }) => self.divide(alloc, state, edge.from),
             Some(Step::Kill { edge, .. }) => {
                 forget(&mut self.noted, edge);
                 self.leave(state.partition(), edge)
@@ -359,6 +364,68 @@ impl Distances {
             Some(edge) => Walk::To(edge),
             None => unreachable!(),
         }
+    }
+
+    /// Whether the kept ways lead from the region to the target.
+    fn leads(&self, partition: &Partition, noted: &mut Vec<Option<RegionEdge>>, from: u32) -> bool
+        requires far { AreOf partition.now self.now }
+        requires noted { AreNoted partition.now noted.old.items }
+        ensures way { IsTrue result → (es : List ARegionEdge)
+            × IsOpenWay partition.now.edges self.now.shut from es self.now.target }
+        ensures noted { AreNoted partition.now noted.new.items }
+    {
+        let mut here = from;
+        while here != self.target {
+            let Some(edge) = self.reach.way.get(here as usize) else {
+                return false;
+            };
+            if !self.leads_on(partition, noted, here, edge) {
+                return false;
+            }
+            here = edge.to;
+        }
+        true
+    }
+
+    /// The same, with what the distances note.
+    fn leads_from(&mut self, alloc: Global, partition: &Partition, from: u32) -> bool
+        requires far { AreOf partition.now self.old }
+        requires noted { AreNoted partition.now self.old.noted.items }
+        ensures way { IsTrue result → (es : List ARegionEdge)
+            × IsOpenWay partition.now.edges self.old.shut from es self.old.target }
+        ensures rest { KeepsRest self.old self.new }
+        ensures reach { self.new.reach ≡ self.old.reach }
+        ensures noted { AreNoted partition.now self.new.noted.items }
+    {
+        let mut noted = mem::replace(&mut self.noted, Vec::new(alloc));
+        let leads = self.leads(partition, &mut noted, from);
+        self.noted = noted;
+        leads
+    }
+
+    /// Whether it is seen that the edge is open and leads from a marked region to one that isn't,
+    /// from which open edges lead on to the target.
+    pub fn is_side(&mut self, alloc: Global, state: &QueryState, edge: &RegionEdge) -> bool
+        requires followed { IsFollowed state.now self.old }
+        ensures side { IsTrue result → (m : Model) → ShowsModel state.now m →
+            IsSide m self.old.target edge.now }
+        ensures followed { IsFollowed state.now self.new }
+        ensures target { self.new.target ≡ self.old.target }
+    {
+        if !crosses(&self.marked, edge) || self.shut.has(edge) || !state.partition().live(edge) {
+            return false;
+        }
+        self.leads_from(alloc, state.partition(), edge.to)
+    }
+
+    /// Whether the edge may lead from a marked region to one that isn't, and on to the target: what
+    /// a choice begins with.
+    pub fn may_be_side(&self, edge: &RegionEdge) -> bool {
+        let far = match self.reach.far.get(edge.to as usize) {
+            Some(far) => *far,
+            None => 0,
+        };
+        far != 0 && crosses(&self.marked, edge) && !self.shut.has(edge)
     }
 
     /// The same, with what the distances note.

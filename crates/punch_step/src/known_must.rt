@@ -25,14 +25,13 @@ use summary_form::path::{Path, Terms};
 pub struct MustParts {
     /// The must without the rows of its guard.
     pub bare: Path,
-    /// Extreme rows of the guard behind so many symbols; copies share them.
+    /// Extreme rows of the guard after a number of symbols; copies share them.
     pub guard: JoinedCube,
     pub own: Option<OwnRows>,
 }
 
-/// A must with its parts, for calls with these arguments where so many symbols stand before those
-/// of
-/// the must. A contract sees the parts.
+/// A must with its parts, for calls with these arguments where a number of symbols stand before
+/// those of the must. A contract sees the parts.
 #[derive(Drop)]
 pub struct KnownMust {
     must: Path,
@@ -70,7 +69,7 @@ fn bare_of(alloc: Global, must: &Path) -> Result<Path, OutOfMemory>
     })
 }
 
-/// Extreme rows of the guard, with its symbols behind so many others.
+/// Extreme rows of the guard, with its symbols after `before` others.
 fn guard_rows(alloc: Global, must: &Path, before: u32) -> Result<JoinedCube, OutOfMemory>
     ensures { IfOk result (λ g. AreGuardRows must.now before g.atoms) }
 {
@@ -113,7 +112,7 @@ pub(crate) fn known_of(
 }
 
 impl KnownMust {
-    /// Whether it is this must, for calls with these arguments behind so many symbols.
+    /// Whether it is this must, for calls with these arguments after `before` symbols.
     pub(crate) fn is_of(&self, must: &Path, args: &[Slot], before: u32) -> bool
         ensures { IsTrue result → IsKept must.now args.now before self.now }
     {

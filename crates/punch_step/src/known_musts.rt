@@ -36,8 +36,7 @@ fn learn(
 }
 
 /// Musts that were asked before: each in the slot of its number, where a newer one takes the place
-/// of
-/// an older one.
+/// of an older one.
 #[derive(Drop)]
 pub struct KnownMusts {
     slots: Vec<Option<KnownMust>>,
@@ -66,7 +65,7 @@ impl KnownMusts {
         Ok(KnownMusts { slots })
     }
 
-    /// What is kept of the must with this number, for calls as this one behind so many symbols.
+    /// What is kept of the must with this number, for calls as this one after `before` symbols.
     pub(crate) fn known(
         &mut self,
         alloc: Global,

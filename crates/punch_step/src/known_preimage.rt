@@ -13,7 +13,7 @@ use std::alloc::Global;
 use std::marker::Model;
 use summary_form::path::Path;
 
-/// What the computation of a preimage came to.
+/// The result of the computation of a preimage.
 #[derive(Drop)]
 pub enum Computed {
     Rows(Cube),
@@ -30,7 +30,7 @@ struct Subject {
     target: Cube,
 }
 
-/// What a preimage came to, with what it is of. A contract sees what it came to.
+/// The result of a preimage, with what it is of. A contract sees the result.
 #[derive(Drop)]
 pub struct KnownPreimage {
     subject: Subject,

@@ -67,7 +67,7 @@ pub fn forget(noted: &mut Vec<Option<RegionEdge>>, edge: &RegionEdge)
     }
 }
 
-/// Room for so many regions. Nothing is noted for the new ones.
+/// Room for `regions` regions. Nothing is noted for the new ones.
 pub fn make_room(noted: &mut Vec<Option<RegionEdge>>, regions: usize) -> Result<(), OutOfMemory>
     ensures { OnOk result ((r : ℕ) (e : AnEdge) → slice_get noted.new.items r ≡ Some (Some e) →
         slice_get noted.old.items r ≡ Some (Some e)) }
@@ -78,7 +78,7 @@ pub fn make_room(noted: &mut Vec<Option<RegionEdge>>, regions: usize) -> Result<
     Ok(())
 }
 
-/// Nothing is noted, for so many regions.
+/// Nothing is noted, for `regions` regions.
 pub fn nothing(alloc: Global, regions: usize) -> Result<Vec<Option<RegionEdge>>, OutOfMemory>
     ensures { IfOk result (λ noted. (p : Shown) → AreNoted p noted.items) }
 {

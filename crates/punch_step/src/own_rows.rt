@@ -30,7 +30,7 @@ pub struct OwnRows {
     pub rows: Cube,
     pub firsts: Vec<u32>,
     pub last: u32,
-    /// So many rows may join them before the last symbol is eliminated.
+    /// This number of rows may join them before the last symbol is eliminated.
     pub room: usize,
 }
 
@@ -53,7 +53,7 @@ fn elimination_of(
     eliminate_columns(alloc, firsts, all, first)
 }
 
-/// How many rows there are at most behind the stage, if they can be counted.
+/// How many rows there are at most after the stage, if they can be counted.
 fn count_behind(count: usize, stage: &Stage) -> Option<usize>
     ensures { IfSome result (λ n. n ≡ rows_behind count stage.now) }
 {
@@ -65,7 +65,7 @@ fn count_behind(count: usize, stage: &Stage) -> Option<usize>
         .checked_add(uppers.checked_mul(lowers)?)
 }
 
-/// How many rows may join so many at each of the stages, if there is room for them alone.
+/// How many rows can still be added at every stage, if the present ones fit.
 fn room_beside(rows: usize, stages: &[Stage]) -> Option<usize>
     ensures { IfSome result (λ room. most_rows rows stages.now + room ≤ MAX_ROWS) }
 {

@@ -1,4 +1,4 @@
--- States stay ready when they are told how a child is closed, and the table gets what that says.
+-- States stay ready when they hear how a child closed, and the table gets what that says.
 use Rattle.std.proofs.Common.{◌≡◌, ℕ, List, [], ◌∷◌, ◌++◌, length, None, Some, refl, sym, arith, ap, subst, ◌∙◌}
 use Rattle.std.specs.Prelude.{slice_get}
 use Rattle.std.proofs.lemmas.List.{length-append}
@@ -42,7 +42,7 @@ tells_in gs table s h i q known asked t = record {
   is_true = subst (λ (x : Query). IsTrueNews gs (levels_of h.model.ancestors h.model.query) x known) (sym asked.query) t;
 }
 
--- the state that is told so is ready, where the table has a must if that is told
+-- the state that hears it is ready, where the table has a must if a must is reported
 heard : NewsLead → (gs : List Graph) (table : List Summary) (s new : Seen) (h : IsReady gs table s) (i number : ℕ) (known : News) →
     Tells gs h.model i known → ((a : Asked) → slice_get s.asked i ≡ Some a → IfMust table (with_child number known a)) →
     ((m : Model) → ShowsModel s m → ShowsModel new (told i number known m)) → IsReady gs table new

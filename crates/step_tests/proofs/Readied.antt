@@ -1,4 +1,4 @@
--- States stay ready: at their beginning, behind slices, and when they and the table learn.
+-- States stay ready: at their beginning, after slices, and when they and the table learn.
 use Rattle.std.proofs.Common.{◌≡◌, ℕ, zero, suc, List, [], ◌∷◌, ◌++◌, Some, ⊎_elim, refl, sym, ap, subst, ◌∙◌}
 use Rattle.std.specs.Prelude.{slice_get}
 use Rattle.std.proofs.lemmas.Option.{same_Some, none-some}
@@ -67,7 +67,7 @@ held_more gs table x holds h place y e = ⊎_elim (λ l. holds place y l.1) (λ 
     new zero e = subst (SummaryHolds (graph_runs gs) (arity_in gs)) (same_Some x y e) h
     new (suc k) e = absurd (none-some y e)
 
--- The table has a must that answers it, if that is told
+-- The table has a must that answers it, if a must is reported
 abbrev pub IfMust : List Summary → Asked → Type 0
 IfMust table a = a.news ≡ news.Must → (place : ℕ) × (path : Path) × (slice_get table place ≡ Some (Must path)) × AnswersYes a.query path
 
@@ -97,14 +97,15 @@ module _ (steps_lead : StepsLead) (asked_fits : AskedFits) (gs : List Graph) (g 
 
   one_kept : (m : Model) (s : Step) → IsGrounded gs g table q ancestors m → IsLegal g table m s → IsKept m → IsKept (stepped g table s m)
   one_kept m (step.Extend k trail point) grounded legal kept = kept
-  one_kept m (step.Split k atoms proofs) grounded legal kept = kept
+  one_kept m (step.Split k atoms follows proofs) grounded legal kept = kept
   one_kept m (step.Kill k by) grounded legal kept = kept
   one_kept m (step.CallExtend k trail place point) grounded legal kept = kept
-  one_kept m (step.CallSplit k place atoms proofs) grounded legal kept = kept
-  one_kept m (step.Ask k asked seen) grounded legal kept =
+  one_kept m (step.CallSplit k place atoms follows proofs) grounded legal kept = kept
+  one_kept m (step.CallPart k by atom atoms follows proofs) grounded legal kept = kept
+  one_kept m (step.Ask k asked follows seen) grounded legal kept =
       let x : Asked = record { edge = k; query = asked; child = 0; news = news.Waiting } in (
         each_more (IfMust table) m.asked x kept.0 (λ e. cc),
-        each_more (λ a. IsFitting gs a.query) m.asked x kept.1 (asked_fits gs g table q ancestors m grounded k asked seen legal),
+        each_more (λ a. IsFitting gs a.query) m.asked x kept.1 (asked_fits gs g table q ancestors m grounded k asked follows seen legal),
       )
   one_kept m (step.Feed i) grounded legal kept = (
     each_updated (IfMust table) (with_news news.Waiting) m.asked i kept.0 (λ a e same. cc),

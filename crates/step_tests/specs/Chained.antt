@@ -1,4 +1,4 @@
--- What stands before and behind a call, and the first of a list of graphs.
+-- What stands before and after a call, and the first of a list of graphs.
 use Rattle.std.specs.Prelude.{◌≡◌, ℕ, ℤ, true, IsTrue, List, [], Some, slice_get}
 use Rattle.flow_graph.specs.Shapes.{is_call, source}
 use Rattle.flow_graph.specs.WellFormed.{has_slots, max_slots}
@@ -15,6 +15,6 @@ pub record IsScene (q : Query) (t : Trail) (call : Edge) (at : List (ℕ × ℤ)
   pub start : q.start.atoms ≡ []
   pub origin : at ≡ []
 
--- the first graph has so many entry values
+-- the first graph has n entry values
 abbrev pub BeginsWith : List Graph → ℕ → Type 0
 BeginsWith gs n = (g : Graph) × (slice_get gs 0 ≡ Some g) × (g.params ≡ n)

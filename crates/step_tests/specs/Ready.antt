@@ -45,7 +45,7 @@ pub record IsEnded (gs : List Graph) (table : List Summary) (s : Seen) (end : Sl
   pub analysed : IsAnalysed gs table graph s model
   pub closed : IsClosedBy graph model end
 
--- the asked query of this number, of which nothing is told
+-- the asked query of this number, of which nothing is reported
 pub record IsAskedAs (s : Seen) (i : ℕ) (q : Query) : Type 0 where
   pub entry : Asked
   pub there : slice_get s.asked i ≡ Some entry

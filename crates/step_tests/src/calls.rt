@@ -1,4 +1,4 @@
-//! Slices with calls: what they ask, and what they make of what they are told.
+//! Slices with calls: what they ask, and what they make of what is reported to them.
 
 ghost use Rattle.std.specs.Prelude.{IfOk, OnOk};
 ghost use Rattle.query_rules.specs.States.{AllHold};
@@ -86,7 +86,7 @@ fn last_in(state: &QueryState) -> Last {
     }
 }
 
-/// What a slice of the caller came to, and what its last step did.
+/// How a slice of the caller ended, and what its last step did.
 type Gone = ((u32, End), Last);
 
 /// A slice of the caller.
@@ -185,7 +185,7 @@ const fn asks(steps: u32, exit: ExitKind) -> Gone {
 
 const FAILS: ExitKind = ExitKind::Fail(0);
 
-/// What the first slice of the caller and three rounds come to.
+/// How the first slice of the caller and three rounds end.
 type Rounds = (Gone, (End, Gone), (End, Gone), (End, Gone));
 
 /// The caller asks three queries, each of which is sliced to its end.
@@ -205,7 +205,7 @@ fn rounds(
     Ok((first, second, third, last))
 }
 
-/// What a play came to: the caller's rounds, its last slices, and whether its path has the inputs 2
+/// How a play ended: the caller's rounds, its last slices, and whether its path has the inputs 2
 /// and 40.
 #[derive(Clone, Copy, PartialEq, Eq)]
 struct Played {
@@ -221,7 +221,7 @@ enum Play {
     Fails,
     /// Three rounds, and then a slice of a second state of the caller's query.
     Kills,
-    /// Slices, of whose asked queries nothing is told; at the last no step is left.
+    /// Slices, of whose asked queries nothing is reported; at the last no step is left.
     Alone,
     /// The second query is asked with a not-may in the table, and that child is starved.
     Feeds,
@@ -417,7 +417,7 @@ fn a_child_without_runs_kills(rt: HostRuntime) -> Result<(), Fail> {
     Ok(())
 }
 
-/// Nothing is told of the asked queries, and nothing is left.
+/// Nothing is reported of the asked queries, and nothing is left.
 #[test]
 fn waits_for_children(rt: HostRuntime) -> Result<(), Fail> {
     let (_, returns) = asks(1, ExitKind::Return);

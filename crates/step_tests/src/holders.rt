@@ -123,7 +123,7 @@ fn table_of(alloc: Global, bounds: &[Bound]) -> Result<Table, Fail> {
     Ok(table)
 }
 
-/// A table of a must and a not-may behind it.
+/// A table of a must and a not-may after it.
 fn behind_must(alloc: Global) -> Result<Table, Fail> {
     let must = path_of(alloc, &Says { proc: 3, ..ONCE })?;
     let not_may = query_of(alloc, THREE)?;

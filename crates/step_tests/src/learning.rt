@@ -54,14 +54,14 @@ pub fn ask_child(
     Ok(begun_below(alloc, graphs, table, query, 1, ancestors)?)
 }
 
-/// Whether the entry is of this query, and nothing is told of it.
+/// Whether the entry is of this query, and nothing is reported of it.
 fn is_of(entry: &Asked, query: &Query) -> bool
     ensures { IsTrue result → (entry.now.query ≡ query.now) × (entry.now.news ≡ news.Waiting) }
 {
     entry.query == *query && entry.news == News::Waiting
 }
 
-/// The query of this number is that of the child, and nothing is told of it.
+/// The query of this number is that of the child, and nothing is reported of it.
 fn see_asked(parent: &QueryState, asked: u32, child: &Query) -> Result<(), Fail>
     ensures { OnOk result (IsAskedAs parent.now asked child.now) }
 {
@@ -89,7 +89,7 @@ fn keep(alloc: Global, table: &mut Table, summary: Summary) -> Result<(), Fail>
     add(table, Arc::new(alloc, summary)?)
 }
 
-/// The table gets the path, and the parent is told so.
+/// The table gets the path, and that is reported to the parent.
 fn learn_must(
     alloc: Global,
     graphs: &Graphs,
@@ -127,7 +127,7 @@ fn copied_query(alloc: Global, child: &QueryState) -> Result<Query, OutOfMemory>
     query_of(child).copy(alloc)
 }
 
-/// The table gets the query as a not-may, and the parent is told so.
+/// The table gets the query as a not-may, and that is reported to the parent.
 fn learn_not_may(
     alloc: Global,
     graphs: &Graphs,
@@ -153,7 +153,7 @@ fn learn_not_may(
     Ok(())
 }
 
-/// The parent is told that the child was given up at such a limit.
+/// It is reported to the parent that the child was given up at such a limit.
 pub fn learn_given_up(
     graphs: &Graphs,
     table: &Table,
@@ -171,7 +171,7 @@ pub fn learn_given_up(
     Ok(())
 }
 
-/// The parent is told that the child has used up its part of the budget.
+/// It is reported to the parent that the child has used up its part of the budget.
 pub fn learn_starved(
     graphs: &Graphs,
     table: &Table,
@@ -213,7 +213,7 @@ pub fn learn(
     }
 }
 
-/// The table gets the path, of which the parent isn't told.
+/// The table gets the path, which isn't reported to the parent.
 fn keep_must(
     alloc: Global,
     graphs: &Graphs,
@@ -234,7 +234,7 @@ fn keep_must(
     Ok(())
 }
 
-/// The table gets the query as a not-may, of which the parent isn't told.
+/// The table gets the query as a not-may, which isn't reported to the parent.
 fn keep_not_may(
     alloc: Global,
     graphs: &Graphs,

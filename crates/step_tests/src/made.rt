@@ -12,7 +12,7 @@ use test_forms::graphs::{Shape, graphs_of};
 use test_forms::kept::Counts;
 use test_forms::paths::Says;
 
-/// Whether the first graph has so many entry values.
+/// Whether the first graph has `params` entry values.
 pub fn begins_with(graphs: &Graphs, params: u32) -> bool
     ensures { IsTrue result → BeginsWith graphs.now.graphs params }
 {

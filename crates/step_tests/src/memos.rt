@@ -19,7 +19,7 @@ enum Seen {
     Other,
 }
 
-/// What the rows come to.
+/// The answer of the rows.
 fn asked(alloc: Global, memo: &mut Memo, rows: &[Row]) -> Result<Seen, Fail> {
     match decided(alloc, memo, JoinedCube::of(cube_of(alloc, rows)?))? {
         Sight::Met(at) => Ok(Seen::At(at.value(0))),
@@ -38,7 +38,7 @@ fn seen_limit(alloc: Global, kept: &Kept, rows: &[Row]) -> Result<Seen, Fail> {
     }
 }
 
-/// What the rows come to where the same memo is asked twice.
+/// The answers of the rows where the same memo is asked twice.
 fn asked_twice(alloc: Global, rows: &[Row]) -> Result<[Seen; 2], Fail> {
     let mut memo = Memo::new(alloc)?;
     let first = asked(alloc, &mut memo, rows)?;
@@ -46,7 +46,7 @@ fn asked_twice(alloc: Global, rows: &[Row]) -> Result<[Seen; 2], Fail> {
     Ok([first, second])
 }
 
-/// Rows, and what they come to each time.
+/// Rows, and their answer each time.
 type Case<'a> = (&'a [Row<'a>], Seen);
 
 const CASES: &[Case] = &[
@@ -77,7 +77,7 @@ fn is_at(alloc: Global, memo: &mut Memo, value: i64) -> Result<bool, Fail> {
     Ok(asked(alloc, memo, &rows)? == Seen::At(value))
 }
 
-/// How many of so many questions have answers of their own, where all are asked in order.
+/// How many of `count` questions have answers of their own, where all are asked in order.
 fn right_of(alloc: Global, memo: &mut Memo, count: i64) -> Result<i64, Fail> {
     let mut right: i64 = 0;
     for value in 0..count {
@@ -88,7 +88,7 @@ fn right_of(alloc: Global, memo: &mut Memo, count: i64) -> Result<i64, Fail> {
     Ok(right)
 }
 
-/// Of so many 75 share a slot with another one.
+/// Of this number of questions 75 share a slot with another one.
 const MANY: i64 = 500;
 
 #[test]

@@ -32,7 +32,7 @@ use test_forms::rows::{Plain, Row, are_rows, cube_of, empty};
 
 // Calls
 
-/// A trail whose argument lies between two bounds, and the regions before and behind the call.
+/// A trail whose argument lies between two bounds, and the regions before and after the call.
 #[derive(Clone, Copy)]
 struct Case<'a> {
     least: i64,
@@ -42,7 +42,7 @@ struct Case<'a> {
     exit: ExitKind,
 }
 
-/// A call of procedure 4 with slot 0 into slot 1, and what stands before it and behind it.
+/// A call of procedure 4 with slot 0 into slot 1, and what stands before it and after it.
 #[derive(Drop)]
 struct Scene {
     query: Query,
@@ -55,7 +55,7 @@ struct Scene {
     ghost can: { IsScene query trail call point },
 }
 
-/// One parameter and two slots, without an edge behind the entry.
+/// One parameter and two slots, without an edge after the entry.
 const ENTRY: Shape = Shape {
     counts: Counts {
         nodes: 3,

@@ -15,7 +15,7 @@ use std::sync::Arc;
 use summary_form::query::Query;
 use summary_table::table::Table;
 
-/// No summary, and room for so many.
+/// No summary, and room for `room` of them.
 pub fn no_table(alloc: Global, room: u32) -> Result<Table, OutOfMemory>
     ensures none { IfOk result (λ t. t.summaries ≡ []) }
     ensures holds { IfOk result (λ t. (gs : List AGraph) → AllHold gs t.summaries) }

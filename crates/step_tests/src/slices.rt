@@ -73,7 +73,7 @@ fn sliced(alloc: Global, graphs: &Graphs, slice: Slice) -> Result<Made, Fail> {
     goes(alloc, graphs, &mut state, left, at_most)
 }
 
-/// Slices where slot 0 becomes itself and 1, and what they come to.
+/// Slices where slot 0 becomes itself and 1, and how they end.
 const SLICES: &[(Slice, Made)] = &[
     // no path is left
     ((FAILS, 5, 9, 9), (5, End::NotMay)),
@@ -107,7 +107,7 @@ fn slices_end(rt: HostRuntime) -> Result<(), Fail> {
     Ok(())
 }
 
-/// The edges, the least argument, and what a slice of all steps comes to.
+/// The edges, the least argument, and how a slice of all steps ends.
 type Middle<'a> = (&'a [Step<'a>], i32, Made);
 
 const MIDDLES: &[Middle] = &[
@@ -117,7 +117,7 @@ const MIDDLES: &[Middle] = &[
     (HALF, 12, (5, End::NotMay)),
     // rationals meet the rows where no integer does, so the preimage isn't exact
     (SEVENTH, 29, (2, End::Stuck(LimitKind::Inexact))),
-    // with so many rows that their extreme ones are asked first
+    // with more rows, so that their extreme ones are asked first
     (MANY_ROWS, 5, (3, End::Must)),
     (MANY_ROWS, 6, (5, End::NotMay)),
 ];

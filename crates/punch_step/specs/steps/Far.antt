@@ -9,7 +9,7 @@ use Rattle.may_partition.specs.Shown.{is_live}
 abbrev pub IsOpenEdge : (edges shut : List RegionEdge) → RegionEdge → Type 0
 IsOpenEdge edges shut e = IsTrue (is_live edges e) × (is_live shut e ≡ false)
 
--- open edges, one behind the other
+-- open edges, one after the other
 abbrev pub IsOpenWay : (edges shut : List RegionEdge) → ℕ → List RegionEdge → ℕ → Type 0
 IsOpenWay edges shut a [] b = b ≡ a
 IsOpenWay edges shut a (e ∷ es) b =
@@ -77,7 +77,7 @@ IfLastCrossing edges shut marked target (Some k) = IsLastCrossing edges shut mar
 IfLastCrossing edges shut marked target None =
     (es : List RegionEdge) → IsOpenWay edges shut 0 es target → ⊥
 
--- The nearest region behind an open edge
+-- The nearest region after an open edge
 
 pub record IsNearest (edges shut : List RegionEdge) (far : List ℕ) (region near : ℕ) : Type 0 where
   pub least : (e : RegionEdge) → IsOpenEdge edges shut e → e.from ≡ region →

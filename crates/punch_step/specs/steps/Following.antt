@@ -43,7 +43,7 @@ pub record IsFollowed (s : Seen) (d : Distances) : Type 0 where
   pub far : AreOf s.partition d
   pub noted : AreNoted s.partition d.noted.items
 
--- one legal step behind a state that the distances follow
+-- one legal step after a state that the distances follow
 pub record IsBehind (s : Seen) (d : Distances) : Type 0 where
   pub before : Seen
   pub followed : IsFollowed before d

@@ -15,7 +15,8 @@ returns c = λ number.
     let f = c.args.frontier.now in
     let cuts = subst (λ (o : Option Cut). IfSome o (λ x. (whole : List Atom) → IsOutline c.args.pre.now whole →
     IsCut f.query.now (trail_at f) f.source.now.atoms whole x)) c.in-Some.is c.in_ok-cut.ensures in
-    split_by f c.args.source.now c.args.pre.now c.in-Some.cut c.from_vec.result number c.requires.source c.requires.pre
+    split_by f c.args.source.now c.args.pre.now c.in-Some.cut c.none.result c.from_vec.result number c.none.ensures c.requires.source
+    c.requires.pre
     c.requires.possible c.if-frontier-eq0.false
     (subst (λ (xs : List Atom). IsTrue (list_all is_negatable xs)) c.as_slice.ensures.value
     (unnegatable_none c.as_slice.result.now c.in_ok-first_unnegatable.field-0 c.in_default-2.not-Some c.in_ok-first_unnegatable.ensures))

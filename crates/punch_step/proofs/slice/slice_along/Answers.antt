@@ -56,8 +56,8 @@ returns-then-steps-at_most c = λ m h.
     sliced_goes gs g table c.args.left c.args.at_most m c.steps.state c.steps.steps w c.steps.invariant.low c.steps.invariant.few
     o.1 c.if-steps-left-2.false c.if-steps-at_most.true (turn_waits_not g w.new c.in-At.at o.0)
 
-pub advance-requires-clause-state : goal.advance-requires-clause-state
-advance-requires-clause-state c =
+pub go_on-requires-clause-state : goal.go_on-requires-clause-state
+go_on-requires-clause-state c =
     let gs = c.args.graphs.now.graphs in let g = c.args.graph.now in let table = c.args.table.now.summaries in
     let h = c.requires.state in
     let w = c.steps.invariant.way h.0 h.1 in
@@ -69,10 +69,10 @@ returns-in-Some c = λ m h.
     let gs = c.args.graphs.now.graphs in let g = c.args.graph.now in let table = c.args.table.now.summaries in
     let w = c.steps.invariant.way m h in
     let o = subst (IsOutlook g w.new) c.in-At.is (c.in_ok-closing.ensures.outlook gs table g w.new w.analysed c.steps.invariant.target) in
-    let made = subst (λ (end : Option SliceEnd). HasStepped gs g table w.new c.advance.new.state end) c.in-Some.is
-    (c.in_ok-made-in-At.ensures w.new w.analysed o.0) in
+    let made = subst (λ (end : Option SliceEnd). HasStepped gs g table w.new c.go_on.new.state end) c.in-Some.is
+    (c.in_ok-made-in-At.ensures.step w.new w.analysed o.0) in
     sliced_last gs g table c.args.left c.args.at_most m c.steps.state c.steps.steps w c.steps.invariant.low c.steps.invariant.few
-    o.1 c.if-steps-left-2.false c.if-steps-at_most.false c.advance.new.state c.in-Some.end made
+    o.1 c.if-steps-left-2.false c.if-steps-at_most.false c.go_on.new.state c.in-Some.end made
 
 pub follow-requires : goal.follow-requires
 follow-requires c =
@@ -80,9 +80,9 @@ follow-requires c =
     let h = c.requires.state in
     let w = c.steps.invariant.way h.0 h.1 in
     let o = subst (IsOutlook g w.new) c.in-At.is (c.in_ok-closing.ensures.outlook gs table g w.new w.analysed c.steps.invariant.target) in
-    is_behind gs g table w.new c.steps.state c.advance.new.state c.look_ahead.new.distances w.analysed c.in_ok-closing.ensures.followed
-    (subst (λ (end : Option SliceEnd). HasStepped gs g table w.new c.advance.new.state end) c.in_default.is
-    (c.in_ok-made-in-At.ensures w.new w.analysed o.0))
+    is_behind gs g table w.new c.steps.state c.go_on.new.state c.go_on.new.distances w.analysed c.in_ok-made-in-At.ensures.followed
+    (subst (λ (end : Option SliceEnd). HasStepped gs g table w.new c.go_on.new.state end) c.in_default.is
+    (c.in_ok-made-in-At.ensures.step w.new w.analysed o.0))
 
 pub steps-preserved : goal.steps-preserved
 steps-preserved c =
@@ -96,17 +96,18 @@ steps-preserved c =
           let o = subst (IsOutlook g w.new) c.in-At.is (c.in_ok-closing.ensures.outlook gs table g w.new w.analysed
           c.steps.invariant.target)
           in
-          way_more gs g table m c.steps.state c.advance.new.state c.steps.steps w
-          (subst (λ (end : Option SliceEnd). HasStepped gs g table w.new c.advance.new.state end) c.in_default.is
-          (c.in_ok-made-in-At.ensures w.new w.analysed o.0));
-      answered = answered_more gs g table h.0 c.steps.state c.advance.new.state c.steps.steps v
-          (subst (λ (end : Option SliceEnd). HasStepped gs g table v.new c.advance.new.state end) c.in_default.is
-          (c.in_ok-made-in-At.ensures v.new v.analysed p.0)) c.steps.invariant.answered;
+          way_more gs g table m c.steps.state c.go_on.new.state c.steps.steps w
+          (subst (λ (end : Option SliceEnd). HasStepped gs g table w.new c.go_on.new.state end) c.in_default.is
+          (c.in_ok-made-in-At.ensures.step w.new w.analysed o.0));
+      answered = answered_more gs g table h.0 c.steps.state c.go_on.new.state c.steps.steps v
+          (subst (λ (end : Option SliceEnd). HasStepped gs g table v.new c.go_on.new.state end) c.in_default.is
+          (c.in_ok-made-in-At.ensures.step v.new v.analysed p.0)) c.steps.invariant.answered;
       followed = c.in_ok-follow-in-At.ensures.followed;
-      target = c.in_ok-follow-in-At.ensures.target ∙ c.in_ok-closing.ensures.target ∙ c.steps.invariant.target
-          ∙ ap (λ (q : Query). suc (end_node g q.exit)) (stepped_query gs g table v.new c.steps.state c.advance.new.state v.analysed None
-          (subst (λ (end : Option SliceEnd). HasStepped gs g table v.new c.advance.new.state end) c.in_default.is
-          (c.in_ok-made-in-At.ensures v.new v.analysed p.0)));
+      target = c.in_ok-follow-in-At.ensures.target ∙ c.in_ok-made-in-At.ensures.same_target ∙ c.in_ok-closing.ensures.target
+          ∙ c.steps.invariant.target
+          ∙ ap (λ (q : Query). suc (end_node g q.exit)) (stepped_query gs g table v.new c.steps.state c.go_on.new.state v.analysed None
+          (subst (λ (end : Option SliceEnd). HasStepped gs g table v.new c.go_on.new.state end) c.in_default.is
+          (c.in_ok-made-in-At.ensures.step v.new v.analysed p.0)));
       low = omega (arith, c.steps.invariant.low, c.if-steps-left-2.false);
       few = omega (arith, c.steps.invariant.few, c.if-steps-at_most.false);
     }

@@ -2,7 +2,7 @@ use Rattle.std.proofs.Common.{◌≡◌, ◌∙◌, ◌-◌, ◌<◌, ◌==◌, 
 use Rattle.std.specs.Prelude.{slice_get, if◌then◌else◌}
 use Rattle.std.specs.Option.{option_copied}
 use Rattle.query_rules.specs.Paths.{gives_up}
-use Rattle.query_rules.specs.Steps.{stepped}
+use Rattle.query_rules.specs.Steps.{uncut, stepped}
 use Rattle.query_rules.specs.declared.step.Step.TheVariants as step
 use Rattle.may_partition.specs.Shown.{Shown}
 use Rattle.punch_step.specs.steps.Following.{AreOf}
@@ -66,8 +66,10 @@ returns-in-Some-CallExtend-clause-followed c =
 pub divide-requires : goal.divide-requires
 divide-requires c =
     let b = c.requires in
-    let is : b.step ≡ step.Split c.in-Some-Split.edge c.in-Some-Split.field-0-1 c.in-Some-Split.field-0-2 = is_last c.args.state.now
-    c.args.self.now c.requires (step.Split c.in-Some-Split.edge c.in-Some-Split.field-0-1 c.in-Some-Split.field-0-2)
+    let is : b.step ≡ step.Split c.in-Some-Split.edge c.in-Some-Split.field-0-1 c.in-Some-Split.field-0-2 c.in-Some-Split.field-0-3 =
+    is_last c.args.state.now
+    c.args.self.now c.requires (step.Split c.in-Some-Split.edge c.in-Some-Split.field-0-1 c.in-Some-Split.field-0-2
+    c.in-Some-Split.field-0-3)
     (ap (λ xs. slice_get xs (length xs - 1)) (sym c.steps.ensures) ∙ sym c.last.ensures.value
     ∙ ap option_copied c.in-Some-Split.is ∙ ap Some c.in-Some-Split.field-0-is) in
     record {
@@ -78,14 +80,26 @@ divide-requires c =
 pub divide-requires-in-Some-CallSplit : goal.divide-requires-in-Some-CallSplit
 divide-requires-in-Some-CallSplit c =
     let b = c.requires in
-    let is : b.step ≡ step.CallSplit c.in-Some-CallSplit.edge c.in-Some-CallSplit.field-0-1 c.in-Some-CallSplit.field-0-2
-    c.in-Some-CallSplit.field-0-3 = is_last c.args.state.now c.args.self.now c.requires
-    (step.CallSplit c.in-Some-CallSplit.edge c.in-Some-CallSplit.field-0-1 c.in-Some-CallSplit.field-0-2 c.in-Some-CallSplit.field-0-3)
+    let last = step.CallSplit c.in-Some-CallSplit.edge c.in-Some-CallSplit.field-0-1 c.in-Some-CallSplit.field-0-2
+    c.in-Some-CallSplit.field-0-3 c.in-Some-CallSplit.field-0-4 in
+    let is : b.step ≡ last = is_last c.args.state.now c.args.self.now c.requires last
     (ap (λ xs. slice_get xs (length xs - 1)) (sym c.steps.ensures) ∙ sym c.last.ensures.value
     ∙ ap option_copied c.in-Some-CallSplit.is ∙ ap Some c.in-Some-CallSplit.field-0-is) in
     record {
-      split = split_from c.args.state.now c.args.self.now b
-          (record { edge = 0; from = c.in-Some-CallSplit.edge.from; to = c.in-Some-CallSplit.edge.from }) c.in-Some-CallSplit.field-0-2
+      split = split_from c.args.state.now c.args.self.now b (uncut c.in-Some-CallSplit.edge) c.in-Some-CallSplit.field-0-2
+          (ap (λ x. (stepped b.graph b.table x b.model).parted) is) (λ e. ap (gives_up e) is);
+    }
+
+pub divide-requires-in-Some-CallPart : goal.divide-requires-in-Some-CallPart
+divide-requires-in-Some-CallPart c =
+    let b = c.requires in
+    let last = step.CallPart c.in-Some-CallPart.edge c.in-Some-CallPart.field-0-1 c.in-Some-CallPart.field-0-2 c.in-Some-CallPart.field-0-3
+    c.in-Some-CallPart.field-0-4 c.in-Some-CallPart.field-0-5 in
+    let is : b.step ≡ last = is_last c.args.state.now c.args.self.now c.requires last
+    (ap (λ xs. slice_get xs (length xs - 1)) (sym c.steps.ensures) ∙ sym c.last.ensures.value
+    ∙ ap option_copied c.in-Some-CallPart.is ∙ ap Some c.in-Some-CallPart.field-0-is) in
+    record {
+      split = split_from c.args.state.now c.args.self.now b (uncut c.in-Some-CallPart.edge) c.in-Some-CallPart.field-0-3
           (ap (λ x. (stepped b.graph b.table x b.model).parted) is) (λ e. ap (gives_up e) is);
     }
 
