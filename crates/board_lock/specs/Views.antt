@@ -31,7 +31,7 @@ abbrev pub places_from : ℕ → ℕ → List ℕ
 places_from p zero = []
 places_from p (suc n) = p ∷ places_from (suc p) n
 
--- the places of the history h behind what was seen
+-- the places of the history h after what was seen
 abbrev pub added : {E : Type 0} → List E → List E → List ℕ
 added seen h = places_from (length seen) (length h - length seen)
 

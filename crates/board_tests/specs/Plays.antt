@@ -48,7 +48,7 @@ pub record IsOfTake (j : Given) (id lent stored : ℕ) : Type 0 where
   pub left : j.left ≡ lent
   pub made : length j.state.steps ≡ stored + j.spent
 
--- The job's query is that of the take. It asked nothing, and has made so many steps since: some,
+-- The job's query is that of the take. It asked nothing, and has made `spent` steps since: some,
 -- and not all that were left.
 pub record IsSince (id left stored : ℕ) (j : Given) (spent : ℕ) : Type 0 where
   pub query : id ≡ j.id

@@ -1,4 +1,4 @@
-//! Boards that begin with what another board of the program came to know.
+//! Boards that begin with what another board of the program learned.
 
 ghost use Rattle.std.specs.Prelude.{◌≡◌, ◌<◌, ℕ, IfOk, IsTrue, map};
 ghost use Rattle.summary_form.specs.declared.query.ExitKind.{ExitKind as AnExit};
@@ -31,7 +31,7 @@ fn summaries_of(alloc: Global, board: &Board) -> Result<Vec<Arc<Summary>>, Alloc
     Ok(summaries)
 }
 
-/// Whether the exit is a return, or the failure of one of so many assertions.
+/// Whether the exit is a return, or the failure of one of `asserts` assertions.
 fn is_exit(asserts: u32, exit: ExitKind) -> bool
     ensures { IsTrue result → (id : ℕ) → exit ≡ AnExit.Fail id → id < asserts }
 {
@@ -41,8 +41,8 @@ fn is_exit(asserts: u32, exit: ExitKind) -> bool
     }
 }
 
-/// Whether the summary is of one of so many procedures, and its failure of one of so many
-/// assertions.
+/// Whether the summary is of one of `procedures` procedures, and its failure of one of
+/// `asserts` assertions.
 fn is_one_of(procedures: usize, asserts: u32, summary: &Summary) -> bool
     ensures { IsTrue result → IsOneOf procedures asserts summary.now }
 {
@@ -93,7 +93,7 @@ fn begun_again(
     Ok(Board::begin_with(alloc, graphs, main, asserts, budget, kept)?)
 }
 
-/// The budget of the board that comes to know something, and that of the one that begins with it.
+/// The budget of the board that learns something, and that of the one that begins with it.
 #[derive(Clone, Copy)]
 struct Budgets {
     first: u32,
@@ -111,7 +111,7 @@ fn informed(alloc: Global, text: &str, budgets: Budgets) -> Result<(Board, u32),
     Ok((second, asserts))
 }
 
-/// What the second board comes to.
+/// How the second board ends.
 fn end_of(alloc: Global, text: &str, budgets: Budgets) -> Result<End, Fail> {
     let (board, asserts) = informed(alloc, text, budgets)?;
     let board = alone(alloc, board)?;
@@ -151,7 +151,7 @@ fn what_is_kept_answers_at_once(rt: HostRuntime) -> Result<(), Fail> {
     Ok(())
 }
 
-/// A board that knows the failure is stopped after so many calls.
+/// A board that knows the failure is stopped after `count` calls.
 fn stopped_after(
     alloc: Global,
     crew: Crew,
@@ -181,7 +181,7 @@ struct Tally {
     taken: u32,
 }
 
-/// So many jobs are given back, and nothing else.
+/// `done` jobs are given back, and nothing else.
 const fn back(done: u32) -> Tally {
     Tally {
         done,
@@ -204,7 +204,7 @@ fn counted(tally: Tally, back: Back) -> Tally {
     }
 }
 
-/// What a stop after each number of calls comes to.
+/// What becomes of the jobs at a stop after each number of calls.
 fn stops(alloc: Global, crew: Crew, budget: u32) -> Result<Tally, Fail> {
     let mut tally = back(0);
     for count in 0..8 {

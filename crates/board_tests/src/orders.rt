@@ -12,7 +12,7 @@ use std::test::Fail;
 /// A call of a board, or a look at a query.
 #[derive(Clone, Copy)]
 enum Call {
-    /// The worker takes, and makes a slice of at most so many steps.
+    /// The worker takes, and makes a slice of at most this many steps.
     Take(u32, u32),
     HandIn(u32),
     /// The job is gone, and what it closed with is published twice.
@@ -28,7 +28,7 @@ enum Call {
 enum Seen {
     Took(Took),
     Back(Back),
-    /// And how many summaries there are before, between and behind, and what the new one says.
+    /// And how many summaries there are before, between and after, and what the new one says.
     Late(Back, [usize; 3], Option<How>),
     Again([Back; 2]),
     /// The status of the query, and what is left of it.
@@ -103,17 +103,17 @@ const fn gone(event: u64) -> Seen {
 /// A way to the failure through two calls, and one without a call.
 const TWO_WAYS: &str = "int h(int a) { return a; } int g(int a) { return h(a); } \
      int main() { int c = input(); int y = 0; \
-     if (c > 0) { y = g(c); y = y + 1; y = y + 1; y = y - 2; } else { y = 3; } \
+     if (c < 50) { y = g(c); y = y + 1; y = y + 1; y = y - 2; } else { y = 3; } \
      assert(y != 3); return 0; }";
 
 /// The same through one call.
 const SHORTER: &str = "int g(int a) { return a; } int main() { int c = input(); int y = 0; \
-     if (c > 0) { y = g(c); y = y + 1; y = y + 1; y = y - 2; } else { y = 3; } \
+     if (c < 50) { y = g(c); y = y + 1; y = y + 1; y = y - 2; } else { y = 3; } \
      assert(y != 3); return 0; }";
 
 /// The way without a call is the longer one.
 const LONGER: &str = "int g(int a) { return a; } int main() { int c = input(); int y = 0; \
-     if (c > 0) { y = g(c); } else { y = 3; y = y + 1; y = y - 1; } \
+     if (c < 50) { y = g(c); } else { y = 3; y = y + 1; y = y - 1; } \
      assert(y != 3); return 0; }";
 
 // Jobs that come late
@@ -159,7 +159,7 @@ fn what_a_gone_job_found_is_published_once(rt: HostRuntime) -> Result<(), Fail> 
 }
 
 /// The second child, asked where the first had no run, closes with a path while its parent fails on
-/// the other way. Its must goes behind the parent's, once.
+/// the other way. Its must goes after the parent's, once.
 #[test]
 fn a_path_of_a_gone_job_is_published_once(rt: HostRuntime) -> Result<(), Fail> {
     let rows = &[

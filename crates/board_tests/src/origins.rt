@@ -66,18 +66,15 @@ fn musts_are_of_the_queries_that_closed(rt: HostRuntime) -> Result<(), Fail> {
 const ALTERNATES: &str = "int f(int n) { if (n <= 0) return 0; return 0 - f(n - 1); } \
      int main() { assert(f(input()) == 0); return 0; }";
 
-/// Query 6 closed before its parent, query 3, on whose level it leans. It is published by the close
-/// of 3, behind it, and has its own number.
+/// Query 4 closed before its parent, query 3, on whose level it leans. It is published by the close
+/// of 3, after it, and has its own number.
 #[test]
 fn a_member_of_a_group_has_its_own_number(rt: HostRuntime) -> Result<(), Fail> {
     let wanted = &[
         origin(1, Some(0), Some(1)),
         origin(2, Some(0), None),
-        origin(4, Some(3), None),
-        origin(5, Some(3), None),
         origin(3, Some(0), Some(1)),
-        origin(6, Some(3), Some(1)),
-        origin(7, Some(0), None),
+        origin(4, Some(3), Some(1)),
         origin(0, None, None),
     ];
     let origins = origins_of(rt.alloc(), ALTERNATES, 2000)?;

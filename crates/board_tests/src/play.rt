@@ -1,5 +1,5 @@
 //! A board beside the jobs that are out, each of a worker, who makes the slice as soon as he takes
-//! it and gives it back when he is told.
+//! it and gives it back when asked to.
 
 ghost use Rattle.std.specs.Prelude.{◌≡◌, IfOk, IfSome, OnOk};
 ghost use Rattle.board_lock.specs.Views.{StartsWith};
@@ -33,7 +33,7 @@ pub enum How {
     Stuck,
 }
 
-/// What a take gave, and what the slice of the job came to.
+/// What a take gave, and how the slice of the job ended.
 #[derive(Clone, Copy, PartialEq, Eq)]
 pub enum Took {
     Job {
@@ -195,7 +195,7 @@ impl Play {
         Ok(self.board.take(worker, &self.known))
     }
 
-    /// The worker takes a query, makes a slice of at most so many steps, and keeps the job.
+    /// The worker takes a query, makes a slice of at most `at_most` steps, and keeps the job.
     pub fn take(&mut self, alloc: Global, worker: u32, at_most: u32) -> Result<Took, Fail>
         requires { IsPlay self.old.board self.old.asserts self.old.known self.old.jobs.items }
         ensures more { OnOk result
@@ -265,8 +265,8 @@ impl Play {
     }
 
     /// The worker gives his job back, and where it is gone publishes what it closed with, twice.
-    /// How many summaries there are before, between and behind, and what the first of them that
-    /// is new says.
+    /// How many summaries there are before, between and after, and what the first of them that is
+    /// new says.
     pub fn hand_in_late(&mut self, worker: u32) -> Result<(Back, [usize; 3], Option<How>), Fail>
         requires { IsPlay self.old.board self.old.asserts self.old.known self.old.jobs.items }
         ensures { OnOk result

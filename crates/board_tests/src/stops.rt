@@ -19,7 +19,7 @@ pub enum Crew {
 /// The budgets of the boards.
 const BUDGETS: &[u32] = &[1, 2, 3, 4, 5, 6, 7, 8, 9, 10, 11, 12, 2000];
 
-/// No board of these budgets makes so many calls.
+/// No board of these budgets makes as many calls.
 const MOST: u32 = 200;
 
 /// What a stop after some calls finds. A job was sliced before.
@@ -29,7 +29,7 @@ struct Stopped {
     /// Whether the first worker had a job, and whether the second had one.
     had: [bool; 2],
     took: Took,
-    /// What became of their jobs behind the stop.
+    /// What became of their jobs after the stop.
     back: [Back; 2],
 }
 
@@ -51,7 +51,7 @@ pub fn call(alloc: Global, play: &mut Play, crew: Crew, number: u32) -> Result<(
     Ok(())
 }
 
-/// Whether the first worker has a job after so many calls of a board that wasn't over before them.
+/// Whether the first worker has a job after `count` calls of a board that wasn't over before them.
 fn has_first(crew: Crew, count: u32) -> bool {
     match crew {
         Crew::One => count % 2 == 1,
@@ -83,7 +83,7 @@ fn stop(alloc: Global, play: &mut Play) -> Result<Stopped, Fail>
     })
 }
 
-/// After so many calls the board is stopped.
+/// After `count` calls the board is stopped.
 fn stopped_after(alloc: Global, crew: Crew, budget: u32, count: u32) -> Result<Stopped, Fail> {
     let mut play = Play::begin(alloc, THREE_DEEP, budget)?;
     for number in 0..count {

@@ -66,7 +66,7 @@ pub table_push : (h : List Told) (e : Told) → table_of (h ++ e ∷ []) ≡ tab
 table_push [] e = append-nil (named e)
 table_push (x ∷ h) e = ap (λ ss. named x ++ ss) (table_push h e) ∙ sym (append_assoc (named x) (table_of h) (named e))
 
--- behind summaries that were there before
+-- after summaries that were there before
 pub kept_push : (ks : List Summary) (h : List Told) (e : Told) → ks ++ table_of (h ++ e ∷ []) ≡ (ks ++ table_of h) ++ named e
 kept_push ks h e = ap (λ ts. ks ++ ts) (table_push h e) ∙ sym (append_assoc ks (table_of h) (named e))
 

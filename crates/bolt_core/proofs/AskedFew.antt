@@ -25,15 +25,17 @@ AsksFew m = length m.asked ≤ length m.steps
 module _ (gs : List Graph) (g : Graph) (table : List Summary) where
   one_more : (e : Happening) (m : Model) → AsksFew m → AsksFew (after gs g table e m)
   one_more (made (step.Extend k trail point) n) m h = omega (arith, h, length_push m.steps (step.Extend k trail point))
-  one_more (made (step.Split k atoms proofs) n) m h = omega (arith, h, length_push m.steps (step.Split k atoms proofs))
+  one_more (made (step.Split k atoms follows proofs) n) m h = omega (arith, h, length_push m.steps (step.Split k atoms follows proofs))
   one_more (made (step.Kill k by) n) m h = omega (arith, h, length_push m.steps (step.Kill k by))
   one_more (made (step.CallExtend k trail place point) n) m h =
       omega (arith, h, length_push m.steps (step.CallExtend k trail place point))
-  one_more (made (step.CallSplit k place atoms proofs) n) m h =
-      omega (arith, h, length_push m.steps (step.CallSplit k place atoms proofs))
-  one_more (made (step.Ask k query seen) n) m h =
+  one_more (made (step.CallSplit k place atoms follows proofs) n) m h =
+      omega (arith, h, length_push m.steps (step.CallSplit k place atoms follows proofs))
+  one_more (made (step.CallPart k by atom atoms follows proofs) n) m h =
+      omega (arith, h, length_push m.steps (step.CallPart k by atom atoms follows proofs))
+  one_more (made (step.Ask k query follows seen) n) m h =
       let a : Asked = record { edge = k; query = query; child = 0; news = news.Waiting } in
-      omega (arith, h, length_push m.steps (step.Ask k query seen), length_push m.asked a)
+      omega (arith, h, length_push m.steps (step.Ask k query follows seen), length_push m.asked a)
   one_more (made (step.Feed i) n) m h =
       omega (arith, h, length_push m.steps (step.Feed i), length_updated (with_news news.Waiting) m.asked i)
   one_more (made (step.Stuck k why seen) n) m h = omega (arith, h, length_push m.steps (step.Stuck k why seen))

@@ -1,5 +1,5 @@
 -- An asked query ends as the state's own does, or with a return.
-use Rattle.std.proofs.Common.{◌≡◌, ◌⊎◌, inl, inr, ℕ, zero, suc, ◌==◌, Bool, true, false, List, [], ◌∷◌, Some, refl, sym, ap, ◌∙◌, subst, ⊎_elim}
+use Rattle.std.proofs.Common.{◌≡◌, ◌⊎◌, inl, inr, ℕ, zero, suc, ◌==◌, Bool, true, false, List, [], ◌∷◌, Some, refl, sym, ap, ◌∙◌, subst, take, ⊎_elim}
 use Rattle.std.specs.Prelude.{slice_get, if◌then◌else◌}
 use Rattle.may_partition.specs.declared.region.RegionEdge.{RegionEdge}
 use Rattle.flow_graph.specs.declared.graph.Graph.{Graph}
@@ -12,6 +12,7 @@ use Rattle.query_rules.specs.Rows.{AsksAt, failing_exit}
 use Rattle.query_rules.specs.Seen.{Seen}
 use Rattle.query_rules.specs.States.{AllHappen, Happening, Happens, after, after_all, heard, made}
 use Rattle.query_rules.specs.Steps.{Model, begin_model, updated, with_child, with_news}
+use Rattle.query_rules.proofs.AskedQueries.{may_exit}
 use Rattle.query_rules.specs.declared.step.Asked.{Asked}
 use Rattle.query_rules.specs.declared.step.News.TheVariants as news
 use Rattle.query_rules.specs.declared.step.Step.{Step}
@@ -51,20 +52,24 @@ pub record AreKinds (own : Query) (m : Model) : Type 0 where
   pub kinds : (i : ℕ) (a : Asked) → slice_get m.asked i ≡ Some a → IsKindOf own a.query
 
 module _ (gs : List Graph) (g : Graph) (table : List Summary) (own : Query) where
-  asked_kind : (m : Model) → m.query ≡ own → (k : RegionEdge) (q : Query) → AsksAt g m k q → IsKindOf own q
-  asked_kind m same k q a = ⊎_elim (λ e. inl (a.of_exit ∙ e)) (λ e. inr (a.of_exit ∙ (e ∙ ap (λ (o : Query). o.exit) same)))
+  asked_kind : (m : Model) → m.query ≡ own → (k : RegionEdge) (asked q : Query) → q.exit ≡ asked.exit → AsksAt g m k asked →
+      IsKindOf own q
+  asked_kind m same k asked q x a = ⊎_elim (λ e. inl (x ∙ (a.of_exit ∙ e)))
+      (λ e. inr (x ∙ (a.of_exit ∙ (e ∙ ap (λ (o : Query). o.exit) same))))
       (called (a.call.between.target.node == g.fail) m.query.exit a.call.exit a.call.is_kind)
 
   one_more : (e : Happening) (m : Model) → AreKinds own m → Happens gs g table e m → AreKinds own (after gs g table e m)
   one_more (made (step.Extend k trail point) n) m h l = record { query = h.query; kinds = h.kinds }
-  one_more (made (step.Split k atoms proofs) n) m h l = record { query = h.query; kinds = h.kinds }
+  one_more (made (step.Split k atoms follows proofs) n) m h l = record { query = h.query; kinds = h.kinds }
   one_more (made (step.Kill k by) n) m h l = record { query = h.query; kinds = h.kinds }
   one_more (made (step.CallExtend k trail place point) n) m h l = record { query = h.query; kinds = h.kinds }
-  one_more (made (step.CallSplit k place atoms proofs) n) m h l = record { query = h.query; kinds = h.kinds }
-  one_more (made (step.Ask k query seen) n) m h l = record {
+  one_more (made (step.CallSplit k place atoms follows proofs) n) m h l = record { query = h.query; kinds = h.kinds }
+  one_more (made (step.CallPart k by atom atoms follows proofs) n) m h l = record { query = h.query; kinds = h.kinds }
+  one_more (made (step.Ask k query follows seen) n) m h l = record {
     query = h.query;
     kinds = λ i a at. ⊎_elim (λ b. h.kinds i a b) (λ b. subst (λ (x : Asked). IsKindOf own x.query) (sym b.1)
-        (asked_kind m h.query k query l.1.1.asks)) (from_pushed m.asked (record { edge = k; query = query; child = 0; news = news.Waiting })
+        (asked_kind m h.query k l.1.1.asked query (may_exit g (take n table) m k query follows seen l.1.1) l.1.1.asks)) (from_pushed m.asked
+        (record { edge = k; query = query; child = 0; news = news.Waiting })
         i a at);
   }
   one_more (made (step.Feed i) n) m h l = record {

@@ -118,7 +118,7 @@ place_by true false member how o place s n k lt old is = old is
 place_by false shown true how o place s n k lt old is = let e : place ≡ k = cc in omega (arith, e, lt)
 place_by false shown false how o place s n k lt old is = old is
 
--- A settled event tells the same behind a longer table
+-- A settled event says the same with a longer table
 
 take_front : (ts us : List Summary) (k : ℕ) → k ≤ length ts → take k (ts ++ us) ≡ take k ts
 take_front ts us zero le = refl

@@ -28,7 +28,7 @@ count_places : {X : Type 0} (p : ℕ → Bool) (k : ℕ) (xs : List X) →
 count_places p k [] = refl
 count_places p k (x ∷ xs) = count_step (p k) k (filter p (places_from (suc k) (length xs))) _ (count_places p (suc k) xs)
 
--- how often the level stands among so many from a on
+-- how often the level stands among the m from a on
 abbrev pub times : (a m level : ℕ) → ℕ
 times a zero l = 0
 times a (suc m) l = counts_once (l == a) + times (suc a) m l

@@ -119,7 +119,7 @@ pub said_stays : (b : Shown) (e : Told) (c : Core Seen) → GoesOn b e c → ((i
 said_stays b e c g quiet i =
     ap (λ (h : List Told). has_said h i) (event_history (reads b.graphs) b.core c e g.event) ∙ says_not b.core.history e i (quiet i)
 
--- Told histories
+-- Histories of what is stored
 
 pub history_push : (ss : List Slot) (ts : List Summary) (xs : List Stored) (x : Stored) →
     history_of ss ts (xs ++ x ∷ []) ≡ history_of ss ts xs ++ told_by (map (λ s. s.query.value) ss) ts x ∷ []
@@ -128,13 +128,13 @@ history_push ss ts xs x = map-append (told_by (map (λ s. s.query.value) ss) ts)
 pub told_length : (ss : List Slot) (ts : List Summary) (xs : List Stored) → length (history_of ss ts xs) ≡ length xs
 told_length ss ts xs = length-map xs (told_by (map (λ s. s.query.value) ss) ts)
 
--- what stands in front stays where more is behind
+-- what stands in front stays where more follows
 pub get_front : {X : Type 0} (xs ys : List X) (k : ℕ) → k < length xs → slice_get (xs ++ ys) k ≡ slice_get xs k
 get_front [] ys k lt = absurd (omega (arith, lt))
 get_front (x ∷ xs) ys zero lt = refl
 get_front (x ∷ xs) ys (suc k) lt = get_front xs ys k (omega (arith, lt))
 
--- a settled event tells the same behind more queries
+-- a settled event says the same where more queries follow
 told_more : (qs more : List Query) (ts : List Summary) (x : Stored) → IsSettled (length qs) (length ts) x →
     told_by (qs ++ more) ts x ≡ told_by qs ts x
 told_more qs more ts (stored.Take w i left steps waiting) s = refl

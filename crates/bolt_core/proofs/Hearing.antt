@@ -96,7 +96,7 @@ closed_is (how.NotMay low) = refl
 closed_is how.Must = refl
 closed_is (how.Stuck kind) = refl
 
--- what is told of a child by its status changes no final news, and is as what it closed
+-- what is reported of a child by its status changes no final news, and is as what it closed
 record Hears (o : Option ClosedAs) (k known : News) : Type 0 where
   pub stays : StaysNews k known
   pub is_news : IsNews known o
@@ -347,7 +347,7 @@ module _ (gs : List Graph) (lawful : IsLawful (reads gs)) (roots : ℕ) (old : C
         let own : is_live_child i m.child ≡ true = rw (is_place_at m.child.parent i m.parent) live in
         t.waiting_is ∙ live_there i old.entries r.0.child m.child m.at own
 
--- an open query's payload may be told the news of its children
+-- an open query's payload may hear the news of its children
 pub can_hear : (b : Shown) → IsBoard b → (i : ℕ) (own : Entry Seen) → slice_get b.core.entries i ≡ Some own → (s : Seen) →
     own.payload ≡ Some s → is_open own.status ≡ true → CanHear b s
 can_hear b h i own at s payload opens =

@@ -65,12 +65,12 @@ slot_closed p h ss same i s at = (board_keeps p h).agrees.closed i (node_of s)
       mapped (y ∷ xs) zero x at = let s : Some y ≡ Some x = at in let e : y ≡ x = cc in ap (λ (z : Slot). Some (node_of z)) e
       mapped (y ∷ xs) (suc k) x at = mapped xs k x at
 
--- Some entries are told
+-- Some entries have heard
 
 abbrev pub heard : Core Seen → Asked → Asked
 heard c a = told_as (news_at c a.child) a
 
--- the first n are told
+-- the first n have heard
 abbrev pub upto : (Asked → Asked) → ℕ → List Asked → List Asked
 upto f n xs = map f (take n xs) ++ drop n xs
 
@@ -172,7 +172,7 @@ module _ (b : Shown) (s : Seen) (h : CanHear b s) where
         is_true = still_true n m.entry.query known m.is_true;
       }
 
--- What may be told is told
+-- What may be heard is heard
 module _ (gs : List Graph) where
   pub tells_by : (table : List Summary) (s : Seen) (i : ℕ) (k : News) → IsStateFor gs table s → MayTell (reads gs) s i k →
       (g : List Graph) × (m : Model) × ShowsModel s m × Tells g m i k
@@ -190,7 +190,7 @@ module _ (gs : List Graph) where
         },
       )
 
--- the next entry is told
+-- the next entry hears
 pub hear_next : (p : Shown) (s : Seen) → CanHear p s → (n : ℕ) (a : Asked) (known : News) (t : Seen) →
     slice_get s.asked n ≡ Some a → news_at p.core a.child ≡ Some known → t ≡ told_upto p.core n s → IsStateFor p.graphs p.core.table t →
     let u : Seen = record t { asked = updated (with_child a.child known) t.asked n } in

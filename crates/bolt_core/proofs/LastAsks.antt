@@ -1,4 +1,4 @@
--- A state whose last step is an Ask: its entry stands last, and may be told its child.
+-- A state whose last step is an Ask: its entry stands last, and may get its child.
 use Rattle.std.proofs.Common.{◌≡◌, ℕ, zero, suc, ◌-◌, List, [], ◌∷◌, ◌++◌, length, take, Some, refl, sym, ap, ◌∙◌, subst, arith}
 use Rattle.std.specs.Prelude.{slice_get}
 use Rattle.std.proofs.lemmas.List.{length_push}
@@ -82,7 +82,7 @@ module _ (gs : List Graph) (g : Graph) (table : List Summary) (own : Query) (abo
     reached = ap (after gs g table e) s.reached ∙ sym (after_last s.happenings e (begin_model g own above));
   }
 
-  -- the entry of the query stands last, and may be told its child
+  -- the entry of the query stands last, and may get its child
   pub record IsAsked (m : Model) (q : Query) : Type 0 where
     pub entry : Asked
     pub there : slice_get m.asked (length m.asked - 1) ≡ Some entry
@@ -109,13 +109,14 @@ module _ (gs : List Graph) (g : Graph) (table : List Summary) (own : Query) (abo
 
   made_last : (s : Step) (n : ℕ) (m : Model) → IsStateOf gs g table own above (after gs g table (made s n) m) → (q : Query) →
       last_as s ≡ an_ask q → IsAsked (after gs g table (made s n) m) q
-  made_last (step.Ask k q' seen) n m s q e =
+  made_last (step.Ask k q' follows seen) n m s q e =
       asked_now m _ (record { edge = k; query = q'; child = 0; news = news.Waiting }) q s refl refl (let d : an_ask q' ≡ an_ask q = e in cc)
   made_last (step.Extend k t p) n m s q e = absurd (cc)
-  made_last (step.Split k a p) n m s q e = absurd (cc)
+  made_last (step.Split k a follows p) n m s q e = absurd (cc)
   made_last (step.Kill k b) n m s q e = absurd (cc)
   made_last (step.CallExtend k t p v) n m s q e = absurd (cc)
-  made_last (step.CallSplit k p a r) n m s q e = absurd (cc)
+  made_last (step.CallSplit k p a follows r) n m s q e = absurd (cc)
+  made_last (step.CallPart k by atom a follows r) n m s q e = absurd (cc)
   made_last (step.Feed i) n m s q e = absurd (cc)
   made_last (step.Stuck k w v) n m s q e = absurd (cc)
 

@@ -26,12 +26,13 @@ module _ (gs : List Graph) (g : Graph) (table : List Summary) (own : Query) (abo
       let d : a_feed j ≡ a_feed i = e in
       let same : j ≡ i = cc in
       omega (arith, within m.asked j h.entry h.there, same, length_updated (with_news news.Waiting) m.asked j)
-  made_last (step.Ask k q seen) n m h i e = absurd (cc)
+  made_last (step.Ask k q follows seen) n m h i e = absurd (cc)
   made_last (step.Extend k t p) n m h i e = absurd (cc)
-  made_last (step.Split k a p) n m h i e = absurd (cc)
+  made_last (step.Split k a follows p) n m h i e = absurd (cc)
   made_last (step.Kill k b) n m h i e = absurd (cc)
   made_last (step.CallExtend k t p v) n m h i e = absurd (cc)
-  made_last (step.CallSplit k p a r) n m h i e = absurd (cc)
+  made_last (step.CallSplit k p a follows r) n m h i e = absurd (cc)
+  made_last (step.CallPart k by atom a follows r) n m h i e = absurd (cc)
   made_last (step.Stuck k w v) n m h i e = absurd (cc)
 
   one_more : (e : Happening) (m : Model) → FeedsLast m → Happens gs g table e m → FeedsLast (after gs g table e m)

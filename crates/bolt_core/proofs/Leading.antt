@@ -4,6 +4,7 @@ use Rattle.std.specs.Prelude.{slice_get, ◌==◌}
 use Rattle.std.proofs.lemmas.Bool.{cases_lt, eqb-true, cond_both}
 use Rattle.std.proofs.lemmas.List.{append_assoc, length-append, take-append-drop}
 use Rattle.std.proofs.lemmas.Option.{none-some, same_Some, slice_get_within}
+use Rattle.infeasible_cert.specs.declared.certificate.Certificate.{Certificate}
 use Rattle.may_partition.specs.declared.region.RegionEdge.{RegionEdge}
 use Rattle.may_partition.proofs.Pieces.{lookup_append, get_left}
 use Rattle.query_rules.specs.Laws.{IsGrounded}
@@ -186,20 +187,22 @@ matched_many [] (c ∷ cs) more m = absurd m
 matched_many (x ∷ xs) [] more m = omega (arith, m.0, ap length m.1)
 matched_many (x ∷ xs) (c ∷ cs) more m = omega (arith, matched_many xs cs more m.2)
 
-ends_ask : (steps : List Step) (q : Query) → last_of steps ≡ an_ask q → (before : List Step) × (k : RegionEdge) × (r : Query) × (seen : ℕ)
-    × (steps ≡ before ++ step.Ask k r seen ∷ [])
+ends_ask : (steps : List Step) (q : Query) → last_of steps ≡ an_ask q → (before : List Step) × (k : RegionEdge) × (r : Query)
+    × (follows : List Certificate) × (seen : ℕ)
+    × (steps ≡ before ++ step.Ask k r follows seen ∷ [])
 ends_ask [] q e = absurd cc
-ends_ask (step.Ask k r seen ∷ []) q e = ([], k, r, seen, refl)
+ends_ask (step.Ask k r follows seen ∷ []) q e = ([], k, r, follows, seen, refl)
 ends_ask (step.Extend k trail point ∷ []) q e = absurd cc
-ends_ask (step.Split k atoms proofs ∷ []) q e = absurd cc
+ends_ask (step.Split k atoms follows proofs ∷ []) q e = absurd cc
 ends_ask (step.Kill k by ∷ []) q e = absurd cc
 ends_ask (step.CallExtend k trail place point ∷ []) q e = absurd cc
-ends_ask (step.CallSplit k place atoms proofs ∷ []) q e = absurd cc
+ends_ask (step.CallSplit k place atoms follows proofs ∷ []) q e = absurd cc
+ends_ask (step.CallPart k by atom atoms follows proofs ∷ []) q e = absurd cc
 ends_ask (step.Feed i ∷ []) q e = absurd cc
 ends_ask (step.Stuck k why seen ∷ []) q e = absurd cc
 ends_ask (s ∷ t ∷ steps) q e =
     let w = ends_ask (t ∷ steps) q e in
-    (s ∷ w.0, w.1, w.2, w.3, ap (λ xs. s ∷ xs) w.4)
+    (s ∷ w.0, w.1, w.2, w.3, w.4, ap (λ xs. s ∷ xs) w.5)
 
 asks_append : (xs ys : List Told) (i : ℕ) → asks_of (xs ++ ys) i ≡ asks_of xs i ++ asks_of ys i
 asks_append [] ys i = refl
@@ -288,7 +291,7 @@ module _ (b : Shown) (h : IsBoard b) (none : (i : ℕ) → has_said b.core.histo
       let few : number < length (asks_of (take z.place b.core.history) i) = ⊎_elim (λ e. omega (arith, within, many, e))
       (λ e.
       let f = ends_ask s.steps e.1 (ap (λ (x : Seen). last_of x.steps) (sym state_is) ∙ e.2) in
-      let g = w.earlier f.0 f.1 f.2 f.3 (c.state.shows.steps ∙ f.4) in
+      let g = w.earlier f.0 f.1 f.2 f.3 f.4 (c.state.shows.steps ∙ f.5) in
       omega (arith, g, many, e.0, ap length c.state.shows.asked)) z.last in
       let r = matched_at s.asked (asks_of (take z.place b.core.history) i) z.more number w.entry matches few there in
       let whole : slice_get (asks_of b.core.history i) number ≡ Some r.0 = subst (λ (xs : List Told). slice_get (asks_of xs i) number

@@ -54,7 +54,7 @@ closed_upto h m n i o le in' e =
     ∙ take-append-le m t (drop n h) (omega (arith, le, long)) in
     closed_whole t m i o (ap (λ (xs : List Told). closed_as xs i) (sym same) ∙ e)
 
--- Closings by what was told
+-- Closings by what was reported
 
 module _ (R : Reads Seen) (level : ℕ) (s : Seen) where
   pub stuck_is : (c : Closing) (kind : LimitKind) → Some (how.Stuck kind) ≡ Some (closed_how R level s c) → c ≡ closing.Stuck kind
@@ -158,7 +158,7 @@ module _ (b : Shown) (h : IsBoard b) where
     child_before number a kind at is = subst (λ (k : News). IsNews k (closed_as (take z.place b.core.history) a.child)) is
         (all_at (λ (x : Asked). IsNews x.news (closed_as (take z.place b.core.history) x.child)) z.state.asked number a z.news at)
 
-  -- a query that told a limit before this place closed before it
+  -- a query that reported a limit before this place closed before it
   place_before : (i : ℕ) (shut : ClosedAs) (payload : Option Seen) (z : HasClosing (reads b.graphs) b.core.history i payload) (n : ℕ) →
       closed_as (take n b.core.history) i ≡ Some shut → z.place < n
   place_before i shut payload z n e = ⊎_elim

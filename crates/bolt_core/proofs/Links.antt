@@ -202,7 +202,7 @@ module _ {S : Type 0} (es : List (Entry S)) (h : List Told) (i w : ℕ) (own : E
           })
           (λ ne runs. link_more h take_event k x (λ v left steps b is. ne (let f : i ≡ k = cc in sym f)) refl (l.linked k x a runs))
 
--- What its last Take told of a sound job
+-- What its last Take says of a sound job
 module _ {S : Type 0} (R : Reads S) (c : Core S) (j : Job S) (own : Entry S) (l : AreLinked c.entries c.history)
     (s : IsSound R c.kept c.history c.nodes j) (since : IsSince R c j own) where
   link : IsLinkedTo c.history j.id own

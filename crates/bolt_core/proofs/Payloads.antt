@@ -42,7 +42,7 @@ news_stays (news.NotMay low) o p h = subst (λ z. orelse z p ≡ Some (how.NotMa
 news_stays news.Must o p h = subst (λ z. orelse z p ≡ Some how.Must) (sym h) refl
 news_stays (news.Stuck kind) o p h = subst (λ z. orelse z p ≡ Some (how.Stuck kind)) (sym h) refl
 
--- what was told stays true as more events come
+-- what was reported stays true as more events come
 pub news_later : (xs ys : List Told) (as' : List Asked) → AllOf (λ a. IsNews a.news (closed_as xs a.child)) as' →
     AllOf (λ a. IsNews a.news (closed_as (xs ++ ys) a.child)) as'
 news_later xs ys = all_map (λ (a : Asked). IsNews a.news (closed_as xs a.child)) (λ a. IsNews a.news (closed_as (xs ++ ys) a.child))
@@ -64,7 +64,7 @@ one_left [] [] e m = omega (arith, m)
 one_left [] (x ∷ cs) e m = m
 one_left (a ∷ as') cs e m = omega (arith, e)
 
--- the last asked entry is told its child, which the new Ask tells
+-- the last asked entry gets its child, which the new Ask names
 matches_told : (c : ℕ) (q : Query) (as' : List Asked) (cs : List (ℕ × Query)) (k : ℕ) (a : Asked) → length as' ≡ suc k →
     Matches as' cs 1 → slice_get as' k ≡ Some a → a.query ≡ q →
     Matches (updated (with_child c news.Waiting) as' k) (cs ++ (c, q) ∷ []) 0
@@ -291,7 +291,7 @@ module _ {S : Type 0} (R : Reads S) where
           subst (λ k. IsPayload R new k m st j.state) id
           (job_payload j sound m st (subst (λ (o : Node). SameFor old.nodes new.nodes j.id o m) n w.same) entries)
 
-      -- the state of an asking job, whose last entry is told the child
+      -- the state of an asking job, whose last entry gets the child
       told_for : (j : Job S) (own : Entry S) → AreLinked old.entries old.history → (sound : IsSound R old.kept old.history old.nodes j) →
           IsSince R old j own → (i : ℕ) → j.id ≡ i → (c : ℕ) (q : Query) → R.last j.state ≡ an_ask q → 1 ≤ j.spent →
           asks_by j.id e ≡ (c, q) ∷ [] → (st : Status) (m : Node) → slice_get new.nodes i ≡ Some m →

@@ -35,21 +35,23 @@ module _ (g : Graph) (m : Model) (r : Parted) (same : SameLive m.parted r) where
   stops_there : (x : Step) → StopsAPath g m x → StopsAPath g (with_parted m r) x
   stops_there (step.Stuck k why seen) h = (h.0, h.1, way_there (h.0 ++ k ∷ h.1) h.2)
   stops_there (step.Extend k trail point) h = h
-  stops_there (step.Split k atoms proofs) h = h
+  stops_there (step.Split k atoms follows proofs) h = h
   stops_there (step.Kill k by) h = h
   stops_there (step.CallExtend k trail place point) h = h
-  stops_there (step.CallSplit k place atoms proofs) h = h
-  stops_there (step.Ask k query seen) h = h
+  stops_there (step.CallSplit k place atoms follows proofs) h = h
+  stops_there (step.CallPart k by atom atoms follows proofs) h = h
+  stops_there (step.Ask k query follows seen) h = h
   stops_there (step.Feed i) h = h
 
   stops_back : (x : Step) → StopsAPath g (with_parted m r) x → StopsAPath g m x
   stops_back (step.Stuck k why seen) h = (h.0, h.1, way_back (h.0 ++ k ∷ h.1) h.2)
   stops_back (step.Extend k trail point) h = h
-  stops_back (step.Split k atoms proofs) h = h
+  stops_back (step.Split k atoms follows proofs) h = h
   stops_back (step.Kill k by) h = h
   stops_back (step.CallExtend k trail place point) h = h
-  stops_back (step.CallSplit k place atoms proofs) h = h
-  stops_back (step.Ask k query seen) h = h
+  stops_back (step.CallSplit k place atoms follows proofs) h = h
+  stops_back (step.CallPart k by atom atoms follows proofs) h = h
+  stops_back (step.Ask k query follows seen) h = h
   stops_back (step.Feed i) h = h
 
   closed_there : (c : Closing) → IsClosedAs g m c → IsClosedAs g (with_parted m r) c

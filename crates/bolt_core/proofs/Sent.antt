@@ -14,6 +14,7 @@ use Rattle.may_partition.proofs.partition.Partition.TheSendSync as partition
 use Rattle.may_partition.proofs.region.RegionEdge.TheSendSync as edge
 use Rattle.must_region.proofs.trail.Trail.TheSendSync as trail
 use Rattle.query_rules.proofs.step.Asked.TheSendSync as asked
+use Rattle.query_rules.proofs.step.Excluded.TheSendSync as excluded
 use Rattle.query_rules.proofs.step.Mark.TheSendSync as mark
 use Rattle.query_rules.proofs.step.Why.TheSendSync as why
 use Rattle.query_rules.specs.contracts.certificates.Certificates as certificates
@@ -40,6 +41,8 @@ ruleset parts = (
   edge.the_field_send,
   query.the_send,
   query.the_field_send,
+  excluded.the_send,
+  excluded.the_field_send,
   why.the_send,
   why.the_field_send,
   as_row_send,
@@ -51,20 +54,23 @@ step_send : IsSend step.the_row
 step_send = variants_send step.enum (
   (search parts, (search parts, (search parts, tt))),
   (
-    (search parts, (search parts, (search parts, tt))),
+    (search parts, (search parts, (search parts, (search parts, tt)))),
     (
       (search parts, (search parts, tt)),
       (
         (search parts, (search parts, (search parts, (search parts, tt)))),
         (
-          (search parts, (search parts, (search parts, (search parts, tt)))),
+          (search parts, (search parts, (search parts, (search parts, (search parts, tt))))),
           (
-            (search parts, (search parts, (search parts, tt))),
+            (search parts, (search parts, (search parts, (search parts, (search parts, (search parts, tt)))))),
             (
-              (search parts, tt),
+              (search parts, (search parts, (search parts, (search parts, tt)))),
               (
-                (search parts, (search parts, (search parts, tt))),
-                tt,
+                (search parts, tt),
+                (
+                  (search parts, (search parts, (search parts, tt))),
+                  tt,
+                ),
               ),
             ),
           ),

@@ -127,7 +127,7 @@ levels_none f a none (suc m) k le =
     let e : f k ≡ [] = none k le in
     rw e (levels_none f a none m (suc k) (omega (arith, le)))
 
--- What is told
+-- What is reported
 
 queries_append : (ns : List Node) (is js : List ℕ) → queries_at ns (is ++ js) ≡ queries_at ns is ++ queries_at ns js
 queries_append ns [] js = refl

@@ -10,7 +10,8 @@ use Rattle.summary_form.specs.declared.query.Query.{Query}
 use Rattle.summary_form.specs.declared.summary.Summary.{Summary}
 use Rattle.query_rules.specs.Legal.{GivesUp, IsLegal}
 use Rattle.query_rules.specs.States.{AllHappen, Happening, Happens, IsStateOf, StaysNews, Tells, after, after_all, heard, made}
-use Rattle.query_rules.specs.Steps.{Model, begin_model, effect, stepped, told, updated, with_child, with_news}
+use Rattle.query_rules.specs.Steps.{Model, begin_model, effect, effect_of, stepped, told, updated, with_child, with_news}
+use Rattle.query_rules.proofs.Effects.{same_steps_by}
 use Rattle.query_rules.specs.declared.step.Asked.{Asked}
 use Rattle.query_rules.specs.declared.step.News.{News}
 use Rattle.query_rules.specs.declared.step.News.TheVariants as news
@@ -43,11 +44,12 @@ final_later : (xs ys : List Asked) → StaysGiven xs ys → (s : Step) → IsFin
 final_later xs ys stays (step.Stuck k (why.Own kept) seen) h = h
 final_later xs ys stays (step.Stuck k (why.Child number) seen) h = stays number h
 final_later xs ys stays (step.Extend k t p) h = tt
-final_later xs ys stays (step.Split k a p) h = tt
+final_later xs ys stays (step.Split k a follows p) h = tt
 final_later xs ys stays (step.Kill k b) h = tt
 final_later xs ys stays (step.CallExtend k t p v) h = tt
-final_later xs ys stays (step.CallSplit k p a r) h = tt
-final_later xs ys stays (step.Ask k q v) h = tt
+final_later xs ys stays (step.CallSplit k p a follows r) h = tt
+final_later xs ys stays (step.CallPart k by atom a follows r) h = tt
+final_later xs ys stays (step.Ask k q follows v) h = tt
 final_later xs ys stays (step.Feed i) h = tt
 
 -- where the updated entry keeps its limit
@@ -77,43 +79,35 @@ module _ (gs : List Graph) (g : Graph) (table : List Summary) where
     gives_final k (why.Child number) seen h = record { entry = h.entry; kind = h.kind; there = h.there; is_news = h.is_news }
 
     effect_stays : (s : Step) → IsLegal g t m s → StaysGiven m.asked (effect g t s m).asked
-    effect_stays (step.Ask k q seen) h = pushed_stays m.asked (record { edge = k; query = q; child = 0; news = news.Waiting })
+    effect_stays (step.Ask k q follows seen) h = pushed_stays m.asked (record { edge = k; query = q; child = 0; news = news.Waiting })
     effect_stays (step.Feed i) h = updated_stays (with_news news.Waiting) m.asked i (λ x kind a e.
         let o : Some x ≡ Some h.entry = sym a ∙ h.there in
         let v : x ≡ h.entry = cc in
         let n : news.Stuck kind ≡ news.Starved = sym e ∙ (ap (λ (y : Asked). y.news) v ∙ h.starved) in
         absurd (cc))
     effect_stays (step.Extend k n p) h = λ i e. e
-    effect_stays (step.Split k a p) h = λ i e. e
+    effect_stays (step.Split k a follows p) h = λ i e. e
     effect_stays (step.Kill k b) h = λ i e. e
     effect_stays (step.CallExtend k n p v) h = λ i e. e
-    effect_stays (step.CallSplit k p a r) h = λ i e. e
+    effect_stays (step.CallSplit k p a follows r) h = λ i e. e
+    effect_stays (step.CallPart k by atom a follows r) h = λ i e. e
     effect_stays (step.Stuck k w seen) h = λ i e. e
 
-    effect_steps : (s : Step) → (effect g t s m).steps ≡ m.steps
-    effect_steps (step.Ask k q seen) = refl
-    effect_steps (step.Feed i) = refl
-    effect_steps (step.Extend k n p) = refl
-    effect_steps (step.Split k a p) = refl
-    effect_steps (step.Kill k b) = refl
-    effect_steps (step.CallExtend k n p v) = refl
-    effect_steps (step.CallSplit k p a r) = refl
-    effect_steps (step.Stuck k w seen) = refl
-
     step_final : (s : Step) → IsLegal g t m s → IsFinal (effect g t s m).asked s
-    step_final (step.Ask k q seen) h = tt
+    step_final (step.Ask k q follows seen) h = tt
     step_final (step.Feed i) h = tt
     step_final (step.Extend k n p) h = tt
-    step_final (step.Split k a p) h = tt
+    step_final (step.Split k a follows p) h = tt
     step_final (step.Kill k b) h = tt
     step_final (step.CallExtend k n p v) h = tt
-    step_final (step.CallSplit k p a r) h = tt
+    step_final (step.CallSplit k p a follows r) h = tt
+    step_final (step.CallPart k by atom a follows r) h = tt
     step_final (step.Stuck k w seen) h = gives_final k w seen h.1
 
     made_final : (s : Step) → IsLegal g t m s → AllFinal m → AllFinal (stepped g t s m)
     made_final s h f n x a =
         let steps : slice_get (m.steps ++ s ∷ []) n ≡ Some x =
-        ap (λ (xs : List Step). slice_get (xs ++ s ∷ []) n) (sym (effect_steps s)) ∙ a in
+        ap (λ (xs : List Step). slice_get (xs ++ s ∷ []) n) (sym (same_steps_by (effect_of g t s m) m)) ∙ a in
         ⊎_elim
         (λ o. final_later m.asked (effect g t s m).asked (effect_stays s h) x (f n x o))
         (λ o. subst (IsFinal (effect g t s m).asked) (sym o.1) (step_final s h))

@@ -1,4 +1,4 @@
--- What a state is told of its asked queries is true.
+-- What is reported to a state of its asked queries is true.
 use Rattle.std.proofs.Common.{◌≡◌, ℕ, zero, suc, ◌<◌, List, [], ◌∷◌, ◌++◌, length, take, Option, Some, None, refl, sym, ap, ◌∙◌, subst, arith}
 use Rattle.std.specs.Prelude.{slice_get}
 use Rattle.summary_form.specs.declared.query.Query.{Query}
@@ -106,7 +106,7 @@ module _ {S : Type 0} (R : Reads S) where
           is_true = true_news a.child a.query own known news;
         }
 
-  -- a sound job may be told as what its children closed
+  -- a sound job may hear how its children closed
   pub told_true : (c : Core S) → KeepsNodes R c → (j : Job S) → IsSound R c.kept c.history c.nodes j → (i : ℕ) (a : Asked) →
       slice_get (R.entries j.state) i ≡ Some a → i < length (asks_of (take j.taken c.history) j.id) → (known : News) →
       StaysNews a.news known → IsNews known (closed_as c.history a.child) → MayTell R j.state i known

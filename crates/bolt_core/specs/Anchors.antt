@@ -33,7 +33,7 @@ module _ {S : Type 0} (c : Core S) where
     pub backed : (s : Query) → o ≡ Some (NotMay s) →
         (has_said c.history i ≡ true) ⊎ ((node.query ≡ s) × (l : ℕ) × IsAnchored c.nodes l i)
 
-  -- one for each summary behind the opening table
+  -- one for each summary after the opening table
   pub record HasOrigins (ids : List ℕ) : Type 0 where
     pub count : length c.kept + length ids ≡ length c.table
     pub from : (n i : ℕ) → slice_get ids n ≡ Some i →

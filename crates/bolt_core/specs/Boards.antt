@@ -59,7 +59,7 @@ told_by qs ts (stored.Park w i n rest) = parked w i n rest
 told_by qs ts (stored.Close w i n how from more) = closed w i n how (take more (drop from ts))
 told_by qs ts (stored.Stop w) = stopped w
 
--- it tells the same where more queries and summaries stand behind
+-- it says the same where more queries and summaries follow
 abbrev pub IsSettled : (queries summaries : ℕ) → Stored → Type 0
 IsSettled nq nt (stored.Publish w i place) = place < nt
 IsSettled nq nt (stored.Ask w i n c) = c < nq
@@ -132,7 +132,8 @@ abbrev pub AreRootsOf : List Graph → (main first : ℕ) → List Seen → Type
 AreRootsOf gs main k [] = Unit {0}
 AreRootsOf gs main k (s ∷ ss) = IsRootOf gs main k s × AreRootsOf gs main (suc k) ss
 
--- it is of one of so many procedures, and where it tells of a failure, of one of so many assertions
+-- it is of one of `procedures` procedures, and where it is of a failure, of one of `asserts`
+-- assertions
 pub record IsOneOf (procedures asserts : ℕ) (s : Summary) : Type 0 where
   pub procedure : proc_of s < procedures
   pub assertion : (id : ℕ) → exit_of s ≡ Fail id → id < asserts
@@ -173,7 +174,7 @@ pub record IsBegunWith (gs : List Graph) (main asserts budget : ℕ) (kept : Lis
 abbrev pub IsBegun : List Graph → (main asserts budget : ℕ) → Shown → Type 0
 IsBegun gs main asserts budget = IsBegunWith gs main asserts budget []
 
--- What the board's lists keep: room for all that may come, stored events that tell the same behind
+-- What the board's lists keep: room for all that may come, stored events that say the same after
 -- more queries and summaries, the not-mays that aren't published yet, of those that are the places
 -- of events that published them, and of which queries something was said
 pub record IsRoomy (b : Shown) (slots : List Slot) (events : List Stored)
@@ -257,7 +258,7 @@ pub record IsTaken (old : Shown) (worker : ℕ) (new : Shown) (j : Given) : Type
   pub waits : (i : ℕ) (a : Asked) → slice_get j.state.asked i ≡ Some a → a.news ≡ news.Waiting →
       waiting ≡ true
 
--- the state may be told the news of its children
+-- the state may hear the news of its children
 pub record CanHear (b : Shown) (s : Seen) : Type 0 where
   pub state : IsStateFor b.graphs b.core.table s
   pub few : length s.asked < 2 ^ 32
@@ -299,7 +300,7 @@ pub record Stops (old : Shown) (worker : ℕ) (new : Shown) : Type 0 where
 -- What comes back
 
 -- the board is as before, and the first event after the take that closed, dropped or gave back the
--- query is told
+-- query is reported
 pub record IsGone (old new : Shown) (j : Given) (gone : GoneJob) : Type 0 where
   pub same : new ≡ old
   pub job : gone.job ≡ j

@@ -1,4 +1,4 @@
--- What a list of queries gives, where what is meant is told depth by depth.
+-- What a list of queries gives, where what is meant is said depth by depth.
 use Rattle.std.specs.Prelude.{ℕ, suc, List, [], ◌∷◌}
 
 module _ {Q : Type 0} (nm : ℕ → Q → Type 0) where

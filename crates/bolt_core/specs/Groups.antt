@@ -34,7 +34,7 @@ abbrev pub places_from : ℕ → ℕ → List ℕ
 places_from k zero = []
 places_from k (suc n) = k ∷ places_from (suc k) n
 
--- the queries from the root down to a node's, climbing at most so many parents
+-- the queries from the root down to a node's, by those down to its parent's
 abbrev pub line_above : (ℕ → List Query) → Option ℕ → List Query
 line_above f None = []
 line_above f (Some p) = f p

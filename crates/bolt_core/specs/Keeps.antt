@@ -29,7 +29,7 @@ Stocked Starved left lent = Unit {0}
 Stocked Closed left lent = Unit {0}
 Stocked (Dropped n) left lent = Unit {0}
 
--- Room: how many events a query can still come to with no further step and no loss of a child, two
+-- Room: how many events a query can still have with no further step and no loss of a child, two
 -- of them kept for what its close makes its parent do
 abbrev pub credit_of : Status → (stirred : Bool) → ℕ
 credit_of Ready stirred = 4
@@ -171,8 +171,8 @@ module _ {S : Type 0} (R : Reads S) where
     pub given : (i : ℕ) (n : Node) → slice_get ns i ≡ Some n →
         GivenBy R.nm (ancestors ns i n.parent) n.query n.closed
 
-  -- a payload is a state of its query, its news is what was told, and while it is open its asked
-  -- entries are those of the Ask events
+  -- a payload is a state of its query, its news is what was reported, and while it is open its
+  -- asked entries are those of the Ask events
   pub record IsPayload (c : Core S) (i : ℕ) (n : Node) (status : Status) (s : S) : Type 0 where
     pub state : R.IsState (c.kept ++ table_of c.history) s
     pub query : R.query s ≡ n.query

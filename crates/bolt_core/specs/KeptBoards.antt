@@ -78,7 +78,7 @@ JobsStaySound =
     IsSound (reads gs) old.kept old.history old.nodes j →
     IsSound (reads gs) new.kept new.history new.nodes j
 
--- A job of a board stays sound behind any further events, and what a call asks of it is kept.
+-- A job of a board stays sound after any further events, and what a call asks of it is kept.
 abbrev pub MovesStay : Type 0
 MovesStay =
     (old new : Shown) (es : List Told) (j : Given) → IsBoard old → new.graphs ≡ old.graphs →
@@ -89,7 +89,7 @@ MovesStay =
     × ((number : ℕ) → MayFeed old j number → MayFeed new j number)
     × ((c : Closing) → MayBeClosed old j c → MayBeClosed new j c)
 
--- It may be told as what its children closed.
+-- It may hear how its children closed.
 abbrev pub JobsMayBeTold : Type 0
 JobsMayBeTold =
     (gs : List Graph) (roots : ℕ) (c : Core Seen) (j : Job Seen) (i : ℕ) (a : Asked) (k : News) →

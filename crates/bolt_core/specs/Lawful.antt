@@ -21,7 +21,7 @@ module _ {S : Type 0} (R : Reads S) where
   abbrev pub levels_of : S → List Query
   levels_of s = R.above s ++ R.query s ∷ []
 
-  -- a told not-may is true: by itself, or given by the queries from its level on
+  -- a reported not-may is true: by itself, or given by the queries from its level on
   abbrev pub IsTrueNews : S → Query → News → Type 0
   IsTrueNews s q (news.NotMay low) = GivenFrom R.nm (levels_of s) q low
   IsTrueNews s q news.Waiting = Unit {0}
@@ -64,7 +64,7 @@ module _ {S : Type 0} (R : Reads S) where
     -- and makes a state of a state
     pub tell_state : (table : List Summary) (s : S) (i c : ℕ) (k : News) → R.IsState table s →
         MayTell s i k → R.IsState table (R.tell i c k s)
-    -- where the last step is an Ask, its entry stands last, and may be told its child
+    -- where the last step is an Ask, its entry stands last, and may get its child
     pub asks_last : (table : List Summary) (s : S) (q : Query) → R.IsState table s →
         R.last s ≡ an_ask q → HasAsked s q
     pub tell_asked : (table : List Summary) (s : S) (q : Query) (c : ℕ) → R.IsState table s →

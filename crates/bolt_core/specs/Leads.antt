@@ -33,7 +33,7 @@ pub data IsAbove (ns : List Node) (level : ℕ) : (i a : ℕ) → Type 0 where
       IsAbove ns level p a → IsAbove ns level i a
 
 -- Where a kill of the state of query i leads: a kill by the table to the origin of its place, if
--- that is behind the opening table, one by a child to the child, and one by an ancestor to the
+-- that is after the opening table, one by a child to the child, and one by an ancestor to the
 -- query at its level.
 module _ (b : Shown) (i : ℕ) (s : Seen) where
   abbrev pub LeadsTo : Killer → Type 0

@@ -75,7 +75,7 @@ AllOf P (x ∷ xs) = P x × AllOf P xs
 
 -- Sound jobs
 
--- the asked entries are those of the Ask events, and so many more stand last
+-- the asked entries are those of the Ask events, and `more` others stand last
 abbrev pub Matches : List Asked → List (ℕ × Query) → (more : ℕ) → Type 0
 Matches [] [] more = more ≡ 0
 Matches [] (c ∷ cs) more = ⊥
@@ -225,7 +225,7 @@ module _ {S : Type 0} (R : Reads S) where
     published = false;
   }
 
-  -- the child's number is told to the last asked entry
+  -- the last asked entry gets the child's number
   abbrev pub told_child : S → ℕ → S
   told_child s c = R.tell (length (R.entries s) - 1) c news.Waiting s
 

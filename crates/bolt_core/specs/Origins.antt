@@ -8,7 +8,7 @@ use Rattle.bolt_core.specs.Boards.{Shown, most_queries, root_query}
 use Rattle.bolt_core.specs.Groups.{Node, closed_at, group, level_in, places_from, publishes}
 use Rattle.bolt_core.specs.Histories.{Told, asked, closed, said}
 
--- the root of an assertion before the first event, and those of so many
+-- the root of an assertion before the first event, and those of the first assertions
 abbrev pub root_node : (main id : ℕ) → Node
 root_node main id = record {
   parent = None;
@@ -56,11 +56,11 @@ abbrev pub origins_from : List Node → List Told → List ℕ
 origins_from ns [] = []
 origins_from ns (e ∷ es) = ids_of ns e ++ origins_from (nodes_after ns e) es
 
--- the query of each summary that is behind the opening table, in order
+-- the query of each summary that is after the opening table, in order
 abbrev pub origins_of : Shown → List ℕ
 origins_of b = origins_from (root_nodes b.main b.asserts) b.core.history
 
--- the list has the query of each summary behind the opening table, and room for all that may come
+-- the list has the query of each summary after the opening table, and room for all that may come
 pub record HasTraced (b : Shown) (ids : List ℕ) (room : ℕ) : Type 0 where
   pub are : ids ≡ origins_of b
   pub count : length b.core.kept + length ids ≡ length b.core.table

@@ -17,7 +17,7 @@ use Rattle.bolt_core.specs.Machine.{Last, Reads, a_feed, an_ask, other}
 -- The last step
 
 abbrev pub last_as : Step → Last
-last_as (step.Ask k q seen) = an_ask q
+last_as (step.Ask k q follows seen) = an_ask q
 last_as (step.Feed i) = a_feed i
 last_as _ = other
 
@@ -29,7 +29,7 @@ last_of (s ∷ t ∷ steps) = last_of (t ∷ steps)
 -- What Ask and Stuck steps have seen
 
 abbrev pub seen_by : Step → List ℕ
-seen_by (step.Ask k q seen) = seen ∷ []
+seen_by (step.Ask k q follows seen) = seen ∷ []
 seen_by (step.Stuck k why seen) = seen ∷ []
 seen_by _ = []
 

@@ -51,9 +51,8 @@ impl Board {
     }
 
     /// Takes a Ready query, and gives its state the news of its children. `Over` comes exactly
-    /// where
-    /// each root is over or the board was stopped, and `Idle` where it isn't over and no query is
-    /// Ready. `known` holds the same list as the board's table.
+    /// where each root is over or the board was stopped, and `Idle` where it isn't over and no
+    /// query is Ready. `known` holds the same list as the board's table.
     pub fn take(&mut self, worker: u32, known: &Table) -> Taken
         requires known { known.now.summaries ≡ self.old.core.table }
         ensures same { SameProgram self.old self.new }

@@ -31,8 +31,8 @@ impl Board {
         &self.table
     }
 
-    /// The most summaries that the table may come to hold: those with which the board opened, and
-    /// one of each query that there may be.
+    /// The most summaries that the table may ever hold: those with which the board opened, and one
+    /// of each query that there may be.
     pub fn room(&self) -> u32
         ensures room { result ≡ most_summaries self.now }
         ensures within { length self.now.core.table ≤ result }

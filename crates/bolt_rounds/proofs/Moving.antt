@@ -96,14 +96,14 @@ module _ (b : Shown) (j : Given) (h : IsBoard b) (t : IsJustTaken b j) (most : �
 
   asks_so : AsksLast o.sliced.steps → (m : Move) → IsAskOf b.graphs s m → MayMove b job m
   asks_so a (move.Ask child query) k =
-      let x = step.Ask a.0 a.1 a.2 in
+      let x = step.Ask a.0 a.1 a.2 a.3 in
       let e : k.entry ≡ fresh_entry a.0 a.1 =
-      same_Some k.entry (fresh_entry a.0 a.1) (sym k.there ∙ last_entry b j h t most s made o a.0 a.1 a.2 a.3) in
+      same_Some k.entry (fresh_entry a.0 a.1) (sym k.there ∙ last_entry b j h t most s made o a.0 a.1 a.2 a.3 a.4) in
       let q : query.value ≡ a.1 = k.query ∙ ap (λ (y : Asked). y.query) e in
       record {
         sound = sound_now b j h t most s made o;
-        made = made_one b j h t most s made o x a.3;
-        last = last_is b j h t most s made o x a.3 ∙ ap an_ask (sym q);
+        made = made_one b j h t most s made o x a.4;
+        last = last_is b j h t most s made o x a.4 ∙ ap an_ask (sym q);
         fresh = k.fresh b.core.table;
       }
   asks_so a (move.Feed i) k = absurd k

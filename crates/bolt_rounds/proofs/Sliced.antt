@@ -3,6 +3,7 @@ use Rattle.std.proofs.Common.{◌≡◌, ℕ, suc, ◌-◌, ◌^◌, ◌<◌, �
 use Rattle.std.specs.Prelude.{slice_get}
 use Rattle.std.proofs.lemmas.List.{length-append, length_push}
 use Rattle.std.proofs.lemmas.Option.{same_Some}
+use Rattle.infeasible_cert.specs.declared.certificate.Certificate.{Certificate}
 use Rattle.flow_graph.specs.declared.graph.Graph.{Graph}
 use Rattle.query_tree.proofs.Lists.{within}
 use Rattle.query_tree.proofs.Marks.{get_pushed}
@@ -21,7 +22,7 @@ use Rattle.query_rules.specs.declared.step.Closing.{Closing}
 use Rattle.query_rules.specs.declared.step.Closing.TheVariants as closing
 use Rattle.query_rules.specs.declared.step.Step.{Step}
 use Rattle.query_rules.specs.declared.step.Step.TheVariants as step
-use Rattle.query_rules.proofs.AskedQueries.{asks_fitting}
+use Rattle.query_rules.proofs.AskedQueries.{may_fit}
 use Rattle.query_rules.proofs.Closing.{turn_live}
 use Rattle.query_rules.proofs.Marked.{state_marked}
 use Rattle.query_rules.proofs.MarkedPaths.{path_answers}
@@ -48,20 +49,22 @@ use Rattle.bolt_rounds.proofs.Slicing.{all_asked, all_stored, asked_after, asks_
 -- the query that the last of legal steps asked is of a graph, and fits it
 module _ (gs : List Graph) (g : Graph) (table : List Summary) (own : Query) (above : List Query) where
   last_fits : (steps : List Step) (m : Model) → IsGrounded gs g table own above m → AllLegal g table steps m →
-      (k : RegionEdge) (q : Query) (seen : ℕ) → last_step steps ≡ Some (step.Ask k q seen) →
+      (k : RegionEdge) (q : Query) (follows : List Certificate) (seen : ℕ) → last_step steps ≡ Some (step.Ask k q follows seen) →
       (callee : Graph) × (slice_get gs q.proc ≡ Some callee) × Fits q.proc (arity_in gs q.proc) q
-  last_fits [] m s legal k q seen e = absurd (let no' : None ≡ Some (step.Ask k q seen) = e in cc)
-  last_fits (t ∷ []) m s legal k q seen e =
-      let l : IsLegal g table m (step.Ask k q seen) = subst (IsLegal g table m) (same_Some t (step.Ask k q seen) e) legal.0 in
-      asks_fitting gs s.graphs g m (state_good gs s.graphs g table s.table_holds own above m s.state) k (turn_live g m k l.0) q l.1.asks
-  last_fits (t ∷ u ∷ steps) m s legal k q seen e =
+  last_fits [] m s legal k q follows seen e = absurd (let no' : None ≡ Some (step.Ask k q follows seen) = e in cc)
+  last_fits (t ∷ []) m s legal k q follows seen e =
+      let l : IsLegal g table m (step.Ask k q follows seen) = subst (IsLegal g table m) (same_Some t (step.Ask k q follows seen) e) legal.0
+      in
+      may_fit gs s.graphs g m (state_good gs s.graphs g table s.table_holds own above m s.state) k (turn_live g m k l.0) table q follows
+      seen l.1
+  last_fits (t ∷ u ∷ steps) m s legal k q follows seen e =
       last_fits (u ∷ steps) (stepped g table t m)
       (record {
         graphs = s.graphs;
         table_holds = s.table_holds;
         state = step_leads gs g table own above m t s.state legal.0;
       })
-      legal.1 k q seen e
+      legal.1 k q follows seen e
 
 -- A job that was just taken
 
@@ -222,7 +225,8 @@ module _ (b : Shown) (j : Given) (h : IsBoard b) (t : IsJustTaken b j) (most : �
       let a = some_awaited old.graph o.new w in
       let same : o.new.asked ≡ j.state.asked =
       o.analysed.shows.asked
-      ∙ (asked_are ∙ quiet_asked (last_step o.sliced.steps) j.state.asked (λ k q seen e. quiet.not_asked (k, q, seen, e)) quiet.not_fed) in
+      ∙ (asked_are ∙ quiet_asked (last_step o.sliced.steps) j.state.asked (λ k q follows seen e. quiet.not_asked (k, q, follows, seen, e))
+      quiet.not_fed) in
       t.waits a.0 a.1 (ap (λ (xs : List Asked). slice_get xs a.0) (sym same) ∙ a.2) a.3
 
   pub still_waiting : IsWaiting old.graph o.new → IsQuiet old.graph o.new o.sliced.steps → sound_now.waiting ≡ true
@@ -259,14 +263,16 @@ module _ (b : Shown) (j : Given) (h : IsBoard b) (t : IsJustTaken b j) (most : �
         most_small b h,
       )
 
-  pub asked_now : (k : RegionEdge) (q : Query) (seen : ℕ) → last_step o.sliced.steps ≡ Some (step.Ask k q seen) →
+  pub asked_now : (k : RegionEdge) (q : Query) (follows : List Certificate) (seen : ℕ) → last_step o.sliced.steps
+      ≡ Some (step.Ask k q follows seen) →
       s.asked ≡ j.state.asked ++ fresh_entry k q ∷ []
-  asked_now k q seen e = asked_are ∙ ap (λ (l : Option Step). asked_after l j.state.asked) e
+  asked_now k q follows seen e = asked_are ∙ ap (λ (l : Option Step). asked_after l j.state.asked) e
 
-  pub last_entry : (k : RegionEdge) (q : Query) (seen : ℕ) → last_step o.sliced.steps ≡ Some (step.Ask k q seen) →
+  pub last_entry : (k : RegionEdge) (q : Query) (follows : List Certificate) (seen : ℕ) → last_step o.sliced.steps
+      ≡ Some (step.Ask k q follows seen) →
       slice_get s.asked (length s.asked - 1) ≡ Some (fresh_entry k q)
-  last_entry k q seen e =
-      let a = asked_now k q seen e in
+  last_entry k q follows seen e =
+      let a = asked_now k q follows seen e in
       let n : length s.asked - 1 ≡ length j.state.asked =
       let l = ap (λ (xs : List Asked). length xs) a in omega (arith, l, length_push j.state.asked (fresh_entry k q)) in
       ap (slice_get s.asked) n
@@ -276,10 +282,10 @@ module _ (b : Shown) (j : Given) (h : IsBoard b) (t : IsJustTaken b j) (most : �
   asked_last a =
       let begun = is_begun b j h t in
       let f = last_fits b.graphs old.graph b.core.table old.model.query old.model.ancestors o.sliced.steps old.model begun.grounded
-      o.sliced.legal a.0 a.1 a.2 a.3 in
+      o.sliced.legal a.0 a.1 a.2 a.3 a.4 in
       record {
         entry = fresh_entry a.0 a.1;
-        there = last_entry a.0 a.1 a.2 a.3;
+        there = last_entry a.0 a.1 a.2 a.3 a.4;
         callee = f.0;
         at = f.1;
         fits = f.2;

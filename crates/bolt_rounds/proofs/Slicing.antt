@@ -5,6 +5,7 @@ use Rattle.std.proofs.lemmas.Bool.{and_parts}
 use Rattle.std.proofs.lemmas.List.{append-nil, length-append, take-append-drop}
 use Rattle.std.proofs.lemmas.Option.{same_Some}
 use Rattle.std.proofs.Math.Seq.{drop-append_seam}
+use Rattle.infeasible_cert.specs.declared.certificate.Certificate.{Certificate}
 use Rattle.flow_graph.specs.declared.graph.Graph.{Graph}
 use Rattle.may_partition.specs.Parted.{same_edge}
 use Rattle.may_partition.specs.declared.region.RegionEdge.{RegionEdge}
@@ -19,6 +20,7 @@ use Rattle.query_rules.specs.declared.step.News.{News}
 use Rattle.query_rules.specs.declared.step.News.TheVariants as news
 use Rattle.query_rules.specs.declared.step.Step.{Step}
 use Rattle.query_rules.specs.declared.step.Step.TheVariants as step
+use Rattle.query_rules.proofs.Effects.{one_step_more}
 use Rattle.query_rules.proofs.Finding.{any_at}
 use Rattle.punch_step.specs.Slices.{AllSee, AsksLast, GoOnBefore, GoesOn, SeesAll, after_steps, last_step}
 use Rattle.bolt_core.specs.declared.slot.ClosedAs.{ClosedAs}
@@ -35,47 +37,40 @@ fresh_entry k q = record { edge = k; query = q; child = 0; news = news.Waiting }
 
 abbrev pub asked_after : Option Step → List Asked → List Asked
 asked_after None xs = xs
-asked_after (Some (step.Ask k q seen)) xs = xs ++ fresh_entry k q ∷ []
+asked_after (Some (step.Ask k q follows seen)) xs = xs ++ fresh_entry k q ∷ []
 asked_after (Some (step.Feed i)) xs = updated (with_news news.Waiting) xs i
 asked_after (Some (step.Extend k n point)) xs = xs
-asked_after (Some (step.Split k atoms proofs)) xs = xs
+asked_after (Some (step.Split k atoms follows proofs)) xs = xs
 asked_after (Some (step.Kill k by)) xs = xs
 asked_after (Some (step.CallExtend k n place point)) xs = xs
-asked_after (Some (step.CallSplit k place atoms proofs)) xs = xs
+asked_after (Some (step.CallSplit k place atoms follows proofs)) xs = xs
+asked_after (Some (step.CallPart k by atom atoms follows proofs)) xs = xs
 asked_after (Some (step.Stuck k why seen)) xs = xs
 
 asked_goes : (s : Step) (xs : List Asked) → GoesOn s → asked_after (Some s) xs ≡ xs
-asked_goes (step.Ask k q seen) xs go = absurd go
+asked_goes (step.Ask k q follows seen) xs go = absurd go
 asked_goes (step.Feed i) xs go = absurd go
 asked_goes (step.Extend k n point) xs go = refl
-asked_goes (step.Split k atoms proofs) xs go = refl
+asked_goes (step.Split k atoms follows proofs) xs go = refl
 asked_goes (step.Kill k by) xs go = refl
 asked_goes (step.CallExtend k n place point) xs go = refl
-asked_goes (step.CallSplit k place atoms proofs) xs go = refl
+asked_goes (step.CallSplit k place atoms follows proofs) xs go = refl
+asked_goes (step.CallPart k by atom atoms follows proofs) xs go = refl
 asked_goes (step.Stuck k why seen) xs go = refl
 
 module _ (g : Graph) (table : List Summary) where
   one_asked : (s : Step) (m : Model) → (stepped g table s m).asked ≡ asked_after (Some s) m.asked
-  one_asked (step.Ask k q seen) m = refl
+  one_asked (step.Ask k q follows seen) m = refl
   one_asked (step.Feed i) m = refl
   one_asked (step.Extend k n point) m = refl
-  one_asked (step.Split k atoms proofs) m = refl
+  one_asked (step.Split k atoms follows proofs) m = refl
   one_asked (step.Kill k by) m = refl
   one_asked (step.CallExtend k n place point) m = refl
-  one_asked (step.CallSplit k place atoms proofs) m = refl
+  one_asked (step.CallSplit k place atoms follows proofs) m = refl
+  one_asked (step.CallPart k by atom atoms follows proofs) m = refl
   one_asked (step.Stuck k why seen) m = refl
 
-  one_step : (s : Step) (m : Model) → (stepped g table s m).steps ≡ m.steps ++ s ∷ []
-  one_step (step.Ask k q seen) m = refl
-  one_step (step.Feed i) m = refl
-  one_step (step.Extend k n point) m = refl
-  one_step (step.Split k atoms proofs) m = refl
-  one_step (step.Kill k by) m = refl
-  one_step (step.CallExtend k n place point) m = refl
-  one_step (step.CallSplit k place atoms proofs) m = refl
-  one_step (step.Stuck k why seen) m = refl
-
-  -- of steps one behind the other the last alone touches the asked entries
+  -- of steps one after the other the last alone touches the asked entries
   pub all_asked : (steps : List Step) (m : Model) → GoOnBefore steps →
       (after_steps g table steps m).asked ≡ asked_after (last_step steps) m.asked
   all_asked [] m go = refl
@@ -88,7 +83,7 @@ module _ (g : Graph) (table : List Summary) where
   all_stored [] m = sym (append-nil m.steps)
   all_stored (s ∷ steps) m =
       all_stored steps (stepped g table s m)
-      ∙ (ap (λ (xs : List Step). xs ++ steps) (one_step s m) ∙ append_assoc m.steps (s ∷ []) steps)
+      ∙ (ap (λ (xs : List Step). xs ++ steps) (one_step_more g table s m) ∙ append_assoc m.steps (s ∷ []) steps)
 
 -- The last step
 
@@ -114,26 +109,29 @@ no_steps (s ∷ t ∷ steps) e = absurd (omega (arith, no_steps (t ∷ steps) e)
 
 -- a last Ask is one of the machine too
 pub asks_at_last : (s : Step) (steps : List Step) (q : Query) → last_step steps ≡ Some s → last_as s ≡ an_ask q → AsksLast steps
-asks_at_last (step.Ask k p seen) steps q e is = (k, p, seen, e)
+asks_at_last (step.Ask k p follows seen) steps q e is = (k, p, follows, seen, e)
 asks_at_last (step.Feed i) steps q e is = absurd (cc)
 asks_at_last (step.Extend k n point) steps q e is = absurd (cc)
-asks_at_last (step.Split k atoms proofs) steps q e is = absurd (cc)
+asks_at_last (step.Split k atoms follows proofs) steps q e is = absurd (cc)
 asks_at_last (step.Kill k by) steps q e is = absurd (cc)
 asks_at_last (step.CallExtend k n place point) steps q e is = absurd (cc)
-asks_at_last (step.CallSplit k place atoms proofs) steps q e is = absurd (cc)
+asks_at_last (step.CallSplit k place atoms follows proofs) steps q e is = absurd (cc)
+asks_at_last (step.CallPart k by atom atoms follows proofs) steps q e is = absurd (cc)
 asks_at_last (step.Stuck k why seen) steps q e is = absurd (cc)
 
 -- where no last step is an Ask or a Feed, the entries are as they were
-pub quiet_asked : (o : Option Step) (xs : List Asked) → ((k : RegionEdge) (q : Query) (seen : ℕ) → o ≡ Some (step.Ask k q seen) → ⊥) →
+pub quiet_asked : (o : Option Step) (xs : List Asked) → ((k : RegionEdge) (q : Query) (follows : List Certificate) (seen : ℕ) →
+    o ≡ Some (step.Ask k q follows seen) → ⊥) →
     ((i : ℕ) → o ≡ Some (step.Feed i) → ⊥) → asked_after o xs ≡ xs
 quiet_asked None xs a f = refl
-quiet_asked (Some (step.Ask k q seen)) xs a f = absurd (a k q seen refl)
+quiet_asked (Some (step.Ask k q follows seen)) xs a f = absurd (a k q follows seen refl)
 quiet_asked (Some (step.Feed i)) xs a f = absurd (f i refl)
 quiet_asked (Some (step.Extend k n point)) xs a f = refl
-quiet_asked (Some (step.Split k atoms proofs)) xs a f = refl
+quiet_asked (Some (step.Split k atoms follows proofs)) xs a f = refl
 quiet_asked (Some (step.Kill k by)) xs a f = refl
 quiet_asked (Some (step.CallExtend k n place point)) xs a f = refl
-quiet_asked (Some (step.CallSplit k place atoms proofs)) xs a f = refl
+quiet_asked (Some (step.CallSplit k place atoms follows proofs)) xs a f = refl
+quiet_asked (Some (step.CallPart k by atom atoms follows proofs)) xs a f = refl
 quiet_asked (Some (step.Stuck k why seen)) xs a f = refl
 
 -- They match the Asks
@@ -168,14 +166,15 @@ matches_none xs cs n l e m = subst (Matches xs cs) (sym (asks_none n l e)) m
 
 pub matches_last : (s : Step) (xs : List Asked) (cs : List (ℕ × Query)) (n : ℕ) → 1 ≤ n → Matches xs cs 0 →
     Matches (asked_after (Some s) xs) cs (asks_more n (last_as s))
-matches_last (step.Ask k q seen) xs cs n le m =
+matches_last (step.Ask k q follows seen) xs cs n le m =
     subst (Matches (xs ++ fresh_entry k q ∷ []) cs) (sym (asks_one n q le)) (matches_pushed xs cs (fresh_entry k q) m)
 matches_last (step.Feed i) xs cs n le m = matches_fed xs cs i m
 matches_last (step.Extend k t point) xs cs n le m = m
-matches_last (step.Split k atoms proofs) xs cs n le m = m
+matches_last (step.Split k atoms follows proofs) xs cs n le m = m
 matches_last (step.Kill k by) xs cs n le m = m
 matches_last (step.CallExtend k t place point) xs cs n le m = m
-matches_last (step.CallSplit k place atoms proofs) xs cs n le m = m
+matches_last (step.CallSplit k place atoms follows proofs) xs cs n le m = m
+matches_last (step.CallPart k by atom atoms follows proofs) xs cs n le m = m
 matches_last (step.Stuck k why seen) xs cs n le m = m
 
 -- Their news
@@ -191,13 +190,14 @@ module _ (closes : ℕ → Option ClosedAs) where
 
   pub news_after : (o : Option Step) (xs : List Asked) → AllOf IsTold xs → AllOf IsTold (asked_after o xs)
   news_after None xs h = h
-  news_after (Some (step.Ask k q seen)) xs h = all_append IsTold xs (fresh_entry k q ∷ []) h (tt, tt)
+  news_after (Some (step.Ask k q follows seen)) xs h = all_append IsTold xs (fresh_entry k q ∷ []) h (tt, tt)
   news_after (Some (step.Feed i)) xs h = news_fed xs i h
   news_after (Some (step.Extend k n point)) xs h = h
-  news_after (Some (step.Split k atoms proofs)) xs h = h
+  news_after (Some (step.Split k atoms follows proofs)) xs h = h
   news_after (Some (step.Kill k by)) xs h = h
   news_after (Some (step.CallExtend k n place point)) xs h = h
-  news_after (Some (step.CallSplit k place atoms proofs)) xs h = h
+  news_after (Some (step.CallSplit k place atoms follows proofs)) xs h = h
+  news_after (Some (step.CallPart k by atom atoms follows proofs)) xs h = h
   news_after (Some (step.Stuck k why seen)) xs h = h
 
 waiting_is : (k : News) → is_waiting k ≡ true → k ≡ news.Waiting
@@ -218,21 +218,22 @@ some_awaited g m w =
 -- What they have seen
 
 seen_one : (low n : ℕ) (s : Step) → low ≤ n → SeesAll n s → AllOf (λ k. low ≤ k) (seen_by s)
-seen_one low n (step.Ask k q seen) le h = (omega (arith, le, h), tt)
+seen_one low n (step.Ask k q follows seen) le h = (omega (arith, le, h), tt)
 seen_one low n (step.Stuck k why seen) le h = (omega (arith, le, h), tt)
 seen_one low n (step.Feed i) le h = tt
 seen_one low n (step.Extend k t point) le h = tt
-seen_one low n (step.Split k atoms proofs) le h = tt
+seen_one low n (step.Split k atoms follows proofs) le h = tt
 seen_one low n (step.Kill k by) le h = tt
 seen_one low n (step.CallExtend k t place point) le h = tt
-seen_one low n (step.CallSplit k place atoms proofs) le h = tt
+seen_one low n (step.CallSplit k place atoms follows proofs) le h = tt
+seen_one low n (step.CallPart k by atom atoms follows proofs) le h = tt
 
 pub seen_all : (low n : ℕ) (steps : List Step) → low ≤ n → AllSee n steps → AllOf (λ k. low ≤ k) (seen_in steps)
 seen_all low n [] le h = tt
 seen_all low n (s ∷ steps) le h =
     all_append (λ k. low ≤ k) (seen_by s) (seen_in steps) (seen_one low n s le h.0) (seen_all low n steps le h.1)
 
--- the last so many of the steps are those that were made
+-- the last n of the steps are those that were made
 pub last_made : (xs steps : List Step) (n : ℕ) → length steps ≡ n → drop (length (xs ++ steps) - n) (xs ++ steps) ≡ steps
 last_made xs steps n e =
     let k : length (xs ++ steps) - n ≡ length xs = omega (arith, length-append xs steps, e) in

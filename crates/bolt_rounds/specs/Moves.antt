@@ -1,4 +1,4 @@
--- What a slice of a job comes to, and what the board makes of it.
+-- How a slice of a job ends, and what the board makes of it.
 use Rattle.std.specs.Prelude.{◌≡◌, ℕ, List, length, true, Option, None, Some, slice_get}
 use Rattle.std.specs.Option.{option_map}
 use Rattle.flow_graph.specs.declared.graph.Graph.{Graph}
@@ -71,7 +71,7 @@ spare j (move.Feed number) = None
 spare j (move.Park rest) = None
 spare j (move.Close how summary) = spare_at j.state.query j.state.lowest how
 
--- what a call asks of a job whose slice was made is kept behind any further events, and so is what
+-- what a call asks of a job whose slice was made is kept after any further events, and so is what
 -- may be published of it
 abbrev pub MovesKeep : Type 0
 MovesKeep =

@@ -8,8 +8,7 @@ use std::thread;
 use std::thread::Threads;
 
 /// Calls `f` at each element, as `thread::for_each_mut` does, each call on a thread of its own
-/// where
-/// one can be made; no call is made on this thread, which waits, if another can be made.
+/// where one can be made; no call is made on this thread, which waits, if another can be made.
 pub(crate) fn each_apart<R: Threads + Sync, T: Send, F: Fn(usize, &mut T) + Sync>(
     rt: &R,
     s: &mut [T],

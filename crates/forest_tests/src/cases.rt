@@ -6,7 +6,7 @@ use query_tree::{Rest, Status};
 /// What a query is to be: its status, what is left of it, and the steps that were kept.
 pub type Want = (Status, u32, u32);
 
-/// Moves behind the beginning, each with its answer, and what each query is then, by its number.
+/// Moves after the beginning, each with its answer, and what each query is then, by its number.
 pub struct Case {
     pub name: &'static str,
     pub moves: &'static [(Move, Answer)],
@@ -30,7 +30,7 @@ pub const ASKED: Case = Case {
     wanted: &[(Status::Ready, 4, 3), (Status::Ready, 4, 0)],
 };
 
-/// Behind it the root and the child are taken, in either order.
+/// After it the root and the child are taken, in either order.
 pub const BOTH_TAKEN: Case = Case {
     name: "both are taken",
     moves: &[

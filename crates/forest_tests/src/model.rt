@@ -4,10 +4,8 @@ use crate::play::{Answer, Move, first_payload};
 use query_tree::{Rest, Status};
 
 /// `is_out` says whether its job is out, `is_lent` whether its payload is with a job or was lost
-/// with
-/// one, `lent` and `waits` what the last take gave, and `is_stirred` whether a child closed or
-/// became
-/// Starved since.
+/// with one, `lent` and `waits` what the last take gave, and `is_stirred` whether a child closed or
+/// became Starved since.
 #[derive(Clone, Copy)]
 pub struct Query {
     pub parent: Option<u32>,
@@ -161,7 +159,7 @@ impl Model {
         self.set(id, query);
     }
 
-    /// The job that is out of this query, with at least so many steps left, unless it was dropped.
+    /// The job that is out of this query, with at least `steps` steps left, unless it was dropped.
     fn job(&mut self, id: u32, steps: u32) -> Result<Query, Answer> {
         let Some(mut own) = self.at(id) else {
             return Err(Answer::Illegal);
@@ -181,7 +179,7 @@ impl Model {
         Ok(own)
     }
 
-    /// The job is given back. A parent is told where the query becomes Starved.
+    /// The job is given back. A parent hears of it where the query becomes Starved.
     fn rest(&mut self, id: u32, own: Query) {
         self.set(id, own);
         if own.status == Status::Starved {
@@ -313,7 +311,7 @@ impl Model {
         Answer::Done
     }
 
-    /// What comes to a parent by a close.
+    /// What a close gives to a parent.
     fn pay(&mut self, id: u32, purse: u32) {
         let Some(mut query) = self.at(id) else {
             return;

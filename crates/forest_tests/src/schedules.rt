@@ -123,7 +123,7 @@ fn takes(rt: HostRuntime) -> Result<(), Fail> {
     check_each(&rt, rt.alloc(), TAKES)
 }
 
-/// A child gets half of what is left behind the last step, rounded down, and is Starved at 0.
+/// A child gets half of what is left after the last step, rounded down, and is Starved at 0.
 #[test]
 fn asks(rt: HostRuntime) -> Result<(), Fail> {
     check_each(&rt, rt.alloc(), ASKS)

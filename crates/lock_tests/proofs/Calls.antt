@@ -15,7 +15,7 @@ get_next : {E : Type 0} (xs ys : List E) (x : E) → slice_get (xs ++ x ∷ ys) 
 get_next [] ys x = refl
 get_next (z ∷ xs) ys x = get_next xs ys x
 
--- behind a history h stand the events xs, at the places behind it
+-- after a history h stand the events xs, at the places after it
 events_added : {E : Type 0} (h xs : List E) → events_at (h ++ xs) (places_from (length h) (length xs)) ≡ map (λ (x : E). Some x) xs
 events_added h [] = refl
 events_added {E} h (x ∷ xs) =

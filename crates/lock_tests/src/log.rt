@@ -58,7 +58,7 @@ pub fn append_once<R: Wait>(
     added
 }
 
-/// Adds `first` and the numbers behind it, each in a turn of its own, and says how many there was
+/// Adds `first` and the numbers after it, each in a turn of its own, and says how many there was
 /// memory for.
 pub fn append_many<R: Wait>(
     rt: &R,

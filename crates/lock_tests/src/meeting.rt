@@ -22,8 +22,8 @@ impl Meeting {
         }
     }
 
-    /// Says that this thread has begun, and looks until so many have. Counts it as met where it saw
-    /// them.
+    /// Says that this thread has begun, and looks until `wanted` have. Counts it as met where it
+    /// saw them.
     pub fn wait(&self) {
         self.begun.fetch_add(1, Ordering::SeqCst);
         for _ in 0..TURNS {

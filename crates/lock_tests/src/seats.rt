@@ -8,7 +8,7 @@ fn is_same(xs: &[u64], ys: &[u64]) -> bool {
     xs == ys
 }
 
-/// Each seat's calls are in the list, in the order of their turns, behind those that were there at
+/// Each seat's calls are in the list, in the order of their turns, after those that were there at
 /// first.
 #[test]
 fn seats_take_turns(rt: HostRuntime) -> Result<(), Fail> {

@@ -58,7 +58,7 @@ module _ {T : Type 0} where
       above_from (is_under es k i) i p (parent_of (slice_get es (suc k))) (ap parent_of a ∙ n)
       (⊎_elim (λ d. inl d) (λ u. inr (under_le es k p i p (omega arith) u)) h)
 
-  -- the entry whose parent is told
+  -- the entry whose parent hears of it
   held : (o : Option (Entry T)) (p : ℕ) → parent_of o ≡ Some p → (e : Entry T) × (o ≡ Some e) × (e.parent ≡ Some p)
   held None p h = absurd (cc)
   held (Some e) p h = (e, refl, h)

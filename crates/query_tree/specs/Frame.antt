@@ -6,8 +6,7 @@ use Rattle.query_tree.specs.Woods.{Out}
 
 module _ {T : Type 0} where
   -- all but the status, what is left and whether a child was lost stays, and these too once the
-  -- query
-  -- closed or was dropped; a job that is out stays out
+  -- query closed or was dropped; a job that is out stays out
   pub record Stays (e f : Entry T) : Type 0 where
     pub parent : f.parent ≡ e.parent
     pub root : f.root ≡ e.root

@@ -14,8 +14,8 @@ leans Starved waiting stirred = false
 leans Closed waiting stirred = false
 leans (Dropped n) waiting stirred = false
 
--- nothing is left of a Starved query, nor of one that is not open and has a parent; what came to a
--- Running one is left beside what was lent
+-- nothing is left of a Starved query, nor of one that is not open and has a parent; what a
+-- Running one got is left beside what was lent
 abbrev pub Holds : Status → ℕ → ℕ → Bool → Type 0
 Holds Ready left lent root = Unit {0}
 Holds Running left lent root = lent ≤ left

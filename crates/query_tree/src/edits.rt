@@ -261,8 +261,7 @@ pub fn close<T: Drop>(
 }
 
 /// A Ready query, which the list no longer need hold. Each number that is taken off the list was
-/// put
-/// there by a call, so calls pay for this loop.
+/// put there by a call, so calls pay for this loop.
 pub fn next_ready<T>(entries: &[Entry<T>], ready: &mut ReadyList) -> Option<u32>
     requires { Covers entries.now ready.old }
     ensures found { MatchOption result (HasNoReady entries.now × Covers entries.now ready.new)

@@ -130,8 +130,7 @@ impl<T: Drop> Forest<T> {
     }
 
     /// Asks, as the last of the steps: the child is added, and gets half of what is left. `Gone`
-    /// comes exactly where the
-    /// query was dropped.
+    /// comes exactly where the query was dropped.
     pub fn ask(&mut self, lent: Lent<T>, steps: u32, child: T) -> Result<QueryId, Gone<T>>
         requires lent { IsLent self.old.entries lent.id lent.left lent.waiting }
         requires one_step { 1 ≤ steps }
@@ -217,8 +216,7 @@ impl<T: Drop> Forest<T> {
     }
 
     /// Feeds a child, as the last of the steps: it gets half of what is left unless it closed.
-    /// `Gone` comes exactly where
-    /// the query was dropped.
+    /// `Gone` comes exactly where the query was dropped.
     pub fn feed(&mut self, lent: Lent<T>, steps: u32, child: QueryId) -> Result<(), Gone<T>>
         requires lent { IsLent self.old.entries lent.id lent.left lent.waiting }
         requires one_step { 1 ≤ steps }

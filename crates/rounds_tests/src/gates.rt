@@ -10,7 +10,7 @@ use std::{fs, thread};
 /// How often a worker looks for the others at most.
 const TURNS: u32 = 10_000_000;
 
-/// Holds each worker in the pass behind its first call until so many are there.
+/// Holds each worker in the pass after its first call until `wanted` are there.
 #[derive(Drop)]
 pub struct Meeting {
     wanted: u64,
@@ -75,7 +75,7 @@ pub struct Notes<R> {
     slots: Vec<Slot>,
 }
 
-/// The system's number of this thread, or 0 where it isn't told.
+/// The system's number of this thread, or 0 where it isn't known.
 pub fn this_thread<R: Files + Alloc>(rt: &R) -> u64 {
     match fs::read_to_string(rt, "/proc/thread-self/stat") {
         Ok(text) => text

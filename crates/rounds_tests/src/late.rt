@@ -11,8 +11,8 @@ use summary_form::summary::Summary;
 /// Three ways to the failure: through two calls, through one call, and without a call.
 const THREE_WAYS: &str = "int h(int a) { return a; } int k(int a) { return a; } \
      int g(int a) { return h(a); } int main() { int c = input(); int y = 0; \
-     if (c > 0) { y = g(c); y = y + 1; y = y + 1; y = y - 2; } \
-     else { if (c < 0 - 5) { y = k(c); y = y + 1; y = y + 1; y = y + 1; y = y - 3; } \
+     if (c < 50) { y = g(c); y = y + 1; y = y + 1; y = y - 2; } \
+     else { if (c < 100) { y = k(c); y = y + 1; y = y + 1; y = y + 1; y = y - 3; } \
      else { y = 3; } } assert(y != 3); return 0; }";
 
 /// The number of `g` among the procedures.
@@ -55,7 +55,7 @@ fn what_a_gone_job_closed_with_is_published(rt: HostRuntime) -> Result<(), Fail>
     let counts = (board.forest().count(), board.count());
     let published = last_not_may(&board);
     drop(board);
-    assert!(rt; found == [Some(Says::Found(1, Some(0), None)), None]);
+    assert!(rt; found == [Some(Says::Found(1, Some(100), None)), None]);
     assert!(rt; status == Some(Status::Dropped { stamp: 12 }) && counts == (4, 14));
     let calls = calls_of(&notes.passes(rt.alloc())?, 1);
     assert!(rt; published == Some(G) && calls == Some(8));

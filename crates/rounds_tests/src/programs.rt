@@ -54,7 +54,7 @@ pub fn board_of(alloc: Global, text: &str, budget: u32) -> Result<(Board, u32), 
     opened(alloc, graphs, program.main, program.asserts.len(), budget)
 }
 
-/// The board of a program that so many workers brought to its end, and its assertions.
+/// The board of a program that `workers` workers brought to its end, and its assertions.
 pub fn worked<R: Threads + Sync, G: Gate>(
     rt: &R,
     alloc: Global,

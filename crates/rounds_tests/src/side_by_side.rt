@@ -32,15 +32,15 @@ fn other_pass(passes: &[Pass]) -> Option<usize> {
     None
 }
 
-/// How many passes were made on other threads than this one, and how many of these behind a call.
+/// How many passes were made on other threads than this one, and how many of these after a call.
 fn apart(passes: &[Pass], own: u64) -> (usize, usize) {
     let all = passes.iter().filter(|p| p.thread != own).count();
     let behind = passes.iter().filter(|p| p.thread != own && p.after).count();
     (all, behind)
 }
 
-/// Each event but the takes is made by the call behind a take, so half of them are takes. Where
-/// threads can be made the pass behind such a call is made on another one.
+/// Each event but the takes is made by the call after a take, so half of them are takes. Where
+/// threads can be made the pass after such a call is made on another one.
 #[test]
 fn the_pass_behind_a_take_is_the_workers_own(rt: HostRuntime) -> Result<(), Fail> {
     let notes = Notes::with_slots(rt, rt.alloc(), 1000)?;

@@ -7,8 +7,8 @@ use bolt_workers::work::work;
 use std::test::*;
 use workload_gen::program_of;
 
-/// Each worker takes a root, and both meet in their passes behind the take, before they give their
-/// jobs back, and behind that.
+/// Each worker takes a root, and both meet in their passes after the take, before they give their
+/// jobs back, and after that.
 #[test]
 fn two_workers_are_at_work_at_once(rt: HostRuntime) -> Result<(), Fail> {
     let text = program_of(rt.alloc(), 2)?;

@@ -8,7 +8,7 @@ use std::thread;
 /// How often a worker looks for the others at most.
 pub const TURNS: u32 = 10_000_000;
 
-/// A place where so many workers wait for each other, for a bounded number of turns. `met` counts
+/// A place where `wanted` workers wait for each other, for a bounded number of turns. `met` counts
 /// those that saw the others.
 #[derive(Drop)]
 pub struct Meeting {
@@ -38,7 +38,7 @@ impl Meeting {
     }
 }
 
-/// Holds each worker behind its first take, before it gives its job back, and behind that, until
+/// Holds each worker after its first take, before it gives its job back, and after that, until
 /// the others are there too. Where a pass was made while its worker holds the board, the others
 /// would not come.
 #[derive(Drop)]
@@ -78,7 +78,7 @@ impl Gate for Meetings {
     }
 }
 
-/// Looks whether each worker's passes come in pairs, one before and one behind each call, and are
+/// Looks whether each worker's passes come in pairs, one before and one after each call, and are
 /// numbered from 1 without a gap.
 #[derive(Drop)]
 pub struct Pairs {

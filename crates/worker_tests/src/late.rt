@@ -16,7 +16,7 @@ use std::test::Fail;
 use std::thread::{self, Threads};
 use summary_form::summary::Summary;
 
-/// A pass: the worker, its call, and whether it is behind the call.
+/// A pass: the worker, its call, and whether it is after the call.
 type Pass = (u32, u64, bool);
 
 /// How many passes a worker has made when it has made this one.
@@ -123,7 +123,7 @@ fn worked<R: Threads + Wait + Sync>(
 
 /// A way to the failure through one call, and one without a call.
 const TWO_WAYS: &str = "int g(int a) { return a; } int main() { int c = input(); int y = 0; \
-     if (c > 0) { y = g(c); y = y + 1; y = y + 1; y = y - 2; } else { y = 3; } \
+     if (c < 50) { y = g(c); y = y + 1; y = y + 1; y = y - 2; } else { y = 3; } \
      assert(y != 3); return 0; }";
 
 /// The procedure of the last summary of the table, if that is a not-may.
@@ -147,7 +147,7 @@ fn what_a_gone_job_closed_with_is_published(rt: HostRuntime) -> Result<(), Fail>
     let order = Order::of(rules, NONE, 0);
     let (board, asserts) = worked(&rt, rt.alloc(), TWO_WAYS, &order)?;
     let says = verdicts(rt.alloc(), &board, asserts)?;
-    let found = says.as_slice() == [Says::Found(1, Some(0), None)].as_slice();
+    let found = says.as_slice() == [Says::Found(1, Some(50), None)].as_slice();
     let published = last_not_may(&board) == Some(0);
     drop(board);
     let passes = (order.missed.load(Ordering::SeqCst), order.made_by(1));

@@ -1,4 +1,4 @@
-//! The verdicts that workers come to, beside those of one who works alone.
+//! The verdicts of several workers, beside those of one who works alone.
 
 ghost use Rattle.std.specs.Prelude.{◌≡◌, ◌≤◌};
 
@@ -70,7 +70,7 @@ fn by_workers<R: Threads + Wait + Sync>(
     verdicts(alloc, &board, asserts)
 }
 
-/// Whether 1, 2, 4 and 16 workers come to the same verdicts as one alone, which are these.
+/// Whether 1, 2, 4 and 16 workers reach the same verdicts as one alone, which are these.
 fn agree<R: Threads + Wait + Sync>(
     rt: &R,
     alloc: Global,
@@ -112,7 +112,7 @@ const DEPTH: &str = "int depth(int n) { if (n <= 0) return 0; return 1 + depth(n
 const WIDE: &str = "int f(int x) { assert(2199023255552 * x != 2199023255552); return 0; } \
      int main() { return f(input()); }";
 
-/// Two assertions in a procedure that is called twice, and one behind both calls.
+/// Two assertions in a procedure that is called twice, and one after both calls.
 const BEHIND: &str = "int f(int a) { assert(a >= 0); if (a > 9) { return 9; } assert(a != 7);
     return a; } \
      int main() { int x = input(); assume(x >= 0); int y = f(x); int z = f(y); assert(z == y);

@@ -9,7 +9,7 @@ use Rattle.bolt_core.specs.Boards.{AreRootsOf, core_of}
 use Rattle.bolt_core.specs.Machine.{first_board, opening}
 use Rattle.bolt_core.specs.States.{reads}
 
--- so many roots were added
+-- n roots were added
 pub record AreBegun (gs : List Graph) (main budget n : ℕ) (ks : List Summary)
     (es : List (Entry Seen))
     (slots : List Slot) : Type 0 where

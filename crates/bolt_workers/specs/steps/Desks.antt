@@ -80,7 +80,7 @@ pub record CanShow (d : Desk) (j : Given) (s : Summary) : Type 0 where
   pub has_seen : HasSeen d.seat.view board
   pub may : MayBeShown board j s
 
--- an event behind its take gave the job back, closed its query or dropped it, at a board that the
+-- an event after its take gave the job back, closed its query or dropped it, at a board that the
 -- seat has seen, or at an earlier one
 pub record IsBack (d : Desk) (j : Given) : Type 0 where
   pub board : Shown
