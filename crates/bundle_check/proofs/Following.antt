@@ -1,9 +1,8 @@
--- The moves that the steps of a query become, one after the other, beside the state that the steps lead to.
-use Rattle.std.proofs.Common.{◌≡◌, ◌⊎◌, inl, inr, ⊎_elim, ℕ, zero, suc, ◌+◌, ◌<◌, ◌≤◌, List, [], ◌∷◌, ◌++◌, length, take, Option, Some, None, Bool, true, false, cond, not, ◌&&◌, ◌||◌, ◌==◌, arith, refl, sym, subst, ap, ◌∙◌}
+-- A partition that is moved beside the state of a query.
+use Rattle.std.proofs.Common.{◌≡◌, ◌⊎◌, inl, inr, ⊎_elim, ℕ, zero, suc, ◌+◌, ◌<◌, ◌≤◌, List, [], ◌∷◌, ◌++◌, length, Option, Some, None, Bool, true, false, cond, not, ◌&&◌, ◌||◌, arith, refl, sym, subst, ap, ◌∙◌}
 use Rattle.std.specs.Prelude.{slice_get, slice_set, IsTrue}
 use Rattle.std.specs.List.{list_all}
-use borrow.Author.Tests.{eqb-true}
-use Rattle.std.proofs.lemmas.Option.{same_Some, none-some, slice_get_within}
+use Rattle.std.proofs.lemmas.Option.{same_Some, none-some}
 use Rattle.std.proofs.lemmas.List.{append_assoc, length-append, length-set}
 use Rattle.linear_formula.specs.Equality.{same_atom}
 use Rattle.linear_formula.specs.steps.SameValues.{atom-same}
@@ -12,44 +11,27 @@ use Rattle.linear_formula.proofs.Limits.{both, both_in}
 use Rattle.infeasible_cert.specs.Refutation.{Refutation, refutation_of}
 use Rattle.infeasible_cert.specs.declared.certificate.Certificate.{Certificate}
 use Rattle.shadow_elim.specs.Questions.{with_negation}
-use Rattle.flow_graph.specs.Calls.{call_edge}
 use Rattle.flow_graph.specs.declared.graph.Graph.{Graph}
 use Rattle.flow_graph.specs.declared.graph.Edge.{Edge}
-use Rattle.flow_graph.specs.Linked.{AreGraphs}
 use Rattle.flow_graph.specs.Shapes.{is_call}
 use Rattle.summary_form.specs.declared.query.Query.{Query}
-use Rattle.summary_form.specs.declared.query.ExitKind.{ExitKind}
 use Rattle.summary_form.specs.declared.summary.Summary.{Summary}
-use Rattle.summary_form.specs.declared.summary.Summary.TheVariants.{NotMay}
-use Rattle.summary_form.specs.Instances.{arity_of}
-use Rattle.summary_form.specs.NotMays.{Fits}
 use Rattle.may_partition.specs.declared.region.Region.{Region}
 use Rattle.may_partition.specs.declared.region.RegionEdge.{RegionEdge}
 use Rattle.may_partition.specs.Parted.{Parted, begin_parted, has_regions, is_cut, kill_edge, parents, same_edge, pieces, region, split_edge, split_region, split_regions}
+use Rattle.may_partition.proofs.ByRegion.{same_itself}
+use Rattle.may_partition.proofs.Kept.{same_is}
 use Rattle.may_partition.proofs.Pieces.{lookup_append}
 use Rattle.may_partition.proofs.Splitting.{not_in, parent_old}
 use Rattle.query_rules.specs.declared.step.Asked.{Asked}
-use Rattle.query_rules.specs.declared.step.Killer.{Killer}
-use Rattle.query_rules.specs.declared.step.Killer.TheVariants as killer
-use Rattle.query_rules.specs.declared.step.News.TheVariants as news
-use Rattle.query_rules.specs.declared.step.Step.{Step}
-use Rattle.query_rules.specs.declared.step.Step.TheVariants as step
-use Rattle.query_rules.specs.Laws.{IsGrounded}
-use Rattle.query_rules.specs.Legal.{IsLegal, Kills}
-use Rattle.query_rules.specs.Paths.{HasNoPath, IsPath, target_region}
+use Rattle.query_rules.specs.Legal.{IsWeaker, MayAsk}
 use Rattle.query_rules.specs.Rows.{AreRefuted, AsksAt, IsSome, rows_of_query}
 use Rattle.query_rules.specs.Rows as rows
-use Rattle.query_rules.specs.States.{Happening, made, heard, after, AllHappen, Happens, after_all, AllHold}
-use Rattle.query_rules.specs.Steps.{Model, begin_model, stepped, updated, with_child, with_news}
-use Rattle.query_rules.proofs.Closing.{turn_live}
-use Rattle.query_rules.proofs.Reaching.{Good, apart_ends, begin_good, call_inner, happening_good, take_get}
-use Rattle.proof_bundle.specs.Claims.{PureMove, split, kill, kill_call}
-use Rattle.bundle_check.specs.Made.{AreNamed, HasClaim, IsNamed}
+use Rattle.query_rules.specs.Steps.{Model, begin_model, updated}
+use Rattle.bundle_check.specs.Made.{HasClaim}
 use Rattle.bundle_check.specs.RightClaims as right
-use Rattle.bundle_check.specs.RightClaims.{AllMove, AreShown, Between, HasAsked, IsRightClaim, Moves, is_among, asked_query, missing, moved, moved_all}
+use Rattle.bundle_check.specs.RightClaims.{AreShown, Between, HasAsked, is_among, asked_query, missing}
 use Rattle.bundle_check.specs.Walked.{kept}
-use Rattle.may_partition.proofs.ByRegion.{same_itself}
-use Rattle.bundle_check.proofs.OwnRegions.{AreOwn, begin_own, call_own, call_terms, step_own}
 
 -- Certificates
 
@@ -106,6 +88,11 @@ shown_same rows atoms e =
     subst (λ xs. AreShown rows xs []) (sym (none_missing rows atoms (subst (λ xs. IsTrue (list_all (is_among rows) xs)) (sym e)
     (all_among [] rows)))) tt
 
+-- none of no certificates is kept
+pub none_kept : (rows atoms : List Atom) → kept rows atoms [] ≡ []
+none_kept rows [] = refl
+none_kept rows (a ∷ atoms) = refl
+
 -- some of the atoms are among them
 pub some_among : (atoms all before : List Atom) → IsSome atoms all → IsTrue (list_all (is_among (before ++ all)) atoms)
 some_among [] all before s = refl
@@ -121,17 +108,6 @@ some_among (a ∷ atoms) (b ∷ all) before s = ⊎_elim
     next_all : IsTrue (list_all (is_among ((before ++ b ∷ []) ++ all)) (a ∷ atoms)) →
         IsTrue (list_all (is_among (before ++ b ∷ all)) (a ∷ atoms))
     next_all h = subst (λ xs. IsTrue (list_all (is_among xs) (a ∷ atoms))) (append_assoc before (b ∷ []) all) h
-
--- Edges
-
-same_edges : (a b : RegionEdge) → IsTrue (same_edge a b) → a ≡ b
-same_edges a b t =
-    let u = both (a.edge == b.edge) (a.from == b.from && a.to == b.to) t in
-    let w = both (a.from == b.from) (a.to == b.to) u.1 in
-    let e = eqb-true a.edge b.edge u.0 in
-    let f = eqb-true a.from b.from w.0 in
-    let x = eqb-true a.to b.to w.1 in
-    λ i. record { edge = e i; from = f i; to = x i }
 
 -- The moved partition beside the state's: the same regions; each live edge is one of the state's, and no other than calls are
 -- lost; and the edge of an asked query by whose not-may a later step kills isn't live.
@@ -196,7 +172,7 @@ module _ (g : Graph) (killed : ℕ → Bool) where
       clash x = cc
 
       other : (x : RegionEdge) → IsTrue (p.live x) → IsTrue (same_edge x k) → ⊥
-      other x l t = clash (sym l ∙ (ap (λ y. p.live y) (same_edges x k t) ∙ d))
+      other x l t = clash (sym l ∙ (ap (λ y. p.live y) (same_is x k t) ∙ d))
 
   -- in the moved partition alone, at a call that is asked
   pub follows_asked : (m n : Model) (p : Parted) (a : Asked) → n.parted ≡ m.parted → n.asked ≡ m.asked ++ a ∷ [] →
@@ -226,7 +202,7 @@ module _ (g : Graph) (killed : ℕ → Bool) where
           ⊥
       apart x other at2 c t =
           let same : other ≡ edge = same_Some other edge
-          (sym at2 ∙ (ap (λ (y : RegionEdge). slice_get g.edges y.edge) (same_edges x a.edge t)
+          (sym at2 ∙ (ap (λ (y : RegionEdge). slice_get g.edges y.edge) (same_is x a.edge t)
           ∙ at)) in
           clash (sym call ∙ (ap is_call (sym same) ∙ c))
 
@@ -306,6 +282,26 @@ module _ (g : Graph) (killed : ℕ → Bool) where
         (λ z. h.plain (parents (length m.parted.regions) k.from x) edge at c z) (subst (λ (y : Parted). IsTrue (y.live x)) e l);
     dead = λ i b at is. split_dead p k atoms b.edge (h.dead i b (subst (λ xs. slice_get xs i ≡ Some b) a at) is);
   }
+
+  -- the same regions and the same live edges, however they came about
+  pub follows_as : (n : Model) (p r : Parted) → r.regions ≡ p.regions → ((x : RegionEdge) → IsTrue (r.live x) → IsTrue (p.live x)) →
+      ((x : RegionEdge) → IsTrue (p.live x) → IsTrue (r.live x)) → Follows n p → Follows n r
+  follows_as n p r e fewer more h = record {
+    regions = e ∙ h.regions;
+    fewer = λ x l. h.fewer x (fewer x l);
+    plain = λ x edge at c l. more x (h.plain x edge at c l);
+    dead = λ i a at is.
+        let d = h.dead i a at is in
+        record {
+          dead = still (r.live a.edge) (p.live a.edge) (fewer a.edge) d.dead;
+          from = subst (λ (rs : List Region). a.edge.from < length rs) (sym e) d.from;
+          to = subst (λ (rs : List Region). a.edge.to < length rs) (sym e) d.to;
+        };
+  }
+    where
+      still : (t u : Bool) → (IsTrue t → IsTrue u) → u ≡ false → t ≡ false
+      still true u f d = sym (f refl) ∙ d
+      still false u f d = refl
 
   -- Other steps, and news
   pub follows_same : (m n : Model) (p : Parted) → n.parted ≡ m.parted → n.asked ≡ m.asked → Follows m p → Follows n p
@@ -395,259 +391,34 @@ module _ (g : Graph) (killed : ℕ → Bool) (m : Model) (p : Parted) (h : Follo
         };
       }
 
-  -- by the claim of the asked query itself
-  abbrev pub own_kill : (claims : List Query) (k : RegionEdge) (asked : Query) → AsksAt g m k asked → HasClaim claims asked →
-      IsTrue (p.live k) →
-      CallKill claims k
-  own_kill claims k asked a c live = record {
-    number = c.number;
-    proofs = [];
-    kills = record {
+  -- by the claim of the query that a step asks: the asked query itself, or one that it entails
+  pub ask_kill : (claims : List Query) (k : RegionEdge) (table : List Summary) (q : Query) (follows : List Certificate) (seen : ℕ)
+      (l : MayAsk g table m k q follows seen) (c : HasClaim claims q) → IsTrue (p.live k) →
+      right.KillsCall g m.query.exit claims p k c.number (kept (rows_of_query (asked_query (asks l.asks))) (rows_of_query q) follows)
+  ask_kill claims k table q follows seen l c live = by_kind l.follow where
+    rs : List Atom
+    rs = rows_of_query (asked_query (asks l.asks))
+
+    by_kind : ((q ≡ l.asked) × (follows ≡ [])) ⊎ IsWeaker l.asks.call.site l.asked q follows →
+        right.KillsCall g m.query.exit claims p k c.number (kept rs (rows_of_query q) follows)
+    by_kind (inl same) = record {
       live = live;
-      asks = asks a;
-      claim = asked;
+      asks = asks l.asks;
+      claim = q;
       there = c.there;
-      of_procedure = a.of_procedure;
-      of_exit = a.of_exit;
-      shown = shown_same (rows_of_query (asked_query (asks a))) (rows_of_query asked) (asked_rows a);
-    };
-  }
-
-module _ (gs : List Graph) (linked : AreGraphs gs) (g : Graph) (table : List Summary) (holds : AllHold gs table) (claims : List Query)
-    (killed : ℕ → Bool) where
-  -- no move, or one
-  abbrev Next : ExitKind → Model → Parted → Type 0
-  Next exit n p = Follows g killed n p ⊎ ((mv : PureMove) × Moves g exit claims mv p × Follows g killed n (moved mv p))
-
-  module _ (m : Model) (good : Good gs linked g m) (regions : AreOwn g m.parted.regions) (p : Parted) (h : Follows g killed m p) where
-    abbrev Step_ : Step → ℕ → Type 0
-    Step_ s n = Next m.query.exit (stepped g (take n table) s m) p
-
-    called : {k : RegionEdge} (c : rows.CallAt g m k) → is_call c.between.edge ≡ true
-    called c = ap is_call c.is_call
-
-    -- a kill at a call, where its edge is still live
-    at_call : (s : Step) (n : ℕ) (k : RegionEdge) → (c : rows.CallAt g m k) → (stepped g (take n table) s m).parted ≡ kill_edge k m.parted →
-        (stepped g (take n table) s m).asked ≡ m.asked → (IsTrue (p.live k) → CallKill g killed m p h claims k) → Step_ s n
-    at_call s n k c e a f = by_test (p.live k) refl where
-      by_test : (t : Bool) → p.live k ≡ t → Step_ s n
-      by_test true l = let w = f l in
-          inr (kill_call k w.number w.proofs, w.kills, follows_kill g killed m (stepped g (take n table) s m) p k e a h)
-      by_test false l = inl (follows_dead g killed m (stepped g (take n table) s m) p k e a l c.between.edge c.between.at_edge (called c) h)
-
-    kills : (n : ℕ) (k : RegionEdge) (by : Killer) → IsTrue (m.parted.live k) → Kills g (take n table) m k by →
-        IsNamed g table claims killed m (step.Kill k by) → Step_ (step.Kill k by) n
-    kills n k (killer.Certificate c) live l named =
-        inr (
-          kill k (refutation_of c),
-          record {
-            live = plain_live g killed m p h k l.at live;
-            pre = record {
-              between = between g killed m p h l.at.between;
-              plain = l.at.plain;
-              rows = l.pre;
-              pair = l.is_pre.0;
-              is_pre = l.is_pre.1;
-            };
-            refuted = record { right = l.refuted.right; atoms_terms = l.refuted.atoms_terms; terms = l.refuted.terms };
-          },
-          follows_kill g killed m (stepped g (take n table) (step.Kill k (killer.Certificate c)) m) p k refl refl h,
-        )
-    kills n k (killer.Table place proof) live l named =
-        at_call (step.Kill k (killer.Table place proof)) n k l.asks.call refl refl
-        (λ t. call_kill g killed m p h claims k l.query l.summary l.asks proof l.entails
-        (named l.summary (take_get n table place (NotMay l.summary) l.there)) t)
-    kills n k (killer.Child i) live l named =
-        let d = h.dead i l.entry l.there named in
-        let a = good.keeps.asks i l.entry l.there in
-        let dead : p.live k ≡ false = subst (λ x. p.live x ≡ false) l.same d.dead in
-        let at : slice_get g.edges k.edge ≡ Some (call_edge a.from a.to a.site) = subst
-        (λ (x : RegionEdge). slice_get g.edges x.edge ≡ Some (call_edge a.from a.to a.site)) l.same a.call in
-        inl (follows_dead g killed m (stepped g (take n table) (step.Kill k (killer.Child i)) m) p k refl refl dead
-        (call_edge a.from a.to a.site) at refl h)
-    kills n k (killer.Ancestor level proof) live l named =
-        at_call (step.Kill k (killer.Ancestor level proof)) n k l.asks.call refl refl
-        (λ t. call_kill g killed m p h claims k l.query l.summary l.asks proof l.entails (named l.summary l.there) t)
-
-    abbrev new_entry : RegionEdge → Query → Asked
-    new_entry k q = record { edge = k; query = q; child = 0; news = news.Waiting }
-
-    abbrev Asks_ : ℕ → RegionEdge → Query → ℕ → Type 0
-    Asks_ n k q seen = Next m.query.exit (stepped g (take n table) (step.Ask k q seen) m) p
-
-    clash : true ≡ false → ⊥
-    clash x = cc
-
-    asked_by : (n : ℕ) (k : RegionEdge) (q : Query) (seen : ℕ) (a : AsksAt g m k q) → IsNamed g table claims killed m (step.Ask k q seen) →
-        k.from < length p.regions → k.to < length p.regions → (t u : Bool) → killed (length m.asked) ≡ t → p.live k ≡ u →
-        Asks_ n k q seen
-    asked_by n k q seen a named from to false u is l =
-        inl (follows_idle g killed m (stepped g (take n table) (step.Ask k q seen) m) p (new_entry k q) refl refl
-        (λ e. absurd (clash (sym e ∙ is))) h)
-    asked_by n k q seen a named from to true true is l =
-        let w = own_kill g killed m p h claims k q a (named is) l in
-        inr (
-          kill_call k w.number w.proofs,
-          w.kills,
-          follows_asked g killed m (stepped g (take n table) (step.Ask k q seen) m) p (new_entry k q) refl refl from to a.call.between.edge
-              a.call.between.at_edge (called a.call) h,
-        )
-    asked_by n k q seen a named from to true false is l =
-        inl (follows_idle g killed m (stepped g (take n table) (step.Ask k q seen) m) p (new_entry k q) refl refl
-        (λ e. record { dead = l; from = from; to = to }) h)
-
-    asked : (n : ℕ) (k : RegionEdge) (q : Query) (seen : ℕ) → AsksAt g m k q → IsNamed g table claims killed m (step.Ask k q seen) →
-        Step_ (step.Ask k q seen) n
-    asked n k q seen a named =
-        let b = between g killed m p h a.call.between in
-        asked_by n k q seen a named (slice_get_within p.regions k.from b.source b.at_source)
-        (slice_get_within p.regions k.to b.target b.at_target) (killed (length m.asked)) (p.live k) refl refl
-
-    pub step_next : (s : Step) (n : ℕ) → IsLegal g (take n table) m s → IsNamed g table claims killed m s → Step_ s n
-    step_next (step.Extend k trail point) n l named =
-        inl (follows_same g killed m (stepped g (take n table) (step.Extend k trail point) m) p refl refl h)
-    step_next (step.Split k atoms proofs) n l named =
-        let w = l.1 in
-        inr (
-          split k atoms,
-          (
-            inl (record {
-              live = plain_live g killed m p h k w.at (turn_live g m k l.0);
-              pre = record {
-                between = between g killed m p h w.at.between;
-                plain = w.at.plain;
-                rows = w.pre;
-                pair = w.is_pre.0;
-                is_pre = w.is_pre.1;
-              };
-              inner = w.inner;
-              several = w.several;
-              each = some_among atoms w.pre [] w.some;
-            }),
-            w.negatable,
-          ),
-          follows_split g killed m (stepped g (take n table) (step.Split k atoms proofs) m) p k atoms refl refl h,
-        )
-    step_next (step.Kill k by) n l named = kills n k by (turn_live g m k l.0) l.1 named
-    step_next (step.CallExtend k trail place point) n l named =
-        inl (follows_same g killed m (stepped g (take n table) (step.CallExtend k trail place point) m) p refl refl h)
-    step_next (step.CallSplit k place atoms proofs) n l named =
-        let w = l.1 in
-        let live = turn_live g m k l.0 in
-        let b = between g killed m p h w.call.between in
-        let ends = apart_ends gs linked g m good k live w.call.between in
-        let own : RegionEdge = record { edge = 0; from = k.from; to = k.from } in
-        inr (
-          split own atoms,
-          (
-            inr (record {
-              at_entry = refl;
-              same = refl;
-              inner = call_inner gs linked g m good k live w.call;
-              source = b.source;
-              at_source = b.at_source;
-              before_exit = ends.0;
-              before_fail = ends.1;
-              several = w.several;
-              names = call_own gs linked g m good regions (take n table) (λ at x e. holds at x (take_get n table at x e)) k place atoms
-                  proofs
-                  live w;
-              terms = call_terms gs linked g m good regions (take n table) (λ at x e. holds at x (take_get n table at x e)) k place atoms
-                  proofs live w;
-            }),
-            w.negatable,
-          ),
-          follows_split g killed m (stepped g (take n table) (step.CallSplit k place atoms proofs) m) p own atoms refl refl h,
-        )
-    step_next (step.Ask k q seen) n l named = asked n k q seen l.1.asks named
-    step_next (step.Feed i) n l named =
-        inl (follows_updated g killed m (stepped g (take n table) (step.Feed i) m) p (with_news news.Waiting) i (λ a. refl) refl refl h)
-    step_next (step.Stuck k why seen) n l named =
-        inl (follows_same g killed m (stepped g (take n table) (step.Stuck k why seen) m) p refl refl h)
-
-  pub query_same : (e : Happening) (m : Model) → (after gs g table e m).query ≡ m.query
-  query_same (made (step.Extend k trail point) n) m = refl
-  query_same (made (step.Split k atoms proofs) n) m = refl
-  query_same (made (step.Kill k by) n) m = refl
-  query_same (made (step.CallExtend k trail place point) n) m = refl
-  query_same (made (step.CallSplit k place atoms proofs) n) m = refl
-  query_same (made (step.Ask k q seen) n) m = refl
-  query_same (made (step.Feed i) n) m = refl
-  query_same (made (step.Stuck k why seen) n) m = refl
-  query_same (heard i number known) m = refl
-
-  pub next_own : (e : Happening) (m : Model) → Good gs linked g m → AreOwn g m.parted.regions → Happens gs g table e m →
-      AreOwn g (after gs g table e m).parted.regions
-  next_own (made s n) m good regions l =
-      step_own gs linked g m good regions (take n table) (λ at x e. holds at x (take_get n table at x e)) s l.1
-  next_own (heard i number known) m good regions l = regions
-
-  next : (e : Happening) (es : List Happening) (m : Model) (p : Parted) → Good gs linked g m → AreOwn g m.parted.regions →
-      Follows g killed m p → Happens gs g table e m →
-      AreNamed g table claims killed gs (e ∷ es) m →
-      Next m.query.exit (after gs g table e m) p × AreNamed g table claims killed gs es (after gs g table e m)
-  next (made s n) es m p good regions h l named = (step_next m good regions p h s n l.1 named.0, named.1)
-  next (heard i number known) es m p good regions h l named = (
-    inl (follows_updated g killed m (after gs g table (heard i number known) m) p (with_child number known) i (λ a. refl) refl refl h),
-    named,
-  )
-
-  -- all of them
-  abbrev Followed : ExitKind → Model → Parted → Type 0
-  Followed exit n p = (ms : List PureMove) × AllMove g exit claims ms p × Follows g killed n (moved_all ms p)
-
-  first : (exit : ExitKind) (n last : Model) (p : Parted) → Next exit n p → ((r : Parted) → Follows g killed n r → Followed exit last r) →
-      Followed exit last p
-  first exit n last p (inl h) rest = rest p h
-  first exit n last p (inr h) rest =
-      let w = rest (moved h.0 p) h.2 in
-      (h.0 ∷ w.0, (h.1, w.1), w.2)
-
-  follow : (es : List Happening) (m : Model) (p : Parted) → Good gs linked g m → AreOwn g m.parted.regions → Follows g killed m p →
-      AllHappen gs g table es m →
-      AreNamed g table claims killed gs es m → Followed m.query.exit (after_all gs g table es m) p
-  follow [] m p good regions h l named = ([], tt, h)
-  follow (e ∷ es) m p good regions h l named =
-      let n : Model = after gs g table e m in
-      let w = next e es m p good regions h l.0 named in
-      let good' = happening_good gs linked g table holds e m good l.0 in
-      first m.query.exit n (after_all gs g table es n) p w.0
-      (λ r f. subst (λ (x : Query). Followed x.exit (after_all gs g table es n) r) (query_same e m)
-      (follow es n r good' (next_own e m good regions l.0) f l.1 w.1))
-
-more_path : (p r : Parted) → ((e : RegionEdge) → IsTrue (r.live e) → IsTrue (p.live e)) → (es : List RegionEdge) (a b : ℕ) →
-    IsPath r a es b → IsPath p a es b
-more_path p r fewer [] a b h = h
-more_path p r fewer (e ∷ es) a b h = (fewer e h.0, h.1, more_path p r fewer es e.to b h.2)
-
-pub no_path : (g : Graph) (q : Query) (p r : Parted) → ((e : RegionEdge) → IsTrue (r.live e) → IsTrue (p.live e)) → HasNoPath g q p →
-    HasNoPath g q r
-no_path g q p r fewer none es path = none es (more_path p r fewer es 0 (target_region g q) path)
-
-pub closed_proved : (gs : List Graph) (g : Graph) (table : List Summary) (q : Query) (ancestors : List Query) (m : Model) →
-    (s : IsGrounded gs g table q ancestors m) → HasNoPath g m.query m.parted → (claims : List Query) (killed : ℕ → Bool) →
-    AreNamed g table claims killed gs s.state.happenings (begin_model g q ancestors) →
-    (ms : List PureMove) × IsRightClaim gs claims (record { query = q; moves = ms })
-closed_proved gs g table q ancestors m s none claims killed named =
-    let z = s.state in
-    let b = begin_model g q ancestors in
-    let w = follow gs s.graphs g table s.table_holds claims killed z.happenings b (begin_parted g q)
-    (begin_good gs s.graphs g table s.table_holds q ancestors m z)
-    (begin_own g q (begin_good gs s.graphs g table s.table_holds q ancestors m z).fits) (follows_begin g killed q ancestors) z.happen named
-    in
-    let end : Model = after_all gs g table z.happenings b in
-    let closed : HasNoPath g end.query end.parted = subst (λ (x : Model). HasNoPath g x.query x.parted) z.reached none in (
-      w.0,
-      record {
-        graph = g;
-        at = z.at;
-        fits = subst (λ o. Fits q.proc (arity_of o) q) z.at z.fits;
-        all_move = w.1;
-        none = no_path g q end.parted (moved_all w.0 (begin_parted g q)) w.2.fewer
-            (subst (λ (x : Query). HasNoPath g x end.parted) (queries_same z.happenings b) closed);
-      },
-    )
-  where
-    queries_same : (es : List Happening) (n : Model) → (after_all gs g table es n).query ≡ n.query
-    queries_same [] n = refl
-    queries_same (e ∷ es) n = queries_same es (after gs g table e n) ∙ query_same gs s.graphs g table s.table_holds claims killed e n
+      of_procedure = ap (λ (x : Query). x.proc) same.0 ∙ l.asks.of_procedure;
+      of_exit = ap (λ (x : Query). x.exit) same.0 ∙ l.asks.of_exit;
+      shown = subst (AreShown rs (missing rs (rows_of_query q)))
+          (sym (ap (kept rs (rows_of_query q)) same.1 ∙ none_kept rs (rows_of_query q)))
+          (shown_same rs (rows_of_query q) (ap rows_of_query same.0 ∙ asked_rows l.asks));
+    }
+    by_kind (inr weaker) = record {
+      live = live;
+      asks = asks l.asks;
+      claim = q;
+      there = c.there;
+      of_procedure = weaker.entails.same_procedure ∙ l.asks.of_procedure;
+      of_exit = weaker.entails.same_exit ∙ l.asks.of_exit;
+      shown = subst (λ xs. AreShown xs (missing xs (rows_of_query q)) (kept xs (rows_of_query q) follows)) (asked_rows l.asks)
+          (shown (rows_of_query l.asked) (rows_of_query q) follows weaker.entails.shown);
+    }

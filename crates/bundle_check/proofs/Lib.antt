@@ -13,5 +13,9 @@ pub mod FirstWrong
 pub mod Judging
 pub mod OwnRegions
 pub mod Following
+pub mod Cutting
+pub mod SplitMoves
+pub mod InOrder
+pub mod Closed
 pub mod Naming
 pub mod Walking

@@ -17,7 +17,7 @@ use Rattle.summary_form.specs.Instances.{graph_runs, arity_of}
 use Rattle.summary_form.specs.NotMays.{Fits}
 use Rattle.may_partition.specs.declared.region.RegionEdge.{RegionEdge}
 use Rattle.may_partition.specs.Parted.{Parted, begin_parted, can_negate, kill_edge, split_edge}
-use Rattle.may_partition.proofs.Pieces.{get_left}
+use Rattle.may_partition.proofs.Pieces.{get_left, holds_split}
 use Rattle.call_bridge.specs.Laws.{IsRegion}
 use Rattle.query_rules.specs.Conditional.{AllNotMay, Gives}
 use Rattle.query_rules.specs.Leaning.{least, levels_of}
@@ -153,7 +153,7 @@ module _ (gs : List Graph) (linked : AreGraphs gs) (g : Graph) (q : Query) (quer
                 (not_end g q.exit b.source.node ends.0 ends.1) ends.0
                 (both_fit g.exit b.source.node ends.0 atoms region negatable)
                 (λ d. cut_by gs d g q p k b.source b.target b.at_source b.at_target l.pre.rows w atoms
-                (λ v all. all_among_hold v l.pre.rows atoms l.each all)) h.keeps;
+                (λ v v64 all. all_among_hold v l.pre.rows atoms l.each (holds_split v b.source.cube.atoms l.pre.rows all).1)) h.keeps;
           },
         )
 

@@ -3,6 +3,7 @@ use Rattle.std.proofs.Common.{◌≡◌, ℕ, zero, suc, ◌+◌, List, [], ◌�
 use Rattle.std.specs.Prelude.{slice_get}
 use Rattle.std.proofs.lemmas.Option.{same_Some, none-some}
 use borrow.Author.Tests.{eqb-true, eq-eqb}
+use Rattle.infeasible_cert.specs.declared.certificate.Certificate.{Certificate}
 use Rattle.flow_graph.specs.declared.graph.Graph.{Graph}
 use Rattle.may_partition.specs.declared.region.RegionEdge.{RegionEdge}
 use Rattle.may_partition.proofs.Pieces.{get_left, get_right}
@@ -23,7 +24,7 @@ use Rattle.proof_bundle.specs.Claims.{PureMove}
 use Rattle.bundle_check.specs.Made.{AreNamed, HasClaim, IsNamed}
 use Rattle.bundle_check.specs.Named.{AreLed}
 use Rattle.bundle_check.specs.RightClaims.{IsRightClaim}
-use Rattle.bundle_check.proofs.Following.{closed_proved}
+use Rattle.bundle_check.proofs.Closed.{closed_proved}
 use Rattle.bundle_check.proofs.Travelling.{or_true}
 
 -- Which asked entries kill
@@ -60,14 +61,15 @@ Found steps i = (n : ℕ) × (k : RegionEdge) × (slice_get steps n ≡ Some (st
 
 is_kill : (s : Step) (i : ℕ) → kills_by s i ≡ true → (k : RegionEdge) × (s ≡ step.Kill k (killer.Child i))
 is_kill (step.Extend k trail point) i e = absurd (clash e)
-is_kill (step.Split k atoms proofs) i e = absurd (clash e)
+is_kill (step.Split k atoms follows proofs) i e = absurd (clash e)
 is_kill (step.Kill k (killer.Certificate c)) i e = absurd (clash e)
 is_kill (step.Kill k (killer.Table place proof)) i e = absurd (clash e)
 is_kill (step.Kill k (killer.Child j)) i e = (k, ap (λ x. step.Kill k (killer.Child x)) (eqb-true j i e))
 is_kill (step.Kill k (killer.Ancestor level proof)) i e = absurd (clash e)
 is_kill (step.CallExtend k trail place point) i e = absurd (clash e)
-is_kill (step.CallSplit k place atoms proofs) i e = absurd (clash e)
-is_kill (step.Ask k q seen) i e = absurd (clash e)
+is_kill (step.CallSplit k place atoms follows proofs) i e = absurd (clash e)
+is_kill (step.CallPart k by atom atoms follows proofs) i e = absurd (clash e)
+is_kill (step.Ask k q follows seen) i e = absurd (clash e)
 is_kill (step.Feed j) i e = absurd (clash e)
 is_kill (step.Stuck k why seen) i e = absurd (clash e)
 
@@ -120,15 +122,19 @@ module _ (gs : List Graph) (g : Graph) (table : List Summary) where
   step_extends : (s : Step) (t : List Summary) (m : Model) → Extends m (stepped g t s m)
   step_extends (step.Extend k trail point) t m =
       extends m (stepped g t (step.Extend k trail point) m) (step.Extend k trail point) refl (same_all m.asked) refl
-  step_extends (step.Split k atoms proofs) t m =
-      extends m (stepped g t (step.Split k atoms proofs) m) (step.Split k atoms proofs) refl (same_all m.asked) refl
+  step_extends (step.Split k atoms follows proofs) t m =
+      extends m (stepped g t (step.Split k atoms follows proofs) m) (step.Split k atoms follows proofs) refl (same_all m.asked) refl
   step_extends (step.Kill k by) t m = extends m (stepped g t (step.Kill k by) m) (step.Kill k by) refl (same_all m.asked) refl
   step_extends (step.CallExtend k trail place point) t m =
       extends m (stepped g t (step.CallExtend k trail place point) m) (step.CallExtend k trail place point) refl (same_all m.asked) refl
-  step_extends (step.CallSplit k place atoms proofs) t m =
-      extends m (stepped g t (step.CallSplit k place atoms proofs) m) (step.CallSplit k place atoms proofs) refl (same_all m.asked) refl
-  step_extends (step.Ask k q seen) t m =
-      extends m (stepped g t (step.Ask k q seen) m) (step.Ask k q seen) refl
+  step_extends (step.CallSplit k place atoms follows proofs) t m =
+      extends m (stepped g t (step.CallSplit k place atoms follows proofs) m) (step.CallSplit k place atoms follows proofs) refl
+      (same_all m.asked) refl
+  step_extends (step.CallPart k by atom atoms follows proofs) t m =
+      extends m (stepped g t (step.CallPart k by atom atoms follows proofs) m) (step.CallPart k by atom atoms follows proofs) refl
+      (same_all m.asked) refl
+  step_extends (step.Ask k q follows seen) t m =
+      extends m (stepped g t (step.Ask k q follows seen) m) (step.Ask k q follows seen) refl
       (λ i e at. (e, get_left m.asked i (record { edge = k; query = q; child = 0; news = news.Waiting } ∷ []) e at, refl)) refl
   step_extends (step.Feed i) t m =
       extends m (stepped g t (step.Feed i) m) (step.Feed i) refl (same_updated (with_news news.Waiting) (λ a. refl) m.asked i) refl
@@ -171,9 +177,9 @@ module _ (gs : List Graph) (g : Graph) (table : List Summary) where
         let w = stored (step.Kill k (killer.Ancestor level proof)) m (stepped g t (step.Kill k (killer.Ancestor level proof)) m) refl x in
         λ s at. led w.0 k (killer.Ancestor level proof) w.1 s (ap (λ qs. slice_get qs level) x.levels ∙ at)
 
-    named_ask : (k : RegionEdge) (q : Query) (seen : ℕ) (t : List Summary) (m : Model) → Extends (stepped g t (step.Ask k q seen) m) last →
-        child_kills last.steps (length m.asked) ≡ true → HasClaim claims q
-    named_ask k q seen t m x e =
+    named_ask : (k : RegionEdge) (q : Query) (follows : List Certificate) (seen : ℕ) (t : List Summary) (m : Model) →
+        Extends (stepped g t (step.Ask k q follows seen) m) last → child_kills last.steps (length m.asked) ≡ true → HasClaim claims q
+    named_ask k q follows seen t m x e =
         let w = found_kill last.steps (length m.asked) e in
         let entry : Asked = record { edge = k; query = q; child = 0; news = news.Waiting } in
         let here : slice_get (m.asked ++ entry ∷ []) (length m.asked) ≡ Some entry = subst (λ i. slice_get (m.asked ++ entry ∷ []) i
@@ -184,11 +190,12 @@ module _ (gs : List Graph) (g : Graph) (table : List Summary) where
     named_step : (s : Step) (t : List Summary) (m : Model) → Extends (stepped g t s m) last →
         IsNamed g table claims (child_kills last.steps) m s
     named_step (step.Extend k trail point) t m x = tt
-    named_step (step.Split k atoms proofs) t m x = tt
+    named_step (step.Split k atoms follows proofs) t m x = tt
     named_step (step.Kill k by) t m x = named_kill k by t m x
     named_step (step.CallExtend k trail place point) t m x = tt
-    named_step (step.CallSplit k place atoms proofs) t m x = tt
-    named_step (step.Ask k q seen) t m x = λ e. named_ask k q seen t m x e
+    named_step (step.CallSplit k place atoms follows proofs) t m x = tt
+    named_step (step.CallPart k by atom atoms follows proofs) t m x = tt
+    named_step (step.Ask k q follows seen) t m x = λ e. named_ask k q follows seen t m x e
     named_step (step.Feed i) t m x = tt
     named_step (step.Stuck k why seen) t m x = tt
 

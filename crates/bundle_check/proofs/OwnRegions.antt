@@ -6,9 +6,9 @@ use Rattle.std.proofs.lemmas.Option.{none-some, same_Some}
 use borrow.Author.Tests.{eqb-true, eqb-false, ne_eqb}
 use Rattle.linear_formula.specs.LinearSum.{LinearSum}
 use Rattle.linear_formula.specs.Results.{negated}
-use Rattle.linear_formula.specs.Formula.{are_terms}
 use Rattle.linear_formula.specs.declared.formula.Atom.{Atom}
 use Rattle.linear_formula.proofs.Limits.{both, both_in}
+use Rattle.infeasible_cert.specs.declared.certificate.Certificate.{Certificate}
 use Rattle.shadow_elim.specs.declared.sum.Sum.{Sum}
 use Rattle.shadow_elim.proofs.Projecting.{or-cases}
 use Rattle.flow_graph.specs.Calls.{call_edge}
@@ -36,7 +36,7 @@ use Rattle.call_bridge.proofs.Leading.{must_region}
 use Rattle.call_bridge.proofs.MustNames.{preimage_names}
 use Rattle.call_bridge.proofs.Naming.{rows_named, rows_named_append, rows_wider, sums_name_only}
 use Rattle.query_rules.specs.Legal.{IsLegal, Splits, SplitsCall}
-use Rattle.query_rules.specs.Rows.{Between, IsPreimage}
+use Rattle.query_rules.specs.Rows.{Between, Follow, IsPreimage, is_own_column}
 use Rattle.query_rules.specs.States.{AllHold}
 use Rattle.query_rules.specs.Steps.{Model, stepped}
 use Rattle.query_rules.specs.declared.step.Step.{Step}
@@ -47,7 +47,6 @@ use Rattle.query_rules.proofs.Preimages.{inner_number}
 use Rattle.query_rules.proofs.Reaching.{Good, apart_ends, fits_must, source_node}
 use Rattle.call_bridge.proofs.Queries.{either_in}
 use Rattle.query_rules.proofs.Shown.{leads_node}
-use Rattle.bundle_check.specs.RightClaims.{is_own_column}
 use Rattle.bundle_check.proofs.Showing.{own_inner}
 
 abbrev pub own_at : Graph → (node : ℕ) → ℕ → Bool
@@ -215,16 +214,19 @@ module _ (gs : List Graph) (linked : AreGraphs gs) (g : Graph) where
         (behind_own b.edge is_edge b.target.node (leads_node g.fail b.edge b.target.node plain joined.1) b.target.cube.atoms
         (own k.to b.target b.at_target)) is.1
 
-    splits_own : (k : RegionEdge) (atoms : List Atom) (proofs : List _) → IsTrue (m.parted.live k) → Splits g m k atoms proofs →
-        AreOwn g (split_regions m.parted.regions k.from atoms)
-    splits_own k atoms proofs live l =
+    -- what follows from a preimage names them too
+    follow_names : (source pre atoms : List Atom) (follows : List Certificate) → Follow g source pre atoms follows →
+        NamesColumns (is_own_column g) pre → NamesColumns (is_own_column g) atoms
+    follow_names source pre atoms [] f r = some_named (is_own_column g) atoms pre f r
+    follow_names source pre atoms (c ∷ cs) f r =
+        ⊎_elim (λ s. some_named (is_own_column g) atoms pre s r) (λ o. record { names = o.names; terms = o.terms }) f.0
+
+    pub split_names : (k : RegionEdge) (atoms : List Atom) (follows proofs : List Certificate) → IsTrue (m.parted.live k) →
+        Splits g m k atoms follows proofs → NamesColumns (is_own_column g) atoms
+    split_names k atoms follows proofs live l =
         let b = l.at.between in
         let src = source_node gs linked g m h k live b l.inner in
-        let rows = some_named (is_own_column g) atoms l.pre l.some
-        (pre_own k live b l.at.plain src.0 src.1 l.pre l.is_pre) in
-        let apart = (apart_ends gs linked g m h k live b).0 in
-        split_own g m.parted.regions k.from atoms b.source b.at_source
-        (rows_wider (is_own_column g) (own_at g b.source.node) (inside_at g b.source.node apart) atoms rows.names) own
+        follow_names b.source.cube.atoms l.pre atoms follows l.parts.follow (pre_own k live b l.at.plain src.0 src.1 l.pre l.is_pre)
 
     -- Over calls
     slots_own : (args : List ℕ) → IsTrue (list_all (λ x. nat_lt x g.slots) args) → (j a : ℕ) → slice_get args j ≡ Some a →
@@ -236,9 +238,10 @@ module _ (gs : List Graph) (linked : AreGraphs gs) (g : Graph) where
     slots_own (x ∷ args) n (suc j) a e =
         slots_own args (both (nat_lt x g.slots) (list_all (λ y. nat_lt y g.slots) args) n).1 j a e
 
-    pub call_own : (table : List Summary) → AllHold gs table → (k : RegionEdge) (place : ℕ) (atoms : List Atom) (proofs : List _) →
-        IsTrue (m.parted.live k) → SplitsCall g table m k place atoms proofs → IsTrue (rows_name_only (is_own_column g) atoms)
-    call_own table holds k place atoms proofs live l =
+    pub call_names : (table : List Summary) → AllHold gs table → (k : RegionEdge) (place : ℕ) (atoms : List Atom)
+        (follows proofs : List Certificate) → IsTrue (m.parted.live k) → SplitsCall g table m k place atoms follows proofs →
+        NamesColumns (is_own_column g) atoms
+    call_names table holds k place atoms follows proofs live l =
         let c = l.call in
         let b = c.between in
         let e : slice_get g.edges k.edge ≡ Some (call_edge c.from c.to c.site) = b.at_edge ∙ ap Some c.is_call in
@@ -247,38 +250,39 @@ module _ (gs : List Graph) (linked : AreGraphs gs) (g : Graph) where
         let slots = both (list_all (λ x. nat_lt x g.slots) c.site.results) (list_all (λ x. nat_lt x g.slots) c.site.arguments)
         is_edge.slots_named in
         let apart = leads_exit g ok (call_edge c.from c.to c.site) is_edge refl b.target.node joined.1 in
-        preimage_names (is_own_column g) (own_inner g ok) l.path c.site b.target.cube.atoms atoms l.is_pre.0 (record {
-          args_allowed = slots_own c.site.arguments slots.1;
-          target_allowed = rows_wider (own_at g b.target.node) (is_own_column g) (from_inside g b.target.node apart) b.target.cube.atoms
-              (own k.to b.target b.at_target);
-          numbers = l.must_at.numbers;
-        }) l.is_pre.1
+        follow_names b.source.cube.atoms l.pre atoms follows l.parts.follow (record {
+          names = preimage_names (is_own_column g) (own_inner g ok) l.path c.site b.target.cube.atoms l.pre l.is_pre.0 (record {
+            args_allowed = slots_own c.site.arguments slots.1;
+            target_allowed = rows_wider (own_at g b.target.node) (is_own_column g) (from_inside g b.target.node apart) b.target.cube.atoms
+                (own k.to b.target b.at_target);
+            numbers = l.must_at.numbers;
+          }) l.is_pre.1;
+          terms = (must_region l.path c.site b.target.cube.atoms
+              (fits_must gs linked g table holds m h k live c place l.path l.must_at) l.pre l.is_pre.0 l.is_pre.1).terms;
+        })
 
-    pub call_terms : (table : List Summary) → AllHold gs table → (k : RegionEdge) (place : ℕ) (atoms : List Atom) (proofs : List _) →
-        IsTrue (m.parted.live k) → SplitsCall g table m k place atoms proofs → IsTrue (are_terms atoms)
-    call_terms table holds k place atoms proofs live l =
-        let c = l.call in
-        (must_region l.path c.site c.between.target.cube.atoms
-        (fits_must gs linked g table holds m h k live c place l.path l.must_at) atoms l.is_pre.0 l.is_pre.1).terms
-
-    call_splits_own : (table : List Summary) → AllHold gs table → (k : RegionEdge) (place : ℕ) (atoms : List Atom) (proofs : List _) →
-        IsTrue (m.parted.live k) → SplitsCall g table m k place atoms proofs → AreOwn g (split_regions m.parted.regions k.from atoms)
-    call_splits_own table holds k place atoms proofs live l =
-        let b = l.call.between in
+    -- Divided sources
+    divided_own : (k : RegionEdge) (atoms : List Atom) → IsTrue (m.parted.live k) → Between g m k → NamesColumns (is_own_column g) atoms →
+        AreOwn g (split_regions m.parted.regions k.from atoms)
+    divided_own k atoms live b n =
         let apart = (apart_ends gs linked g m h k live b).0 in
         split_own g m.parted.regions k.from atoms b.source b.at_source
-        (rows_wider (is_own_column g) (own_at g b.source.node) (inside_at g b.source.node apart) atoms
-        (call_own table holds k place atoms proofs live l)) own
+        (rows_wider (is_own_column g) (own_at g b.source.node) (inside_at g b.source.node apart) atoms n.names) own
 
     -- All steps
     pub step_own : (table : List Summary) → AllHold gs table → (s : Step) → IsLegal g table m s →
         AreOwn g (stepped g table s m).parted.regions
     step_own table holds (step.Extend k trail point) l = own
-    step_own table holds (step.Split k atoms proofs) l = splits_own k atoms proofs (turn_live g m k l.0) l.1
+    step_own table holds (step.Split k atoms follows proofs) l =
+        let live = turn_live g m k l.0 in
+        divided_own k atoms live l.1.at.between (split_names k atoms follows proofs live l.1)
     step_own table holds (step.Kill k by) l = own
     step_own table holds (step.CallExtend k trail place point) l = own
-    step_own table holds (step.CallSplit k place atoms proofs) l =
-        call_splits_own table holds k place atoms proofs (turn_live g m k l.0) l.1
-    step_own table holds (step.Ask k q seen) l = own
+    step_own table holds (step.CallSplit k place atoms follows proofs) l =
+        let live = turn_live g m k l.0 in
+        divided_own k atoms live l.1.call.between (call_names table holds k place atoms follows proofs live l.1)
+    step_own table holds (step.CallPart k by atom atoms follows proofs) l =
+        divided_own k atoms (turn_live g m k l.0) l.1.call.between (record { names = l.1.own.names; terms = l.1.own.terms })
+    step_own table holds (step.Ask k q follows seen) l = own
     step_own table holds (step.Feed i) l = own
     step_own table holds (step.Stuck k why seen) l = own

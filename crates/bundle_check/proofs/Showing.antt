@@ -21,7 +21,8 @@ use Rattle.may_partition.proofs.Splitting.{or_left, or_right}
 use Rattle.call_bridge.specs.Calls.{inner_column}
 use Rattle.call_bridge.specs.Laws.{IsRegion}
 use Rattle.query_rules.proofs.Fitted.{among_more, names_more}
-use Rattle.bundle_check.specs.RightClaims.{IsRefutedBy, AreShown, is_among, is_own_column, missing}
+use Rattle.query_rules.specs.Rows.{is_own_column}
+use Rattle.bundle_check.specs.RightClaims.{IsRefutedBy, AreShown, is_among, missing}
 
 pub refuted_never : (atoms : List Atom) (c : Refutation) → IsRefutedBy atoms c → (v : Valuation) → Is64 v → HoldsAll v atoms → ⊥
 refuted_never atoms c r v v64 h = right-sound atoms c v r.atoms_terms r.terms r.right v64 h

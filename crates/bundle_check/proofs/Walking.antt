@@ -1,15 +1,15 @@
 -- A walk along the stored steps, with the moves that they make so far.
-use Rattle.std.proofs.Common.{◌≡◌, inl, inr, ℕ, zero, suc, ◌+◌, ◌<◌, List, [], ◌∷◌, ◌++◌, length, take, Bool, true, false, Some, arith, refl, sym, subst, ap, ◌∙◌}
+use Rattle.std.proofs.Common.{◌≡◌, ℕ, zero, suc, ◌+◌, ◌<◌, ◌≤◌, List, [], ◌∷◌, ◌++◌, length, take, Bool, true, false, Some, arith, refl, sym, subst, ap, ◌∙◌}
 use Rattle.std.specs.Prelude.{slice_get, IsTrue}
 use Rattle.std.proofs.lemmas.Option.{same_Some, slice_get_within}
 use Rattle.std.proofs.lemmas.List.{length-append}
+use Rattle.linear_formula.specs.declared.formula.Atom.{Atom}
 use Rattle.infeasible_cert.specs.Refutation.{refutation_of}
 use Rattle.infeasible_cert.specs.declared.certificate.Certificate.{Certificate}
 use Rattle.flow_graph.specs.Calls.{call_edge}
 use Rattle.flow_graph.specs.declared.graph.Graph.{Graph}
 use Rattle.flow_graph.specs.Linked.{AreGraphs}
 use Rattle.flow_graph.specs.Shapes.{is_call}
-use Rattle.summary_form.specs.declared.query.ExitKind.{ExitKind}
 use Rattle.summary_form.specs.declared.query.Query.{Query}
 use Rattle.summary_form.specs.Instances.{arity_of}
 use Rattle.summary_form.specs.NotMays.{Fits}
@@ -17,11 +17,11 @@ use Rattle.summary_form.specs.declared.summary.Summary.{Summary}
 use Rattle.summary_form.specs.declared.summary.Summary.TheVariants.{NotMay}
 use Rattle.may_partition.specs.declared.region.RegionEdge.{RegionEdge}
 use Rattle.may_partition.specs.Parted.{Parted, begin_parted, kill_edge}
-use Rattle.may_partition.proofs.Pieces.{get_left, get_right}
+use Rattle.may_partition.proofs.Pieces.{get_right}
 use Rattle.query_rules.specs.Laws.{IsGrounded}
 use Rattle.query_rules.specs.Paths.{HasNoPath}
-use Rattle.query_rules.specs.Legal.{IsLegal, Kills}
-use Rattle.query_rules.specs.Rows.{AsksAt, levels_known, rows_of_query}
+use Rattle.query_rules.specs.Legal.{IsLegal, Kills, MayAsk}
+use Rattle.query_rules.specs.Rows.{AsksAt, Follow, levels_known, rows_of_query}
 use Rattle.query_rules.specs.Rows as rows
 use Rattle.query_rules.specs.States.{AllHappen, AllHold, Happening, Happens, after, after_all, heard, made}
 use Rattle.query_rules.specs.Steps.{Model, begin_model, stepped, updated, with_child, with_news}
@@ -32,16 +32,19 @@ use Rattle.query_rules.specs.declared.step.News.TheVariants as news
 use Rattle.query_rules.specs.declared.step.Step.{Step}
 use Rattle.query_rules.specs.declared.step.Step.TheVariants as step
 use Rattle.query_rules.proofs.Closing.{turn_live}
-use Rattle.query_rules.proofs.Reaching.{Good, apart_ends, begin_good, call_inner, happening_good, take_get}
-use Rattle.proof_bundle.specs.Claims.{PureMove, split, kill, kill_call}
+use Rattle.query_rules.proofs.Reaching.{Good, begin_good, happening_good, take_get}
+use Rattle.proof_bundle.specs.Claims.{PureMove, kill, kill_call}
 use Rattle.bundle_check.specs.Made.{HasClaim}
 use Rattle.bundle_check.specs.RightClaims as right
 use Rattle.bundle_check.specs.RightClaims.{AllMove, IsRightClaim, Moves, asked_query, moved, moved_all}
 use Rattle.bundle_check.specs.Walked.{Gives, GivesFor, HasEnds, Makes, MakesCall, MakesKill, kept}
 use Rattle.bundle_check.proofs.Claiming.{asked_same}
-use Rattle.bundle_check.proofs.Following.{Follows, asked_rows, asks, between, call_kill, follows_asked, follows_begin, follows_dead, follows_idle, follows_kill, follows_same, follows_split, follows_updated, next_own, no_path, own_kill, plain_live, query_same, some_among}
+use Rattle.bundle_check.proofs.Closed.{next_own, no_path, query_same}
+use Rattle.bundle_check.proofs.Following.{Follows, ask_kill, asked_rows, asks, between, call_kill, follows_asked, follows_begin, follows_dead, follows_idle, follows_kill, follows_same, follows_updated, plain_live}
+use Rattle.bundle_check.proofs.InOrder.{all_append, all_longer, moved_append}
 use Rattle.bundle_check.proofs.Naming.{Extends, all_extend, child_kills, told_kill}
-use Rattle.bundle_check.proofs.OwnRegions.{AreOwn, begin_own, call_own, call_terms}
+use Rattle.bundle_check.proofs.OwnRegions.{AreOwn, begin_own, call_names}
+use Rattle.bundle_check.proofs.SplitMoves.{call_leads, one_each, split_leads}
 
 clash : true ≡ false → ⊥
 clash e = cc
@@ -50,6 +53,12 @@ length_updated : (f : Asked → Asked) (xs : List Asked) (i : ℕ) → length (u
 length_updated f [] i = refl
 length_updated f (x ∷ xs) zero = refl
 length_updated f (x ∷ xs) (suc i) = ap suc (length_updated f xs i)
+
+-- there are no more certificates than atoms that follow
+few_follow : (g : Graph) (source pre atoms : List Atom) (follows : List Certificate) → Follow g source pre atoms follows →
+    length follows ≤ length atoms
+few_follow g source pre atoms [] f = omega arith
+few_follow g source pre atoms (c ∷ cs) f = omega (arith, one_each source pre atoms (c ∷ cs) f.1)
 
 module _ (gs : List Graph) (linked : AreGraphs gs) (g : Graph) (table : List Summary) (holds : AllHold gs table) (claims : List Query)
     (last : Model) where
@@ -125,12 +134,19 @@ module _ (gs : List Graph) (linked : AreGraphs gs) (g : Graph) (table : List Sum
     abbrev new_entry : RegionEdge → Query → Asked
     new_entry k q = record { edge = k; query = q; child = 0; news = news.Waiting }
 
-    ask_made : (k : RegionEdge) (q : Query) (seen : ℕ) (a : AsksAt g m k q) (one : List PureMove) →
-        Makes g m.query.exit p table (levels_known last) claims killed (step.Ask k q seen) (length m.asked) one →
-        After (step.Ask k q seen) one
-    ask_made k q seen a one w = by_test (killed (length m.asked)) (p.live k) refl refl where
+    ask_made : (k : RegionEdge) (q : Query) (follows : List Certificate) (seen : ℕ) (l : MayAsk g (take n table) m k q follows seen)
+        (one : List PureMove) →
+        Makes g m.query.exit p table (levels_known last) claims killed (step.Ask k q follows seen) (length m.asked) one →
+        After (step.Ask k q follows seen) one
+    ask_made k q follows seen l one w = by_test (killed (length m.asked)) (p.live k) refl refl where
+      s : Step
+      s = step.Ask k q follows seen
+
+      c : rows.CallAt g m k
+      c = l.asks.call
+
       b : right.Between g p k
-      b = between g killed m p h a.call.between
+      b = between g killed m p h c.between
 
       from : k.from < length p.regions
       from = slice_get_within p.regions k.from b.source b.at_source
@@ -138,22 +154,23 @@ module _ (gs : List Graph) (linked : AreGraphs gs) (g : Graph) (table : List Sum
       to : k.to < length p.regions
       to = slice_get_within p.regions k.to b.target b.at_target
 
-      by_test : (t u : Bool) → killed (length m.asked) ≡ t → p.live k ≡ u → After (step.Ask k q seen) one
-      by_test false u is l =
-          none_made (step.Ask k q seen) one
-          (follows_idle g killed m (stepped g (take n table) (step.Ask k q seen) m) p (new_entry k q) refl refl
+      by_test : (t u : Bool) → killed (length m.asked) ≡ t → p.live k ≡ u → After s one
+      by_test false u is live =
+          none_made s one (follows_idle g killed m (stepped g (take n table) s m) p (new_entry k q) refl refl
           (λ e. absurd (clash (sym e ∙ is))) h) (w.0 is)
-      by_test true false is l =
-          none_made (step.Ask k q seen) one
-          (follows_idle g killed m (stepped g (take n table) (step.Ask k q seen) m) p (new_entry k q) refl refl
-          (λ e. record { dead = l; from = from; to = to }) h) ((w.1 is).0 l)
-      by_test true true is l =
-          let z = (w.1 is).1 l in
-          let claim : HasClaim claims q = record { number = z.0; there = z.1 } in
-          let c = own_kill g killed m p h claims k q a claim l in
-          one_made (step.Ask k q seen) (kill_call k z.0 []) one c.kills
-          (follows_asked g killed m (stepped g (take n table) (step.Ask k q seen) m) p (new_entry k q) refl refl from to a.call.between.edge
-          a.call.between.at_edge (called a.call) h) z.2
+      by_test true false is live =
+          none_made s one (follows_idle g killed m (stepped g (take n table) s m) p (new_entry k q) refl refl
+          (λ e. record { dead = live; from = from; to = to }) h) ((w.1 is).0 live)
+      by_test true true is live =
+          let z = (w.1 is).1 live in
+          let claim : HasClaim claims q = record { number = z.1; there = z.2 } in
+          let same : asked_query (asks g killed m p h l.asks) ≡ asked_query z.0 = asked_same g m.query.exit p k (asks g killed m p h l.asks)
+          z.0 in
+          one_made s (kill_call k z.1 (kept (rows_of_query (asked_query z.0)) (rows_of_query q) follows)) one
+          (subst (λ (x : Query). right.KillsCall g m.query.exit claims p k z.1 (kept (rows_of_query x) (rows_of_query q) follows)) same
+          (ask_kill g killed m p h claims k (take n table) q follows seen l claim live))
+          (follows_asked g killed m (stepped g (take n table) s m) p (new_entry k q) refl refl from to c.between.edge c.between.at_edge
+          (called c) h) z.3
 
     step_made : (s : Step) → IsLegal g (take n table) m s → (i : ℕ) → slice_get last.steps i ≡ Some s → (one : List PureMove) →
         Makes g m.query.exit p table (levels_known last) claims killed s (length m.asked) one → After s one
@@ -161,52 +178,29 @@ module _ (gs : List Graph) (linked : AreGraphs gs) (g : Graph) (table : List Sum
         none_made (step.Extend k trail point) one (follows_same g killed m (stepped g (take n table) (step.Extend k trail point) m) p refl
         refl
         h) e
-    step_made (step.Split k atoms proofs) l i at one e =
-        let w = l.1 in
-        one_made (step.Split k atoms proofs) (split k atoms) one (
-          inl (record {
-            live = plain_live g killed m p h k w.at (turn_live g m k l.0);
-            pre = record {
-              between = between g killed m p h w.at.between;
-              plain = w.at.plain;
-              rows = w.pre;
-              pair = w.is_pre.0;
-              is_pre = w.is_pre.1;
-            };
-            inner = w.inner;
-            several = w.several;
-            each = some_among atoms w.pre [] w.some;
-          }),
-          w.negatable,
-        ) (follows_split g killed m (stepped g (take n table) (step.Split k atoms proofs) m) p k atoms refl refl h) e
+    step_made (step.Split k atoms follows proofs) l i at one e =
+        subst (After (step.Split k atoms follows proofs)) (sym e)
+        (split_leads gs linked g claims killed m good own p h (stepped g (take n table) (step.Split k atoms follows proofs) m) k atoms
+        follows proofs l.0 l.1 refl refl)
     step_made (step.Kill k by) l i at one w = kill_made k by (turn_live g m k l.0) l.1 i at one w
     step_made (step.CallExtend k trail place point) l i at one e =
         none_made (step.CallExtend k trail place point) one
         (follows_same g killed m (stepped g (take n table) (step.CallExtend k trail place point) m) p refl refl h) e
-    step_made (step.CallSplit k place atoms proofs) l i at one e =
+    step_made (step.CallSplit k place atoms follows proofs) l i at one e =
         let w = l.1 in
         let live = turn_live g m k l.0 in
-        let b = between g killed m p h w.call.between in
-        let ends = apart_ends gs linked g m good k live w.call.between in
-        let loop : RegionEdge = record { edge = 0; from = k.from; to = k.from } in
-        one_made (step.CallSplit k place atoms proofs) (split loop atoms) one (
-          inr (record {
-            at_entry = refl;
-            same = refl;
-            inner = call_inner gs linked g m good k live w.call;
-            source = b.source;
-            at_source = b.at_source;
-            before_exit = ends.0;
-            before_fail = ends.1;
-            several = w.several;
-            names = call_own gs linked g m good own (take n table) (λ x y e2. holds x y (take_get n table x y e2)) k place atoms proofs live
-                w;
-            terms = call_terms gs linked g m good own (take n table) (λ x y e2. holds x y (take_get n table x y e2)) k place atoms proofs
-                live w;
-          }),
-          w.negatable,
-        ) (follows_split g killed m (stepped g (take n table) (step.CallSplit k place atoms proofs) m) p loop atoms refl refl h) e
-    step_made (step.Ask k q seen) l i at one w = ask_made k q seen l.1.asks one w
+        subst (After (step.CallSplit k place atoms follows proofs)) (sym e)
+        (call_leads gs linked g claims killed m good own p h (stepped g (take n table) (step.CallSplit k place atoms follows proofs) m) k
+        live w.call atoms
+        (call_names gs linked g m good own (take n table) (λ x y e2. holds x y (take_get n table x y e2)) k place atoms follows proofs live
+        w) w.parts.several w.parts.negatable refl refl)
+    step_made (step.CallPart k by atom atoms follows proofs) l i at one e =
+        let w = l.1 in
+        subst (After (step.CallPart k by atom atoms follows proofs)) (sym e)
+        (call_leads gs linked g claims killed m good own p h (stepped g (take n table) (step.CallPart k by atom atoms follows proofs) m) k
+        (turn_live g m k l.0) w.call atoms (record { names = w.own.names; terms = w.own.terms }) w.parts.several w.parts.negatable refl
+        refl)
+    step_made (step.Ask k q follows seen) l i at one w = ask_made k q follows seen l.1 one w
     step_made (step.Feed j) l i at one e =
         none_made (step.Feed j) one
         (follows_updated g killed m (stepped g (take n table) (step.Feed j) m) p (with_news news.Waiting) j (λ a. refl) refl refl h) e
@@ -227,67 +221,45 @@ module _ (gs : List Graph) (linked : AreGraphs gs) (g : Graph) (table : List Sum
 
     step_gives : (s : Step) → IsLegal g (take n table) m s → Gives g m.query.exit p s
     step_gives (step.Extend k trail point) l = tt
-    step_gives (step.Split k atoms proofs) l = (ends_of k l.1.at.between, l.1.negatable)
+    step_gives (step.Split k atoms follows proofs) l = (
+      ends_of k l.1.at.between,
+      l.1.parts.negatable,
+      few_follow g l.1.at.between.source.cube.atoms l.1.pre atoms follows l.1.parts.follow,
+    )
     step_gives (step.Kill k by) l = kill_gives k by l.1
     step_gives (step.CallExtend k trail place point) l = tt
-    step_gives (step.CallSplit k place atoms proofs) l = (ends_of k l.1.call.between, l.1.negatable)
-    step_gives (step.Ask k q seen) l = ends_of k l.1.asks.call.between
+    step_gives (step.CallSplit k place atoms follows proofs) l = (ends_of k l.1.call.between, l.1.parts.negatable)
+    step_gives (step.CallPart k by atom atoms follows proofs) l = (ends_of k l.1.call.between, l.1.parts.negatable)
+    step_gives (step.Ask k q follows seen) l = (ends_of k l.1.asks.call.between, asks g killed m p h l.1.asks)
     step_gives (step.Feed j) l = tt
     step_gives (step.Stuck k why seen) l = tt
 
--- Moves one after the other
-
-all_append : (g : Graph) (exit : ExitKind) (claims : List Query) (ms ns : List PureMove) (p : Parted) → AllMove g exit claims ms p →
-    AllMove g exit claims ns (moved_all ms p) → AllMove g exit claims (ms ++ ns) p
-all_append g exit claims [] ns p h k = k
-all_append g exit claims (m ∷ ms) ns p h k = (h.0, all_append g exit claims ms ns (moved m p) h.1 k)
-
-pub moved_append : (ms ns : List PureMove) (p : Parted) → moved_all (ms ++ ns) p ≡ moved_all ns (moved_all ms p)
-moved_append [] ns p = refl
-moved_append (m ∷ ms) ns p = moved_append ms ns (moved m p)
-
-move_longer : (g : Graph) (exit : ExitKind) (claims more : List Query) (m : PureMove) (p : Parted) → Moves g exit claims m p →
-    Moves g exit (claims ++ more) m p
-move_longer g exit claims more (split k atoms) p h = h
-move_longer g exit claims more (kill k c) p h = h
-move_longer g exit claims more (kill_call k n cs) p h = record {
-  live = h.live;
-  asks = h.asks;
-  claim = h.claim;
-  there = get_left claims n more h.claim h.there;
-  of_procedure = h.of_procedure;
-  of_exit = h.of_exit;
-  shown = h.shown;
-}
-
-pub all_longer : (g : Graph) (exit : ExitKind) (claims more : List Query) (ms : List PureMove) (p : Parted) → AllMove g exit claims ms p →
-    AllMove g exit (claims ++ more) ms p
-all_longer g exit claims more [] p h = h
-all_longer g exit claims more (m ∷ ms) p h =
-    (move_longer g exit claims more m p h.0, all_longer g exit claims more ms (moved m p) h.1)
+-- What a step leaves
 
 abbrev pub entries_after : Step → ℕ → ℕ
-entries_after (step.Ask k q seen) entry = entry + 1
+entries_after (step.Ask k q follows seen) entry = entry + 1
 entries_after _ entry = entry
 
 module _ (g : Graph) (t : List Summary) (m : Model) where
   steps_after : (s : Step) → (stepped g t s m).steps ≡ m.steps ++ s ∷ []
   steps_after (step.Extend k trail point) = refl
-  steps_after (step.Split k atoms proofs) = refl
+  steps_after (step.Split k atoms follows proofs) = refl
   steps_after (step.Kill k by) = refl
   steps_after (step.CallExtend k trail place point) = refl
-  steps_after (step.CallSplit k place atoms proofs) = refl
-  steps_after (step.Ask k q seen) = refl
+  steps_after (step.CallSplit k place atoms follows proofs) = refl
+  steps_after (step.CallPart k by atom atoms follows proofs) = refl
+  steps_after (step.Ask k q follows seen) = refl
   steps_after (step.Feed i) = refl
   steps_after (step.Stuck k why seen) = refl
 
   asked_after : (s : Step) → length (stepped g t s m).asked ≡ entries_after s (length m.asked)
   asked_after (step.Extend k trail point) = refl
-  asked_after (step.Split k atoms proofs) = refl
+  asked_after (step.Split k atoms follows proofs) = refl
   asked_after (step.Kill k by) = refl
   asked_after (step.CallExtend k trail place point) = refl
-  asked_after (step.CallSplit k place atoms proofs) = refl
-  asked_after (step.Ask k q seen) = length-append m.asked (record { edge = k; query = q; child = 0; news = news.Waiting } ∷ [])
+  asked_after (step.CallSplit k place atoms follows proofs) = refl
+  asked_after (step.CallPart k by atom atoms follows proofs) = refl
+  asked_after (step.Ask k q follows seen) = length-append m.asked (record { edge = k; query = q; child = 0; news = news.Waiting } ∷ [])
   asked_after (step.Feed i) = length_updated (with_news news.Waiting) m.asked i
   asked_after (step.Stuck k why seen) = refl
 

@@ -29,7 +29,7 @@ module _ (g : Graph) (table : List Summary) (claims : List Query) (killed : ℕ 
   IsNamed m (step.Kill k (killer.Child i)) = killed i ≡ true
   IsNamed m (step.Kill k (killer.Ancestor level proof)) =
       (s : Query) → slice_get (levels_known m) level ≡ Some s → HasClaim claims s
-  IsNamed m (step.Ask k q seen) = killed (length m.asked) ≡ true → HasClaim claims q
+  IsNamed m (step.Ask k q follows seen) = killed (length m.asked) ≡ true → HasClaim claims q
   IsNamed m _ = Unit {0}
 
   module _ (gs : List Graph) where

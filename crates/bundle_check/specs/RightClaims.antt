@@ -1,7 +1,6 @@
 -- Right claims: the moves of each show that no run is what its query asks for, where the claims
--- that
--- they name are right.
-use Rattle.std.specs.Prelude.{map, ◌≡◌, ◌≢◌, ◌⊎◌, ◌<◌, ℕ, nat_lt, Bool, false, not, ◌||◌, IsTrue, List, [], ◌∷◌, ◌++◌, Option, Some, slice_get}
+-- that they name are right.
+use Rattle.std.specs.Prelude.{map, ◌≡◌, ◌≢◌, ◌⊎◌, ◌<◌, ℕ, Bool, false, not, IsTrue, List, [], ◌∷◌, ◌++◌, Option, Some, slice_get}
 use Rattle.std.specs.List.{list_all, list_any, filter}
 use Rattle.linear_formula.specs.LinearSum.{LinearSum}
 use Rattle.linear_formula.specs.Equality.{same_atom}
@@ -15,7 +14,7 @@ use Rattle.shadow_elim.specs.Questions.{with_negation}
 use Rattle.flow_graph.specs.Calls.{CallSite, call_edge}
 use Rattle.flow_graph.specs.declared.graph.Graph.{Graph}
 use Rattle.flow_graph.specs.declared.graph.Edge.{Edge}
-use Rattle.flow_graph.specs.Columns.{is_entry_column, rows_name_only}
+use Rattle.flow_graph.specs.Columns.{rows_name_only}
 use Rattle.flow_graph.specs.Shapes.{is_call}
 use Rattle.weakest_pre.specs.Preimage.{preimage}
 use Rattle.summary_form.specs.declared.query.Query.{Query}
@@ -28,7 +27,7 @@ use Rattle.may_partition.specs.declared.region.RegionEdge.{RegionEdge}
 use Rattle.may_partition.specs.Parted.{Parted, begin_parted, can_negate, kill_edge, split_edge}
 use Rattle.call_bridge.specs.Asked.{asked, query_of}
 use Rattle.query_rules.specs.Paths.{HasNoPath}
-use Rattle.query_rules.specs.Rows.{call_exit, rows_of_query}
+use Rattle.query_rules.specs.Rows.{call_exit, is_own_column, rows_of_query}
 use Rattle.proof_bundle.specs.Claims.{PureClaim, PureMove, PureBundle, split, kill, kill_call}
 
 -- Edges
@@ -91,10 +90,6 @@ abbrev pub missing : (rows atoms : List Atom) → List Atom
 missing rows atoms = filter (λ a. not (is_among rows a)) atoms
 
 -- Moves
-
--- a slot or an entry value of the graph
-abbrev pub is_own_column : Graph → ℕ → Bool
-is_own_column g x = nat_lt x g.slots || is_entry_column g.params x
 
 -- by some atoms of the preimage over a live edge
 pub record SplitsByPreimage (g : Graph) (p : Parted) (k : RegionEdge) (atoms : List Atom) :

@@ -8,7 +8,7 @@ use flow_graph::columns::{FIRST_ENTRY, FIRST_EXIT};
 use linear_formula::formula::Atom;
 use linear_formula::term::Term;
 
-/// So many slots, entry values and exit values.
+/// How many slots, entry values and exit values a row may name.
 #[derive(Clone, Copy)]
 pub struct Allowed {
     pub slots: u32,

@@ -41,7 +41,7 @@ fn pairs(alloc: Global, edges: &[RegionEdge]) -> Result<Vec<(u32, u32)>, OutOfMe
     edges.iter().map(|edge| ends_of(edge)).collect(alloc)
 }
 
-/// So many edges, none of which is shut.
+/// The marks of `edges` edges, none of which is shut.
 fn none_shut(alloc: Global, edges: usize) -> Result<Vec<bool>, OutOfMemory>
     ensures { IfOk result (λ v. v.items ≡ replicate edges false) }
 {
@@ -67,7 +67,7 @@ fn is_joined(
     is_reached(alloc, regions, &pairs, &shut, from, to)
 }
 
-/// Adds the edges behind the others.
+/// Adds the edges after the others.
 fn push_all(edges: &mut Vec<RegionEdge>, more: RegionEdges<'_>) -> Result<(), OutOfMemory>
     ensures { OnOk result (edges.new.items ≡ edges.old.items ++ more.entry) }
 {

@@ -3,7 +3,8 @@
 ghost use Rattle.std.specs.Prelude.{◌≡◌, ◌⊎◌, IfOk};
 ghost use Rattle.std.specs.List.{list_all};
 ghost use Rattle.flow_graph.specs.Columns.{rows_name_only};
-ghost use Rattle.bundle_check.specs.RightClaims.{SplitsByPreimage, SplitsRegion, is_among, is_own_column};
+ghost use Rattle.query_rules.specs.Rows.{is_own_column};
+ghost use Rattle.bundle_check.specs.RightClaims.{SplitsByPreimage, SplitsRegion, is_among};
 ghost use Rattle.bundle_check.specs.steps.Checks.{Decides};
 
 use crate::answered::is_among;

@@ -4,7 +4,7 @@ use crate::answers::{Answer, read_and_print};
 use std::alloc::{AllocError, Global};
 use std::test::*;
 
-/// What a text has so many of.
+/// What of a text is counted.
 #[derive(Clone, Copy, Debug, PartialEq, Eq)]
 enum Kind {
     /// Bytes of the source.

@@ -20,7 +20,7 @@ const UNCALLED: &str = "int main(){return 0;} int f(){assert(0);return 0;}";
 /// `main` fails.
 const FAILING: &str = "int main(){assert(0);return 0;}";
 
-/// No run of `f` ends, so none of `main` comes to the assertion.
+/// No run of `f` ends, so none of `main` reaches the assertion.
 const ENDLESS: &str = "int f(){ return f(); } int main(){ f(); assert(0); return 0; }";
 
 fn any(alloc: Global) -> Cube {

@@ -20,16 +20,35 @@ const FAILS: &str = "int main(){ int x; x = input(); if (x > 0) { assert(x > 4);
 const CALLS: &str =
     "int f(int x){ return x + 1; } int main(){ int x; x = f(input()); if (x > 5) { x = f(x); assert(x > 5); } return 0; }";
 
-// Of one claim, with so many moves
+// Of one claim, with as many moves as the name says
 const TWO: &str = "1\nclaim 0 fail 0\ncube 0\ncube 0\nmoves 2\n";
 
 const THREE: &str = "1\nclaim 0 fail 0\ncube 0\ncube 0\nmoves 3\n";
+
+const FOUR: &str = "1\nclaim 0 fail 0\ncube 0\ncube 0\nmoves 4\n";
 
 /// Where the assertion fails `x <= 0`.
 const SPLIT: &str = "split 10 11 2\ncube 1\nrow 1 0 1 0\n";
 
 /// From `x <= 0` and `x > 0`.
 const KILL: &str = "kill 7 8 11\nclose 1\nderive 2 0 1 1 1 1\nrow 0 1\n";
+
+/// By `x <= 5` and `x <= 0`, which follow where the assertion fails. Region 14 is new, where
+/// `x > 5`, and region 15, where `x <= 5` and `x > 0`.
+const SPLIT_APART: &str = "split 0 11 11\ncube 2\nrow 1 0 1 -5\nrow 1 0 1 0\n";
+
+/// From region 14 it doesn't fail.
+const KILL_FIRST: &str = "kill 10 14 2\nclose 1\nderive 2 0 1 1 1 1\nrow 0 6\n";
+
+/// Nor from region 15.
+const KILL_SECOND: &str = "kill 10 15 2\nclose 1\nderive 2 1 1 2 1 1\nrow 0 1\n";
+
+/// Nor does it from either.
+const KILL_EACH: &str = "kill 10 14 2\nclose 1\nderive 2 0 1 1 1 1\nrow 0 6\n\
+    kill 10 15 2\nclose 1\nderive 2 1 1 2 1 1\nrow 0 1\n";
+
+/// From `x <= 5` and `x <= 0`, and `x > 0`.
+const KILL_INTO: &str = "kill 7 8 11\nclose 1\nderive 2 1 1 2 1 1\nrow 0 1\n";
 
 /// Where the assertion that fails at 1 does `x <= 4`.
 const SPLIT_AT_4: &str = "split 10 11 2\ncube 1\nrow 1 0 1 -4\n";
@@ -41,7 +60,7 @@ const MAIN: &str = "3\nclaim 1 fail 0\ncube 0\ncube 0\nmoves 7\n\
     split 13 14 2\ncube 1\nrow 1 0 1 -5\n\
     split 11 15 14\ncube 1\nrow 1 1 1 -5\n";
 
-/// The rest of it: `x <= 5` doesn't come to the call, and from `x > 5` it isn't back with at most
+/// The rest of it: `x <= 5` doesn't reach the call, and from `x > 5` it isn't back with at most
 /// 5, by claim 2.
 const CALL: &str = "split 0 12 12\ncube 1\nrow 1 0 1 -5\n\
     kill 8 8 12\nclose 1\nderive 2 0 1 1 1 1\nrow 0 1\n\
@@ -57,7 +76,7 @@ const CALLED: &str = "claim 0 fail 0\ncube 0\ncube 0\nmoves 0\n\
 /// The rest of that: from `x >= 5` and `x <= 4`.
 const ENTRY: &str = "kill 0 0 5\nclose 1\nderive 2 0 1 1 1 1\nrow 0 1\n";
 
-/// What is tried, a source, the pieces of the claims behind `claims `, and what is said of them.
+/// What is tried, a source, the pieces of the claims after `claims `, and what is said of them.
 type Text = (&'static str, &'static str, [&'static str; 4], Checked);
 
 const RIGHT: Checked = Checked::Right;
@@ -143,6 +162,35 @@ const TEXTS: &[Text] = &[
             "kill 10 14 2\nclose 1\nderive 2 0 1 1 1 1\nrow 0 1\n",
         ],
         RIGHT,
+    ),
+    (
+        "a split of a region, and a kill from each new piece",
+        HOLDS,
+        [FOUR, SPLIT_APART, KILL_EACH, KILL_INTO],
+        RIGHT,
+    ),
+    (
+        "no kill from the last new piece",
+        HOLDS,
+        [THREE, SPLIT_APART, KILL_FIRST, KILL_INTO],
+        FIRST,
+    ),
+    (
+        "no kill from the first new piece",
+        HOLDS,
+        [THREE, SPLIT_APART, KILL_SECOND, KILL_INTO],
+        FIRST,
+    ),
+    (
+        "a kill from the piece before the new ones",
+        HOLDS,
+        [
+            FOUR,
+            SPLIT_APART,
+            "kill 10 13 2\nclose 1\nderive 2 0 1 1 1 1\nrow 0 6\nkill 10 15 2\nclose 1\nderive 2 1 1 2 1 1\nrow 0 1\n",
+            KILL_INTO,
+        ],
+        FIRST,
     ),
     (
         "a split of a region by an exit value",

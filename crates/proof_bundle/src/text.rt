@@ -36,7 +36,7 @@ pub fn print_bundle(alloc: Global, bundle: &Bundle) -> Result<Vec<u8>, OutOfMemo
     Ok(text)
 }
 
-/// So many bytes.
+/// The first `size` bytes, and the rest.
 #[tactic(auto, unfolding(crate::specs::steps::Reading::bytes_at))]
 fn part_of(bytes: &[u8], size: u128) -> Result<(&[u8], &[u8]), BundleError>
     ensures { Gives (λ r. (r.0.now, r.1.now)) result (bytes_at size bytes.now) }

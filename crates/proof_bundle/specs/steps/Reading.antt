@@ -32,7 +32,7 @@ unfoldable pub tag_at : List ℕ → List ℕ → Option (List ℕ)
 tag_at tag bytes =
     if bytes_eq (take (length tag) bytes) tag then Some (drop (length tag) bytes) else None
 
--- so many bytes
+-- the first n bytes, and the rest
 unfoldable pub bytes_at : ℕ → List ℕ → Read (List ℕ)
 bytes_at n bytes = if nat_le n (length bytes) then Some (take n bytes, drop n bytes) else None
 
