@@ -16,7 +16,7 @@ pub record HasCause {T E : Type 0} (before now : ℕ) (result : Result T E) : Ty
   pub later : before ≤ now
   pub failed : OnErr result (Rose before now)
 
--- so many bytes were taken
+-- n bytes were taken
 abbrev pub Took : Option (List ℕ) → Option (List ℕ) → ℕ → Type 0
 Took old new n = (bytes : List ℕ) × Consumes old new bytes × (length bytes ≡ n)
 

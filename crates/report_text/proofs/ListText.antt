@@ -3,7 +3,7 @@ use Rattle.std.proofs.Common.{◌≡◌, List, [], ◌∷◌, Some, ℤ, refl, a
 use Rattle.std.specs.Fmt.{signed_decimal, debug_items, debug_list, ◌++?◌, comma_space}
 use Rattle.report_text.specs.Report.{more_text, values_text, list_text}
 
--- the values behind the first one
+-- the values after the first one
 more_shown : (zs : List ℤ) → debug_items (λ z. Some (signed_decimal z)) comma_space zs ≡ Some (more_text zs)
 more_shown [] = refl
 more_shown (z ∷ zs) = ap (λ o. Some comma_space ++? Some (signed_decimal z) ++? o) (more_shown zs)

@@ -1,4 +1,4 @@
--- What is told of bundles, of those that are made and of those that are checked.
+-- What is written of bundles, of those that are made and of those that are checked.
 use Rattle.std.specs.Prelude.{ℕ, List, [], ◌∷◌, ◌++◌, codes}
 use Rattle.std.specs.Fmt.{decimal}
 use Rattle.c_tree.specs.declared.tree.AssertPlace.{AssertPlace}

@@ -1,8 +1,8 @@
--- What is told of an edit beside the report of its new source.
+-- What is written of an edit beside the report of its new source.
 use Rattle.std.specs.Prelude.{ℕ, List, [], ◌∷◌, ◌++◌, codes}
 use Rattle.std.specs.Fmt.{decimal}
 
--- of so many summaries of the old source so many are kept
+-- of `all` summaries of the old source `kept` are kept
 abbrev pub kept_line : (kept all : ℕ) → List ℕ
 kept_line kept all =
     codes "kept " ++ (decimal kept ++ (codes " of " ++ (decimal all ++ 10 ∷ [])))

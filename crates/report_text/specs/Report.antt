@@ -14,7 +14,7 @@ kind_text Rows = codes "rows"
 kind_text Branches = codes "branches"
 kind_text Inexact = codes "inexact"
 
--- values, each behind the first one after a comma and a blank
+-- values, each but the first one after a comma and a blank
 abbrev pub more_text : List ℤ → List ℕ
 more_text [] = []
 more_text (z ∷ zs) = codes ", " ++ (signed_decimal z ++ more_text zs)

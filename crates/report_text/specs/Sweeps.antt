@@ -18,12 +18,12 @@ unfound_text Proved = codes "proved"
 unfound_text (Spent edges) = codes "unknown (sweep " ++ (decimal edges ++ codes " spent)")
 unfound_text (Limit kind) = codes "unknown (solver limit: " ++ (kind_text kind ++ codes ")")
 
--- what is told of an assertion: the inputs on which it fails, or what is told of all others
+-- what is written of an assertion: the inputs on which it fails, or what is written of all others
 abbrev pub entry_text : Unfound → Option (List ℤ) → List ℕ
 entry_text others None = unfound_text others
 entry_text others (Some list) = codes "found " ++ list_text list
 
--- the line of an assertion: the place of its name, and what is told of it
+-- the line of an assertion: the place of its name, and what is written of it
 abbrev pub entry_line : Unfound → AssertPlace → Option (List ℤ) → List ℕ
 entry_line others a o = place_text a ++ (codes ": " ++ (entry_text others o ++ 10 ∷ []))
 

@@ -1,4 +1,4 @@
--- What is told of words that are no command.
+-- What is written of words that are no command.
 use Rattle.std.specs.Prelude.{ℕ, List, [], ◌∷◌, ◌++◌, codes}
 
 abbrev pub usage_text : List ℕ

@@ -15,7 +15,7 @@ use std::alloc::Global;
 pub enum Unfound {
     /// Every path was counted.
     Proved,
-    /// So many edges were used up.
+    /// This number of edges is used up.
     Spent(u32),
     /// A limit of this kind was met.
     Limit(LimitKind),

@@ -1,31 +1,9 @@
 //! The checker `smash`: the words of the command line, standard input and standard output.
 #![tactic(auto)]
 
-mod analysis;
-mod bundles;
-mod bundling;
-mod claiming;
-mod edits;
-mod kept;
-mod killing;
-pub mod laws;
-mod leads;
-mod listing;
-mod making;
-mod moving;
-mod ranges;
-mod rechecks;
-mod replies;
-mod reply;
-mod run;
-mod statuses;
-mod sweeps;
-#[cfg(test)]
-mod tests;
-mod words;
-
-use crate::run::run;
+pub use bundle_make::bundle_of;
 use outer_io::{FromReader, NoGate, ToWriter};
+pub use smash_run::run::run;
 use std::alloc::AllocError;
 use std::io;
 use std::process::ExitCode;

@@ -1,0 +1,17 @@
+pub mod Appending
+pub mod Bounding
+pub mod Bundled
+pub mod Doing
+pub mod Each
+pub mod Filling
+pub mod Following
+pub mod Going
+pub mod Growing
+pub mod Keeping
+pub mod KilledBelow
+pub mod Killers
+pub mod Leading
+pub mod Listings
+pub mod Pushing
+pub mod Sizing
+pub mod Targets

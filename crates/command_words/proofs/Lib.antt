@@ -1,0 +1,11 @@
+pub mod WordsCommand
+pub mod WordsLeaf
+pub mod WordsLine
+pub mod WordsLists
+pub mod WordsMatches
+pub mod WordsNumbers
+pub mod WordsReading
+pub mod WordsRows
+pub mod WordsRuns
+pub mod WordsShapes
+pub mod WordsSteps

@@ -1,0 +1,2 @@
+pub mod WordsLine
+pub mod WordsView

@@ -1,0 +1,5 @@
+//! Tests of the commands of `smash`, and nothing else.
+#![tactic(auto)]
+
+#[cfg(test)]
+mod commands;

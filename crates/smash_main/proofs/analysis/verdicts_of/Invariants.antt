@@ -1,5 +1,0 @@
-use Rattle.smash_main.specs.steps.Judging.{AreVerdicts}
-use Rattle.smash_main.proofs.analysis.verdicts_of.Given as goal
-
-abbrev pub invariant-loop-root : goal.invariant-loop-root
-invariant-loop-root l = AreVerdicts l.board l.root l.verdicts.items

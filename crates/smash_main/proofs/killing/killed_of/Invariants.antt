@@ -1,5 +1,0 @@
-use Rattle.smash_main.proofs.KilledBelow.{AreKilledBelow}
-use Rattle.smash_main.proofs.killing.killed_of.Given as goal
-
-abbrev pub invariant-loop-step : goal.invariant-loop-step
-invariant-loop-step l = AreKilledBelow l.state l.killed.items l.step-index

@@ -1,5 +1,0 @@
-use Rattle.smash_main.proofs.Accepting.{bundles_are_accepted}
-use Rattle.smash_main.proofs.laws.bundles_are_accepted.Goals as goal
-
-pub returns : goal.returns
-returns c = bundles_are_accepted c.one_text.ensures c.one_lowering.ensures

@@ -1,0 +1,13 @@
+pub mod Accepting
+pub mod Bounded
+pub mod Completed
+pub mod Editing
+pub mod Graphs
+pub mod Judging
+pub mod Obeyed
+pub mod Placed
+pub mod Rechecking
+pub mod Refusing
+pub mod Replying
+pub mod Sweeping
+pub mod Telling

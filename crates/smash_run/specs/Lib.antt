@@ -1,0 +1,10 @@
+pub mod Analysis
+pub mod Answers
+pub mod Asked
+pub mod Bundled
+pub mod Edited
+pub mod Laws
+pub mod Run
+pub mod Swept
+pub mod Verdict
+pub mod steps
