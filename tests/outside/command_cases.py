@@ -30,9 +30,9 @@ FAKES = {
 }
 # What smash-prove prints of files, with its status.
 PROVED: dict[str, tuple] = {
-    "examples/count.c": (
+    "examples/jobs.c": (
         0,
-        "examples/count.c:11:3: proved (by z3, accepted)",
+        "examples/jobs.c:15:5: proved (by z3, accepted)",
         "summary: 0 proved, 1 by z3, 0 found, 0 unknown",
     ),
     "examples/wrong.c": (
@@ -82,7 +82,7 @@ def left_behind(folder: str) -> list[str]:
 def other_z3(setting: Setting, name: str, script: str) -> list[str]:
     """Another z3 gets no bundle and leaves nothing; the package is named."""
     with tempfile.TemporaryDirectory() as folder:
-        done = setting.bridge(TOP / "examples/count.c", 1, 0.5, fake(folder, script))
+        done = setting.bridge(TOP / "examples/jobs.c", 1, 0.5, fake(folder, script))
         errors = done.stderr.decode("utf-8", "replace")
         faults = [f"left behind: {words}" for words in left_behind(folder)]
     if done.returncode != 2 or done.stdout:
@@ -95,7 +95,7 @@ def other_z3(setting: Setting, name: str, script: str) -> list[str]:
 def says_unsat(setting: Setting) -> list[str]:
     """A z3 that always says `unsat` makes the status 1, and no bundle."""
     with tempfile.TemporaryDirectory() as folder:
-        done = setting.bridge(TOP / "examples/count.c", 1, 2.0, fake(folder, "echo unsat"))
+        done = setting.bridge(TOP / "examples/jobs.c", 1, 2.0, fake(folder, "echo unsat"))
     return [] if (done.returncode, done.stdout) == (1, b"") else [f"status {done.returncode}"]
 
 
@@ -104,7 +104,7 @@ def no_z3(setting: Setting) -> list[str]:
     with tempfile.TemporaryDirectory() as folder:
         words = [sys.executable, "-m", "outside", "1", "--graphs", setting.graphs or ""]
         done = subprocess.run(
-            [*words, str(TOP / "examples/count.c")],
+            [*words, str(TOP / "examples/jobs.c")],
             capture_output=True,
             env={"PATH": folder, "PYTHONPATH": str(TOP)},
         )
@@ -138,13 +138,13 @@ def prove(setting: Setting, words: list[str], status: int, owed: str) -> list[st
 def other_place(setting: Setting) -> list[str]:
     """What `recheck` says of another place counts nothing, and neither does its status alone."""
     faults = []
-    for answer, status in (("accepted 11:4", 0), ("accepted 11:3", 2), ("", 0), ("accepted 11:3 ", 0)):
+    for answer, status in (("accepted 17:6", 0), ("accepted 15:5", 2), ("", 0), ("accepted 15:5 ", 0)):
         with tempfile.TemporaryDirectory() as folder:
             program = Path(folder) / "program"
             recheck = f'if [ "$1" = recheck ]; then cat > /dev/null; echo "{answer}"; exit {status}; fi'
             program.write_text(f'#!/bin/sh\n{recheck}\nexec {setting.program} "$@"\n')
             program.chmod(0o755)
-            words = [*prove_words(setting), "--program", str(program), "examples/count.c"]
+            words = [*prove_words(setting), "--program", str(program), "examples/jobs.c"]
             done = subprocess.run(words, capture_output=True, text=True, cwd=TOP)
         if done.returncode != 2 or "accepted)" in done.stdout:
             faults.append(f"{answer!r}: {done.stdout}")
@@ -158,11 +158,11 @@ def no_report(setting: Setting) -> list[str]:
     for text, status in (
         ("", 0),
         ("", 1),
-        ("11:3: proved", 0),
+        ("15:5: proved", 0),
         (summary, 0),
-        (f"11:3: proved\n{summary}", 1),
-        (f"11:3: proven\n{summary}", 0),
-        (f"11:3: proved\n11:4: proved\n{summary}", 0),
+        (f"15:5: proved\n{summary}", 1),
+        (f"15:5: proven\n{summary}", 0),
+        (f"15:5: proved\n17:6: proved\n{summary}", 0),
         ("", 3),
         ("", 7),
     ):
@@ -170,7 +170,7 @@ def no_report(setting: Setting) -> list[str]:
             program = Path(folder) / "program"
             program.write_text(f"#!/bin/sh\nprintf '%s\\n' '{text}'; exit {status}\n")
             program.chmod(0o755)
-            words = [*prove_words(setting), "--program", str(program), "examples/count.c"]
+            words = [*prove_words(setting), "--program", str(program), "examples/jobs.c"]
             done = subprocess.run(words, capture_output=True, text=True, cwd=TOP)
         if done.returncode != 3 or ": proved" in done.stdout:
             faults.append(f"{text!r} with {status}: status {done.returncode}, {done.stdout}")
@@ -182,7 +182,7 @@ def stopped(setting: Setting, kind: signal.Signals) -> list[str]:
     with tempfile.TemporaryDirectory() as folder:
         there = fake(folder, f"sleep 1000 & exec sh -c 'sleep 1000 # {folder}'")
         env = {**os.environ, "PATH": f"{there}:{os.environ['PATH']}"}
-        words = [*prove_words(setting), "--seconds", "60", "examples/count.c"]
+        words = [*prove_words(setting), "--seconds", "60", "examples/jobs.c"]
         child = subprocess.Popen(words, cwd=TOP, env=env, stdout=subprocess.PIPE, stderr=subprocess.DEVNULL)
         deadline = time.monotonic() + 60
         while not (begun := processes(folder, ("cmdline",))) and time.monotonic() < deadline:
@@ -200,7 +200,7 @@ def stubborn(setting: Setting) -> list[str]:
         program = Path(folder) / "program"
         program.write_text("#!/bin/sh\ntrap '' TERM INT HUP\nwhile :; do sleep 1; done\n")
         program.chmod(0o755)
-        words = [*prove_words(setting), "--program", str(program), "examples/count.c"]
+        words = [*prove_words(setting), "--program", str(program), "examples/jobs.c"]
         child = subprocess.Popen(words, cwd=TOP, stdout=subprocess.PIPE, stderr=subprocess.DEVNULL)
         running = f"/bin/sh\0{program}"
         while not processes(running, ("cmdline",)) and child.poll() is None:
@@ -217,17 +217,17 @@ def cases(setting: Setting) -> Iterator[Case]:
     yield Case("z3 unsat", says_unsat, needs_z3=False)
     yield Case("z3 missing", no_z3, needs_z3=False)
     program = ["--graphs", setting.graphs or ""]
-    count = str(TOP / "examples/count.c")
+    jobs = str(TOP / "examples/jobs.c")
     for words, status, text in (
         ([], 4, "usage"),
-        (["x", count], 4, "usage"),
-        (["1", "--seconds", "0", count], 4, "usage"),
-        (["2", *program, count], 3, "refused: no such assertion"),
-        (["0", *program, count], 3, "refused: no such assertion"),
+        (["x", jobs], 4, "usage"),
+        (["1", "--seconds", "0", jobs], 4, "usage"),
+        (["2", *program, jobs], 3, "refused: no such assertion"),
+        (["0", *program, jobs], 3, "refused: no such assertion"),
         (["1", *program, "/nonexistent.c"], 3, "can't be read"),
         (["1", *program, str(TOP / "README.md")], 3, "refused 1:1: bad byte"),
-        (["1", "--graphs", "/nonexistent", count], 2, "doesn't run"),
-        (["1", "--graphs", "/bin/cat", count], 2, "prints no graphs"),
+        (["1", "--graphs", "/nonexistent", jobs], 2, "doesn't run"),
+        (["1", "--graphs", "/bin/cat", jobs], 2, "prints no graphs"),
     ):
         yield Case(f"words {words}", bridge_words, (words, status, text), needs_z3=False)
     for name, (status, *lines) in PROVED.items():
