@@ -1,6 +1,7 @@
 //! What choosers remember. Nothing rests on it.
 
 use crate::effects::Paths;
+use crate::entry_points::Entries;
 use crate::memo::{mixed, mixed_rows};
 use lia_solver::solve::solve;
 use lia_solver::solved::Solved;
@@ -37,6 +38,7 @@ pub struct Chooser {
     /// What was tried, and what it came to.
     tried: Vec<(u64, u64)>,
     pub paths: Vec<Paths>,
+    pub entries: Entries,
 }
 
 /// What a question of a chooser comes to.
@@ -64,6 +66,7 @@ impl Chooser {
             ledgers: Vec::new(alloc),
             tried,
             paths: Vec::new(alloc),
+            entries: Entries::new(alloc),
         })
     }
 
