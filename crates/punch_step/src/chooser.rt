@@ -8,13 +8,13 @@ use lia_solver::solved::Solved;
 use linear_formula::error::OutOfMemory;
 use linear_formula::formula::{Atom, Cube};
 use std::alloc::Global;
-use summary_form::query::Query;
+use summary_form::query::{ExitKind, Query};
 
 /// How many slots there are for what was tried before.
 const TRIED: u64 = 1 << 13;
 
-/// How many queries are remembered.
-const LEDGERS: usize = 32;
+/// How many ledgers there are.
+const LEDGERS: usize = 64;
 
 /// How many cubes of a query are remembered to have no path into them.
 const CLOSED: usize = 512;
@@ -49,10 +49,18 @@ pub enum Told {
     Nothing,
 }
 
+/// A hash of where the query's runs begin.
+pub fn start_key(query: &Query) -> u64 {
+    mixed(mixed_rows(1, &query.start), u64::from(query.proc))
+}
+
 /// A hash of the query.
 pub fn key_of(query: &Query) -> u64 {
-    let key = mixed(mixed_rows(1, &query.start), u64::from(query.proc));
-    mixed_rows(key, &query.end)
+    let exit = match query.exit {
+        ExitKind::Return => 0,
+        ExitKind::Fail(number) => u64::from(number).saturating_add(1),
+    };
+    mixed(mixed_rows(start_key(query), &query.end), exit)
 }
 
 impl Chooser {

@@ -4,7 +4,7 @@ ghost use Rattle.must_region.specs.Traces.{trace_of};
 ghost use Rattle.punch_step.specs.Sights.{ReadsStart};
 
 use crate::choice::Choice;
-use crate::chooser::{Chooser, key_of};
+use crate::chooser::{Chooser, key_of, start_key};
 use crate::closing::closes;
 use crate::cycles::is_turning;
 use crate::guess::{is_missed, is_of_range};
@@ -27,11 +27,14 @@ const ALL: u32 = 30_000;
 /// A choice that came to nothing is made again when there are so many more regions.
 const MORE: u64 = 8;
 
-/// The query's key, and the number of its ledger.
+/// The query's key, and the numbers of ledgers.
 #[derive(Clone, Copy)]
 struct Account {
     key: u64,
+    /// Of the query itself: what its choices spent.
     ledger: usize,
+    /// Of all queries whose runs begin as its own do: into what no path leads.
+    closed: usize,
 }
 
 fn single(alloc: Global, atom: &Atom) -> Result<Cube, OutOfMemory> {
@@ -89,8 +92,8 @@ fn is_closing(
     if !parts(alloc, memos, choice, atoms)? {
         return Ok(false);
     }
-    let Account { key, ledger } = account;
-    closes(alloc, &mut memos.chooser, choice, key, ledger, atoms)
+    let Account { key, closed, .. } = account;
+    closes(alloc, &mut memos.chooser, choice, key, closed, atoms)
 }
 
 /// The atoms of the preimage that the source doesn't entail.
@@ -259,12 +262,20 @@ pub fn induced_atoms(
     }
     let key = key_of(choice.state.query());
     let ledger = memos.chooser.ledger(alloc, key)?;
+    let closed = memos
+        .chooser
+        .ledger(alloc, start_key(choice.state.query()))?;
     let tried = tried_key(choice, key, pre);
     let regions = choice.state.partition().regions().len() as u64 / MORE;
     if memos.chooser.spent(ledger) >= ALL || memos.chooser.recall(tried) == Some(regions) {
         return Ok(None);
     }
-    let found = bounded(alloc, memos, choice, Account { key, ledger }, pre)?;
+    let account = Account {
+        key,
+        ledger,
+        closed,
+    };
+    let found = bounded(alloc, memos, choice, account, pre)?;
     if found.is_none() {
         memos.chooser.note(tried, regions);
     }
