@@ -5,6 +5,7 @@ use crate::entry_points::Entries;
 use crate::memo::{mixed, mixed_rows};
 use lia_solver::solve::solve;
 use lia_solver::solved::Solved;
+use linear_formula::assignment::Assignment;
 use linear_formula::error::OutOfMemory;
 use linear_formula::formula::{Atom, Cube};
 use std::alloc::Global;
@@ -18,6 +19,9 @@ const LEDGERS: usize = 64;
 
 /// How many cubes of a query are remembered to have no path into them.
 const CLOSED: usize = 512;
+
+/// How many points are remembered.
+const POINTS: usize = 16;
 
 /// What is remembered for one query.
 #[derive(Drop)]
@@ -39,6 +43,9 @@ pub struct Chooser {
     tried: Vec<(u64, u64)>,
     pub paths: Vec<Paths>,
     pub entries: Entries,
+    /// Points that were found last, and the place that the next one takes.
+    points: Vec<Assignment>,
+    next: usize,
 }
 
 /// What a question of a chooser comes to.
@@ -75,6 +82,8 @@ impl Chooser {
             tried,
             paths: Vec::new(alloc),
             entries: Entries::new(alloc),
+            points: Vec::new(alloc),
+            next: 0,
         })
     }
 
@@ -135,11 +144,33 @@ impl Chooser {
         Ok(())
     }
 
+    /// Whether a point that is remembered meets the rows.
+    fn is_met(&self, rows: &Cube) -> bool {
+        self.points.iter().any(|point| rows.holds(point))
+    }
+
+    /// Remembers the point in the place of the one that was found longest ago.
+    fn keep(&mut self, point: Assignment) -> Result<(), OutOfMemory> {
+        match self.points.get_mut(self.next) {
+            Some(place) => *place = point,
+            None => self.points.push(point)?,
+        }
+        let next = self.next.saturating_add(1);
+        self.next = if next < POINTS { next } else { 0 };
+        Ok(())
+    }
+
     /// Whether some point meets the rows. It counts as a question.
     pub fn ask(&mut self, alloc: Global, rows: &Cube) -> Result<Told, OutOfMemory> {
         self.left = self.left.saturating_sub(1);
+        if self.is_met(rows) {
+            return Ok(Told::Met);
+        }
         match solve(alloc, rows)? {
-            Solved::Point(_) => Ok(Told::Met),
+            Solved::Point(point) => {
+                self.keep(point)?;
+                Ok(Told::Met)
+            }
             Solved::Never(_) => Ok(Told::Never),
             Solved::Limit(_) => Ok(Told::Nothing),
         }
